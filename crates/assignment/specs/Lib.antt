@@ -1,0 +1,2 @@
+pub mod Pairings
+pub mod Prices

@@ -1,0 +1,1 @@
+// What a least pairing is, and the prices that show it, for definitions and proofs: see specs/ and proofs/.

@@ -1,0 +1,7 @@
+pub mod Orders
+pub mod Sums
+pub mod Ranges
+pub mod Shapes
+pub mod Tests
+pub mod Bits
+mod Examples

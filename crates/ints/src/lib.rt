@@ -1,0 +1,1 @@
+// Laws of the signed integers, for proofs: see specs/ and proofs/.
