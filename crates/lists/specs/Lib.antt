@@ -1,3 +1,4 @@
 pub mod Runs
 pub mod Sums
 pub mod Permutations
+pub mod Parts

@@ -1,0 +1,113 @@
+-- Parts of one lent list: a store at offset + k is a store at k of that part and leaves every other part as it was; parts put together are the
+-- list; and what a part that was lent leaves when it comes back. Assumes nothing.
+use mathlib.Core.Path.{_≡_, refl, sym, ap, ap₂, _∙_}
+use mathlib.Core.List.{List, [], _∷_, _++_}
+use Prim.Native.Nat.{ℕ, zero, suc, _+_, _-_, _≤_, _<_}
+use native.Mathlib.Nat.{zero-add, suc-add}
+use native.Mathlib.Omega.{arith}
+use lib.ListN.{length, getD, set, take, drop, length-append, length-drop, length-set, take-append-drop, List·getD-append}
+use lib.Seq.{length-take-le, take-nil, take-at, drop-at, getD-append-add, set-append-left, take-set-le, take-set-lt, drop-set-lt, drop-set-add, getD-take, getD-drop, take-take, take-add, drop-drop, slice}
+use Rattle.lists.specs.Parts.{part, replaced}
+
+module _ {A : Type 0} where
+  pub part-length : (a m : ℕ) (l : List A) → a + m ≤ length l → length (part a m l) ≡ m
+  part-length a m l h = length-take-le m (drop a l) (omega (arith, length-drop a l))
+
+  pub part-at : (a m : ℕ) (l : List A) (i : ℕ) (d : A) → i < m → getD (part a m l) i d ≡ getD l (a + i) d
+  part-at a m l i d h = getD-take m (drop a l) i d h ∙ getD-drop a l i d
+
+  -- A part, as the toolchain's `slice` has it.
+  pub part-slice : (a m : ℕ) (l : List A) → part a m l ≡ slice a (a + m) l
+  part-slice zero m l = rw zero-add
+  part-slice (suc a) m [] = rw suc-add (take-nil m)
+  part-slice (suc a) m (x ∷ l) = rw suc-add (part-slice a m l)
+
+  -- ---- a store
+
+  set-append-add : (s t : List A) (i : ℕ) (x : A) → set (s ++ t) (length s + i) x ≡ s ++ set t i x
+  set-append-add [] t i x = rw zero-add
+  set-append-add (y ∷ s) t i x = rw suc-add (ap (λ (r : List A). y ∷ r) (set-append-add s t i x))
+
+  pub part-set : (a m : ℕ) (l : List A) (i : ℕ) (x : A) → i < m → part a m (set l (a + i) x) ≡ set (part a m l) i x
+  part-set a m l i x h = ap (take m) (drop-set-add a l i x) ∙ take-set-lt m (drop a l) i x h
+
+  pub part-set-before : (a m : ℕ) (l : List A) (i : ℕ) (x : A) → i < a → part a m (set l i x) ≡ part a m l
+  part-set-before a m l i x h = ap (take m) (drop-set-lt a l i x h)
+
+  pub part-set-after : (a m : ℕ) (l : List A) (i : ℕ) (x : A) → a + m ≤ i → part a m (set l i x) ≡ part a m l
+  part-set-after a m l i x h =
+      let e : i ≡ a + (i - a) = omega arith in
+      ap (λ (k : ℕ). take m (drop a (set l k x))) e ∙ ap (take m) (drop-set-add a l (i - a) x) ∙ take-set-le m (drop a l) (i - a) x (omega arith)
+
+  -- ---- parts put together
+
+  pub part-part : (a m k : ℕ) (l : List A) → part a m l ++ part (a + m) k l ≡ part a (m + k) l
+  part-part a m k l = sym (take-add m k (drop a l) ∙ ap (λ (t : List A). part a m l ++ take k t) (drop-drop m a l))
+
+  pub part-drop : (a m : ℕ) (l : List A) → part a m l ++ drop (a + m) l ≡ drop a l
+  part-drop a m l = ap (λ (t : List A). part a m l ++ t) (sym (drop-drop m a l)) ∙ take-append-drop m (drop a l)
+
+  -- ---- a part written over
+
+  module _ (a : ℕ) (p l : List A) (fits : a + length p ≤ length l) where
+    front : length (take a l) ≡ a
+    front = length-take-le a l (omega arith)
+
+    pub replaced-length : length (replaced a p l) ≡ length l
+    replaced-length =
+        omega (arith, length-append (take a l) (p ++ drop (a + length p) l), length-append p (drop (a + length p) l), length-drop (a + length p) l, front)
+
+    pub replaced-part : part a (length p) (replaced a p l) ≡ p
+    replaced-part =
+        ap (take (length p)) (drop-at (take a l) (p ++ drop (a + length p) l) a front) ∙ take-at p (drop (a + length p) l) (length p) refl
+
+    pub replaced-at : (i : ℕ) (d : A) → i < length p → getD (replaced a p l) (a + i) d ≡ getD p i d
+    replaced-at i d h =
+        ap (λ (k : ℕ). getD (replaced a p l) (k + i) d) (sym front) ∙ getD-append-add (take a l) (p ++ drop (a + length p) l) i d
+        ∙ List·getD-append p (drop (a + length p) l) d i h
+
+    pub replaced-before : take a (replaced a p l) ≡ take a l
+    replaced-before = take-at (take a l) (p ++ drop (a + length p) l) a front
+
+    pub replaced-after : drop (a + length p) (replaced a p l) ≡ drop (a + length p) l
+    replaced-after =
+        sym (drop-drop (length p) a (replaced a p l))
+        ∙ ap (drop (length p)) (drop-at (take a l) (p ++ drop (a + length p) l) a front)
+        ∙ drop-at p (drop (a + length p) l) (length p) refl
+
+    -- Every other part is as it was.
+    pub replaced-part-before : (b m : ℕ) → b + m ≤ a → part b m (replaced a p l) ≡ part b m l
+    replaced-part-before b m h =
+        part-slice b m (replaced a p l)
+        ∙ ap (drop b) (sym (take-take (b + m) a (replaced a p l) h) ∙ ap (take (b + m)) replaced-before ∙ take-take (b + m) a l h)
+        ∙ sym (part-slice b m l)
+
+    pub replaced-part-after : (b m : ℕ) → a + length p ≤ b → part b m (replaced a p l) ≡ part b m l
+    replaced-part-after b m h =
+        let e : b ≡ a + length p + (b - (a + length p)) = omega arith in
+        ap (take m)
+        (ap (λ (k : ℕ). drop k (replaced a p l)) e ∙ sym (drop-drop (b - (a + length p)) (a + length p) (replaced a p l))
+        ∙ ap (drop (b - (a + length p))) replaced-after ∙ drop-drop (b - (a + length p)) (a + length p) l ∙ ap (λ (k : ℕ). drop k l) (sym e))
+
+    -- A store at offset + i is a store at i of what was written.
+    pub replaced-set : (i : ℕ) (x : A) → i < length p → set (replaced a p l) (a + i) x ≡ replaced a (set p i x) l
+    replaced-set i x h =
+        ap (λ (k : ℕ). set (replaced a p l) (k + i) x) (sym front) ∙ set-append-add (take a l) (p ++ drop (a + length p) l) i x
+        ∙ ap (λ (t : List A). take a l ++ t) (set-append-left p (drop (a + length p) l) i x h)
+        ∙ ap (λ (k : ℕ). take a l ++ (set p i x ++ drop (a + k) l)) (sym (length-set p i x))
+
+  pub replaced-self : (a m : ℕ) (l : List A) → a + m ≤ length l → replaced a (part a m l) l ≡ l
+  replaced-self a m l h =
+      ap (λ (k : ℕ). take a l ++ (part a m l ++ drop (a + k) l)) (part-length a m l h) ∙ ap (λ (t : List A). take a l ++ t) (part-drop a m l)
+      ∙ take-append-drop a l
+
+  pub replaced-replaced : (a : ℕ) (p q l : List A) → length p ≡ length q → a + length p ≤ length l → replaced a q (replaced a p l) ≡ replaced a q l
+  replaced-replaced a p q l e h =
+      ap₂ (λ (s t : List A). s ++ (q ++ t)) (replaced-before a p l h)
+      (ap (λ (k : ℕ). drop (a + k) (replaced a p l)) (sym e) ∙ replaced-after a p l h ∙ ap (λ (k : ℕ). drop (a + k) l) e)
+
+  -- ---- what code leaves of a part [a, e) that was lent and came back as p
+
+  pub lent-back : (a e : ℕ) (p l : List A) → length p ≡ e - a → take a l ++ (p ++ drop (e - a) (drop a l)) ≡ replaced a p l
+  lent-back a e p l s =
+      ap (λ (t : List A). take a l ++ (p ++ t)) (drop-drop (e - a) a l ∙ ap (λ (k : ℕ). drop (a + k) l) (sym s))
