@@ -14,7 +14,7 @@ cat <<'HEAD'
 -- Orders and equations of integers with a sum or a difference on a side, read as facts of natural numbers and made from them.
 -- Written by shapes.sh. Assumes nothing.
 use mathlib.Core.Path.{_≡_}
-use Prim.Native.Nat.{ℕ, _+_, _-_, _^_, _≤_, _<_}
+use Prim.Native.Nat.{_+_, _-_, _^_, _≤_, _<_}
 use lib.IntN.{ℤ, _+ℤ_, _-ℤ_}
 use lib.Signed.{_≤ℤ_, _<ℤ_}
 use mir.Syntax.{Width}

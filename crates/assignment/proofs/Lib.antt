@@ -1,0 +1,5 @@
+pub mod Pairings
+pub mod Columns
+pub mod Duality
+pub mod Square
+pub mod Longer

@@ -1,6 +1,6 @@
 -- A signed local of the code holds bits, so the code reads z as `toZ w (ofZ w z)`. What that is, for omega and for rw. Assumes nothing.
 use mathlib.Core.Path.{_≡_, sym, ap, _∙_}
-use Prim.Native.Nat.{ℕ, _+_, _≤_, _<_, _^_}
+use Prim.Native.Nat.{_+_, _≤_, _<_, _^_}
 use lib.IntN.{ℤ}
 use lib.Signed.{mag}
 use mir.Syntax.{Width, w32, w64}

@@ -8,7 +8,7 @@ use lib.Signed.{_≤ℤ_, _<ℤ_, ltZ, leZ}
 use mir.Syntax.{w32, w64}
 use mir.Val.{SFits, toZ, ofZ}
 use Rattle.ints.specs.Parts.{Within}
-use Rattle.ints.proofs.Sums.{sum, dif, up-neg, down-neg, exact, at, _⊟_, _⊞_}
+use Rattle.ints.proofs.Sums.{sum, dif, up-neg, down-neg, exact, at, _⊟_}
 use Rattle.ints.proofs.Ranges.{zarith}
 use Rattle.ints.proofs.Shapes.{zlin}
 use Rattle.ints.proofs.Tests.{le-or-lt}

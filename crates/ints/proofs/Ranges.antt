@@ -1,5 +1,4 @@
 -- What fits a machine's signed number, and what lies within a bound; and `zarith`, by which omega reads integers. Assumes nothing.
-use mathlib.Core.Path.{_≡_}
 use mathlib.Core.Logic.{_↔_}
 use Prim.Native.Nat.{ℕ, _+_, _-_, _≤_, _<_, _^_}
 use native.Mathlib.Omega.{arith}

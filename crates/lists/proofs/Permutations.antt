@@ -1,10 +1,10 @@
 -- Permutations as lists: an exchange of two places keeps one, and one has an inverse. Two lists that name each other are injective; each is then
 -- the way back of the other. Assumes nothing.
-use mathlib.Core.Path.{_≡_, refl, sym, ap, _∙_, subst}
+use mathlib.Core.Path.{_≡_, sym, ap, _∙_}
 use mathlib.Core.Bool.{cond}
 use mathlib.Core.Logic.{_≢_, _⊎_, inl, inr, ⊎-elim}
 use mathlib.Core.List.{List}
-use Prim.Native.Nat.{ℕ, zero, suc, _+_, _≤_, _<_}
+use Prim.Native.Nat.{ℕ, _<_}
 use native.Mathlib.Decide.{ℕ-discrete}
 use native.Mathlib.Omega.{arith}
 use lib.Dec.{eqb}
@@ -13,12 +13,12 @@ use lib.ListN.{length, set, length-set}
 use lib.Seq.{getD-set-same, getD-set-other, lt-length-set}
 use Rattle.lists.specs.Permutations.{at, Injective, Permutation, exchange, table}
 use Rattle.lists.proofs.Injections.{injective-compose, injective-cong, source, source-of, reached}
-use Rattle.lists.proofs.Tables.{length-table, getD-table}
+use Rattle.lists.proofs.Tables.{getD-table}
 
 -- ---- an exchange of two places
 
 pub length-exchange : (l : List ℕ) (a b : ℕ) → length (exchange l a b) ≡ length l
-length-exchange l a b = length-set (set l a (at l b)) b (at l a) ∙ length-set l a (at l b)
+length-exchange l a b = simp length-set
 
 module _ (l : List ℕ) (a b : ℕ) where
   pub exchange-second : b < length l → at (exchange l a b) b ≡ at l a
