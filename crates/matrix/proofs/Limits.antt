@@ -1,0 +1,14 @@
+-- How large the limits are: all that proofs need of their values. Assumes nothing.
+use Prim.Native.Nat.{ℕ, _*_, _^_, _≤_, _<_}
+use native.Mathlib.Omega.{arith}
+use Rattle.matrix.specs.Limits.{side, K}
+
+-- A side fits two bytes, so that side * side fits, and a sum of as many 32-bit numbers too.
+pub side-small : side < 2 ^ 16
+unfolding side
+side-small = omega arith
+
+-- K fits a 32-bit signed number, so that sums of some 10K fit 64 bits.
+pub K-small : K < 2 ^ 31
+unfolding K
+K-small = omega arith
