@@ -1,5 +1,5 @@
 -- How large the limits are: all that proofs need of their values. Assumes nothing.
-use Prim.Native.Nat.{ℕ, _*_, _^_, _≤_, _<_}
+use Prim.Native.Nat.{_^_, _<_}
 use native.Mathlib.Omega.{arith}
 use Rattle.matrix.specs.Limits.{side, K}
 

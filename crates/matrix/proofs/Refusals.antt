@@ -1,31 +1,28 @@
 -- A chain of tests: what it answers where a test holds, and where it does not. Assumes nothing.
-use mathlib.Core.Path.{_≡_, sym, ap, _∙_, subst}
+use mathlib.Core.Path.{_≡_, ap, _∙_, subst}
 use mathlib.Core.Bool.{Bool, true, false}
 use Prim.Native.Nat.{ℕ, _≤_, _<_}
 use borrow.Author.Tests.{lt-ltb, le-ltb}
 use Rattle.lists.specs.Runs.{first}
 use Rattle.matrix.specs.Refusals.{refuseIf, refuseAt}
-use Rattle.matrix.specs.declared.Refusal.{Refusal}
-use Rattle.matrix.specs.declared.Answer.{Answer}
-use Rattle.matrix.specs.declared.Answer.the-variants.{Refused}
 
--- The test holds: its refusal is the answer.
-pub refused : (test : Bool) (refusal : Refusal) (rest : Answer) → test ≡ true → Refused refusal ≡ refuseIf test refusal rest
-unfolding refuseIf
-refused test refusal rest e = rw e
+module _ {A : Type 0} where
+  -- The test holds: its refusal is the answer.
+  pub refused : (test : Bool) (refusal rest : A) → test ≡ true → refusal ≡ refuseIf test refusal rest
+  unfolding refuseIf
+  refused test refusal rest e = rw e
 
--- It does not: the answer is the rest's.
-pub passed : (test : Bool) (refusal : Refusal) (rest : Answer) {answer : Answer} → test ≡ false → answer ≡ rest → answer ≡ refuseIf test refusal rest
-unfolding refuseIf
-passed test refusal rest e f = rw e f
+  -- It does not: the answer is the rest's.
+  pub passed : (test : Bool) (refusal rest : A) {answer : A} → test ≡ false → answer ≡ rest → answer ≡ refuseIf test refusal rest
+  unfolding refuseIf
+  passed test refusal rest e f = rw e f
 
--- The same of a search that answers k.
-module _ (n : ℕ) (test : ℕ → Bool) (refusal : ℕ → Refusal) (rest : Answer) {k : ℕ} (e : k ≡ first n test) where
-  pub refused-at : k < n → Refused (refusal k) ≡ refuseAt n test refusal rest
-  unfolding refuseAt
-  refused-at l =
-      ap (λ (i : ℕ). Refused (refusal i)) e ∙ refused _ (refusal (first n test)) rest (lt-ltb (first n test) n (subst (λ (i : ℕ). i < n) e l))
+  -- The same of a search that answers k.
+  module _ (n : ℕ) (test : ℕ → Bool) (refusal : ℕ → A) (rest : A) {k : ℕ} (e : k ≡ first n test) where
+    pub refused-at : k < n → refusal k ≡ refuseAt n test refusal rest
+    unfolding refuseAt
+    refused-at l = ap refusal e ∙ refused _ (refusal (first n test)) rest (lt-ltb (first n test) n (subst (λ (i : ℕ). i < n) e l))
 
-  pub passed-at : {answer : Answer} → n ≤ k → answer ≡ rest → answer ≡ refuseAt n test refusal rest
-  unfolding refuseAt
-  passed-at l f = passed _ (refusal (first n test)) rest (le-ltb (first n test) n (subst (λ (i : ℕ). n ≤ i) e l)) f
+    pub passed-at : {answer : A} → n ≤ k → answer ≡ rest → answer ≡ refuseAt n test refusal rest
+    unfolding refuseAt
+    passed-at l f = passed _ (refusal (first n test)) rest (le-ltb (first n test) n (subst (λ (i : ℕ). n ≤ i) e l)) f

@@ -8,12 +8,12 @@ use lib.IntN.{ℤ, pos}
 use lib.ListN.{length}
 use Rattle.lists.specs.Permutations.{at}
 use Rattle.lists.specs.Sums.{sum}
-use Rattle.assignment.specs.Pairings.{Night, square, price}
+use Rattle.assignment.specs.Pairings.{square, price}
 use Rattle.matrix.specs.Limits.{side, K}
 use Rattle.matrix.specs.Refusals.{refuseIf, refuseAt, outside}
 use Rattle.matrix.specs.declared.Refusal.the-variants.{SideOver, CostsNotSquare, ListLength, CostOutside, ColumnOutside}
 use Rattle.matrix.specs.declared.Answer.{Answer}
-use Rattle.matrix.specs.declared.Answer.the-variants.{Total}
+use Rattle.matrix.specs.declared.Answer.the-variants.{Total, Refused}
 
 -- What the first m rows cost, each at the column that the list has for it. At m = n it is `total (square n costs) cols`.
 abbrev pub totalOf : ℕ → List ℤ → ℕ → List ℕ → ℤ
@@ -22,11 +22,11 @@ totalOf n costs m cols = sum m (λ i. square n costs .cost i (at cols i))
 -- "`cost`: 1, 2, 3, 5, 6; its list may have 0 to n entries, need not be a permutation, and 3 (place 1) means longer than n."
 unfoldable pub cost : ℕ → List ℤ → List ℕ → Answer
 cost n costs listed =
-    refuseIf (ltb side n) SideOver
-    (refuseIf (not (eqb (length costs) (n * n))) CostsNotSquare
-    (refuseIf (ltb n (length listed)) (ListLength 1)
-    (refuseAt (length costs) (λ k. outside (pos K) (price costs k)) CostOutside
-    (refuseAt (length listed) (λ i. leb n (at listed i)) ColumnOutside
+    refuseIf (ltb side n) (Refused SideOver)
+    (refuseIf (not (eqb (length costs) (n * n))) (Refused CostsNotSquare)
+    (refuseIf (ltb n (length listed)) (Refused (ListLength 1))
+    (refuseAt (length costs) (λ k. outside (pos K) (price costs k)) (λ k. Refused (CostOutside k))
+    (refuseAt (length listed) (λ i. leb n (at listed i)) (λ i. Refused (ColumnOutside i))
     (Total (totalOf n costs (length listed) listed))))))
 
 -- What `total` is asked with: a square of costs, and for each of m rows a column.

@@ -7,8 +7,6 @@ use lib.Signed.{ltZ}
 use Rattle.lists.specs.Runs.{first}
 use Rattle.matrix.specs.declared.Refusal.{Refusal}
 use Rattle.matrix.specs.declared.Refusal.the-variants.{SideOver, CostsNotSquare, ListLength, RoomShort, CostOutside, ColumnOutside, RowNotNamed, PriceOutside, PricesOverCost, PricesNotCost, NoMark, EditionNotOne, SheetSideOver, DistanceNotCosts, DistancePastBytes, SlipRoomShort, SheetOver}
-use Rattle.matrix.specs.declared.Answer.{Answer}
-use Rattle.matrix.specs.declared.Answer.the-variants.{Refused}
 
 -- The paper's "No.".
 abbrev pub numberOf : Refusal → ℕ
@@ -50,12 +48,13 @@ placeOf DistancePastBytes = 0
 placeOf SlipRoomShort = 0
 placeOf SheetOver = 0
 
--- "Where several apply, the first in its entry's order is given": refused where the test holds, else what the rest of the order says.
-unfoldable pub refuseIf : Bool → Refusal → Answer → Answer
-refuseIf test refusal rest = cond test (Refused refusal) rest
+-- "Where several apply, the first in its entry's order is given": where the test holds the refusal is given, else what the rest of the
+-- order says.
+unfoldable pub refuseIf : {A : Type 0} → Bool → A → A → A
+refuseIf test refusal rest = cond test refusal rest
 
 -- Refused at the first of n places at which the test holds; where there is none, the rest.
-unfoldable pub refuseAt : ℕ → (ℕ → Bool) → (ℕ → Refusal) → Answer → Answer
+unfoldable pub refuseAt : {A : Type 0} → ℕ → (ℕ → Bool) → (ℕ → A) → A → A
 refuseAt n test refusal rest = refuseIf (ltb (first n test) n) (refusal (first n test)) rest
 
 -- "outside -K..K": below -limit or above limit.

@@ -1,5 +1,4 @@
 -- `plus` adds, and the sum does not wrap. Assumes nothing.
-use mathlib.Core.Path.{_≡_}
 use lib.IntN.{_+ℤ_}
 use mir.Syntax.{w64}
 use mir.Val.{SFits}
