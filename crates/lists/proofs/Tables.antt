@@ -1,11 +1,12 @@
--- A list made of a function: how long it is and what stands in it. Assumes nothing.
-use mathlib.Core.Path.{_≡_, refl, ap, _∙_}
-use mathlib.Core.List.{List, [], _∷_, _++_}
-use Prim.Native.Nat.{ℕ, zero, suc, _<_}
+-- A list made of a function: how long it is, what stands in it, and how a loop fills a list with it. Assumes nothing.
+use mathlib.Core.Path.{_≡_, refl, sym, ap, _∙_}
+use mathlib.Core.List.{List, [], _∷_, _++_, append-nil}
+use Prim.Native.Nat.{ℕ, zero, suc, _+_, _≤_, _<_}
 use native.Mathlib.Decide.{decLt}
+use native.Mathlib.Numerals.{add-one}
 use native.Mathlib.Omega.{arith}
-use lib.ListN.{length, getD, length-append, List·getD-append}
-use lib.Seq.{ext-getD, getD-at}
+use lib.ListN.{length, getD, set, drop, replicate, length-append, length-drop, length-replicate, getD-replicate, List·getD-append}
+use lib.Seq.{ext-getD, getD-at, set-at, drop-cons, drop-length, append-snoc}
 use Rattle.lists.specs.Permutations.{table}
 
 module _ {A : Type 0} where
@@ -35,3 +36,30 @@ module _ {A : Type 0} where
   unfolding table
   table-cong zero f g e = refl
   table-cong (suc n) f g e = cc (table-cong n f g (λ i l. e i (omega arith)), e n (omega arith))
+
+  -- ---- a list filled from the front: its first k entries are the table's
+
+  pub filled-none : (f : ℕ → A) (l : List A) → l ≡ table 0 f ++ drop 0 l
+  unfolding table
+  filled-none f l = refl
+
+  pub filled-more : (k : ℕ) (f : ℕ → A) (l : List A) → k < length l → set (table k f ++ drop k l) k (f k) ≡ table (k + 1) f ++ drop (k + 1) l
+  unfolding table
+  filled-more k f l h =
+      ap (λ (t : List A). set (table k f ++ t) k (f k)) (drop-cons l k (f k) h)
+      ∙ set-at (table k f) (getD l k (f k)) (drop (suc k) l) (f k) k (length-table k f)
+      ∙ sym (append-snoc (table k f) (f k) (drop (suc k) l))
+      ∙ ap (λ (m : ℕ). table m f ++ drop m l) (sym (add-one k))
+
+  pub filled-length : (k : ℕ) (f : ℕ → A) (l : List A) → k ≤ length l → length (table k f ++ drop k l) ≡ length l
+  filled-length k f l h = omega (arith, length-append (table k f) (drop k l), length-table k f, length-drop k l)
+
+  pub filled-all : (k : ℕ) (f : ℕ → A) (l : List A) → k ≡ length l → table k f ++ drop k l ≡ table (length l) f
+  filled-all k f l e = rw (e, drop-length l, append-nil)
+
+  -- ---- all entries the same
+
+  pub table-constant : (n : ℕ) (x : A) → table n (λ i. x) ≡ replicate n x
+  table-constant n x =
+      ext-getD x (table n (λ i. x)) (replicate n x) (length-table n (λ i. x) ∙ sym (length-replicate n x))
+      (λ i h. let l : i < n = omega (arith, length-table n (λ k. x)) in getD-table n (λ k. x) x i l ∙ sym (getD-replicate n i x x l))

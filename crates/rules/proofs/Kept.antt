@@ -46,9 +46,9 @@ module _ (n : ℕ) (cost : ℕ → ℕ → ℤ) (K : ℕ) (costs : (i j : ℕ) �
     -- No sum on the way leaves 64 bits. Past the end of the list the price is 0.
     pub within-five : ((k : ℕ) → Within K (first k)) → (k : ℕ) → Within (5 * K) (price v k)
     within-five w k = elim (lt-or-le k n) [
-        inl l ↦ record { low = bounds-low n cost K costs (price v) (h .bounds) k l .low; high = omega (zlin, h .not-risen k l, w k .high) }
+      | inl l ↦ record { low = bounds-low n cost K costs (price v) (h .bounds) k l .low; high = omega (zlin, h .not-risen k l, w k .high) }
       | inr l ↦ rw (List·getD-eq-default v (pos 0) {n = k} (omega (arith, h .prices-size))) (record { low = omega arith; high = omega arith })
-      ]
+    ]
 
     -- Where a column is at -K or more, all are at -3K or more.
     pub three : (f : ℕ) → f < n → NotBelow K (price v f) → (k : ℕ) → k < n → NotBelow (3 * K) (price v k)

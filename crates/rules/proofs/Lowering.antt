@@ -66,7 +66,7 @@ module _ (n : ℕ) (cost : ℕ → ℕ → ℤ) where
       one-low = record {
         low = ⊎-elim (λ e. omega (zlin, q .here, all j (w .column-below) .low))
             (λ (s : (k : ℕ) × (k < n) × (k ≢ j) × (cost i j -ℤ p ≡ reduced cost v i k)).
-                let k = s .0 in omega (zlin, q .here, s .3, all k (s .1) .low, costs i j, costs i k)) (w .source);
+            let k = s .0 in omega (zlin, q .here, s .3, all k (s .1) .low, costs i j, costs i k)) (w .source);
       };
       others-low = λ k l d. record { low = omega (zlin, q .elsewhere k d, all k l .low) };
     }

@@ -32,15 +32,15 @@ lower-is : (f : ℕ → ℤ) (k : ℕ) (a : Low) → IsLowest f k a → IsLowest
 lower-is f k a r =
     cond-cases (ltZ (f k) (a .value)) (IsLowest f (suc k)) (low (f k) k) a
     (λ t. record {
-        inside = omega arith;
-        value-is = refl;
-        no-lower = below-suc (λ j. f k ≤ℤ f j) (λ j l. omega (zlin, r .no-lower j l)) (≤ℤ-refl (f k));
-      })
+      inside = omega arith;
+      value-is = refl;
+      no-lower = below-suc (λ j. f k ≤ℤ f j) (λ j l. omega (zlin, r .no-lower j l)) (≤ℤ-refl (f k));
+    })
     (λ t. record {
-        inside = omega (arith, r .inside);
-        value-is = r .value-is;
-        no-lower = below-suc (λ j. a .value ≤ℤ f j) (r .no-lower) (omega zlin);
-      })
+      inside = omega (arith, r .inside);
+      value-is = r .value-is;
+      no-lower = below-suc (λ j. a .value ≤ℤ f j) (r .no-lower) (omega zlin);
+    })
 
 pub lowest-is : (n : ℕ) (f : ℕ → ℤ) → 1 ≤ n → IsLowest f n (lowest n f)
 unfolding lowest
@@ -69,13 +69,13 @@ least-is f j m d NoneYet r = record {
 least-is f j m d (Of a) r =
     cond-cases (ltZ (f m) a) (IsLeastBut f j (suc m)) (f m) a
     (λ t. record {
-        no-lower = below-suc (λ k. k ≢ j → f m ≤ℤ f k) (λ k l e. omega (zlin, r .no-lower k l e)) (λ e. ≤ℤ-refl (f m));
-        one = (m, omega arith, d, refl);
-      })
+      no-lower = below-suc (λ k. k ≢ j → f m ≤ℤ f k) (λ k l e. omega (zlin, r .no-lower k l e)) (λ e. ≤ℤ-refl (f m));
+      one = (m, omega arith, d, refl);
+    })
     (λ t. record {
-        no-lower = below-suc (λ k. k ≢ j → a ≤ℤ f k) (r .no-lower) (λ e. omega zlin);
-        one = (r .one .0, omega (arith, r .one .1), r .one .2, r .one .3);
-      })
+      no-lower = below-suc (λ k. k ≢ j → a ≤ℤ f k) (r .no-lower) (λ e. omega zlin);
+      one = (r .one .0, omega (arith, r .one .1), r .one .2, r .one .3);
+    })
 
 same-is : (f : ℕ → ℤ) (j m : ℕ) → m ≡ j → (o : Least) → RightBut f j m o → RightBut f j (suc m) o
 same-is f j m e NoneYet r = below-suc (λ k. k ≡ j) r e
@@ -90,7 +90,7 @@ leastBut-is n f j =
     upward-keeps (RightBut f j) 0 n (λ k found. cond (eqb k j) found (least found (f k))) NoneYet (omega arith)
     (λ k l. absurd (omega arith))
     (λ k o l m r. cond-cases (eqb k j) (RightBut f j (suc k)) o (least o (f k))
-        (λ t. same-is f j k (eqb-true k j t) o r) (λ t. least-is f j k (eqb-false k j t) o r))
+    (λ t. same-is f j k (eqb-true k j t) o r) (λ t. least-is f j k (eqb-false k j t) o r))
 
 -- ---- the two lowest
 
@@ -178,7 +178,7 @@ unfolding twoLowest
 twoLowest-cong n f g one e =
     ap (λ (x : ℤ). upward 1 n (λ j found. twoStep found (low (f j) j)) (One (low x 0))) (e 0 one)
     ∙ upward-cong 1 n (λ j found. twoStep found (low (f j) j)) (λ j found. twoStep found (low (g j) j)) (One (low (g 0) 0))
-      (λ k t l m. ap (λ (x : ℤ). twoStep t (low x k)) (e k m))
+    (λ k t l m. ap (λ (x : ℤ). twoStep t (low x k)) (e k m))
 
 pub leastBut-cong : (n : ℕ) (f g : ℕ → ℤ) (j : ℕ) → ((k : ℕ) → k < n → f k ≡ g k) → leastBut n f j ≡ leastBut n g j
 unfolding leastBut

@@ -72,20 +72,20 @@ take-agree n p A i j li lj alone =
 all-or-one : (n m : ℕ) (row : ℕ → ℕ) → ((k : ℕ) → k < m → row k < n) ⊎ ((y : ℕ) × (y < m) × (n ≤ row y))
 all-or-one n zero row = inl (λ k l. absurd (omega arith))
 all-or-one n (suc m) row = elim (lt-or-le (row m) n) [
-    inl a ↦ ⊎-elim (λ f. inl (below-suc (λ k. row k < n) f a)) (λ y. inr (y .0, omega (arith, y .1), y .2)) (all-or-one n m row)
+  | inl a ↦ ⊎-elim (λ f. inl (below-suc (λ k. row k < n) f a)) (λ y. inr (y .0, omega (arith, y .1), y .2)) (all-or-one n m row)
   | inr a ↦ inr (m, omega arith, a)
-  ]
+]
 
 -- Were no column free, each of the n rows would have one of the n columns.
 pub free-column : (n : ℕ) (p : Pairs) → Agree n p → (s : ℕ) → s < n → Unpaired n p s → (y : ℕ) × (y < n) × (n ≤ at (p .rows) y)
 free-column n p A s l alone =
     ⊎-elim
     (λ f.
-        let I : Injective n n (at (p .rows)) = record {
-          below = f;
-          once = λ i k a b e. sym (A .named-back i a (f i a)) ∙ ap (at (p .cols)) e ∙ A .named-back k b (f k b);
-        } in
-        let r = reached I s l in
-        absurd (alone (r .0) (r .1) (r .2)))
+    let I : Injective n n (at (p .rows)) = record {
+      below = f;
+      once = λ i k a b e. sym (A .named-back i a (f i a)) ∙ ap (at (p .cols)) e ∙ A .named-back k b (f k b);
+    } in
+    let r = reached I s l in
+    absurd (alone (r .0) (r .1) (r .2)))
     (λ y. y)
     (all-or-one n n (at (p .rows)))

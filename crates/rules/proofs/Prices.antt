@@ -39,9 +39,9 @@ module _ (n : ℕ) (cost : ℕ → ℕ → ℤ) where
     pub all-near : (v : ℕ → ℤ) (row : ℕ → ℕ) (f : ℕ) → f < n → NotBelow K (v f) → Fair v row → ((k : ℕ) → k < n → n ≤ row k → NotBelow K (v k))
         → (k : ℕ) → k < n → NotBelow (3 * K) (v k)
     all-near v row f l low F free k m = elim (lt-or-le (row k) n) [
-        inl h ↦ record { low = omega (arith, fair-near v row f K l low F k m h .low) }
+      | inl h ↦ record { low = omega (arith, fair-near v row f K l low F k m h .low) }
       | inr h ↦ record { low = omega (arith, free k m h .low) }
-      ]
+    ]
 
     -- A row at its minimum pays at most K + B where some column is at -B or more.
     pub minimum-pays : (v : ℕ → ℤ) (i j f B : ℕ) → f < n → NotBelow B (v f) → AtMinimum v i j → reduced cost v i j ≤ℤ pos (K + B)

@@ -1,0 +1,92 @@
+// The solver: the tests of its input, and what follows the search. What is promised is said in specs/.
+ghost use mathlib.Core.Path.{_≡_};
+ghost use Prim.Native.Nat.{ℕ, _*_, _<_, _≤_};
+ghost use lib.IntN.{pos};
+ghost use lib.ListN.{length, replicate};
+ghost use Rattle.lapjv.specs.Solve.{Lent, tested};
+use matrix::Refusal;
+use rules::Counts;
+
+// What a paired night comes to.
+pub struct Night {
+    pub total: i64,
+    pub counts: Counts,
+}
+
+// What the solver answers.
+pub enum Solved {
+    Paired(Night),
+    Refused(Refusal),
+}
+
+// Whether the input can be paired.
+pub enum Verdict {
+    Passed,
+    Fails(Refusal),
+}
+
+// Refusals 1, 2, 3, 4, 5, in this order.
+fn tested(
+    n: usize,
+    costs: &[i32],
+    cols: &[u32],
+    rows: &[u32],
+    row_prices: &[i64],
+    col_prices: &[i64],
+    indices: &[u32],
+    numbers: &[i64],
+) -> Verdict
+    ensures { λ r. ⌜ r ≡ tested n (now (costs .entry)) (record { cols = now (cols .entry); rows = now (rows .entry); rowPrices = now («row_prices» .entry); columnPrices = now («col_prices» .entry); indices = now (indices .entry); numbers = now (numbers .entry) }) ⌝ }
+{
+    if matrix::side_over(n) {
+        return Verdict::Fails(Refusal::SideOver);
+    }
+    if matrix::not_square(n, costs) {
+        return Verdict::Fails(Refusal::CostsNotSquare);
+    }
+    if cols.len() < n {
+        return Verdict::Fails(Refusal::ListLength(1));
+    }
+    if rows.len() < n {
+        return Verdict::Fails(Refusal::ListLength(2));
+    }
+    if row_prices.len() < n {
+        return Verdict::Fails(Refusal::ListLength(3));
+    }
+    if col_prices.len() < n {
+        return Verdict::Fails(Refusal::ListLength(4));
+    }
+    if indices.len() < 4 * n {
+        return Verdict::Fails(Refusal::RoomShort(1));
+    }
+    if numbers.len() < n {
+        return Verdict::Fails(Refusal::RoomShort(2));
+    }
+    let k = matrix::first_cost_outside(costs);
+    if k < costs.len() {
+        return Verdict::Fails(Refusal::CostOutside(k));
+    }
+    Verdict::Passed
+}
+
+// Every index is 0.
+fn clear_indices(indices: &mut [u32])
+    ensures { λ r. ⌜ now (indices .exit) ≡ replicate (length (now (indices .entry))) 0 ⌝ }
+{
+    let mut k = 0;
+    while k < indices.len() {
+        indices[k] = 0;
+        k += 1;
+    }
+}
+
+// Every number is 0.
+fn clear_numbers(numbers: &mut [i64])
+    ensures { λ r. ⌜ now (numbers .exit) ≡ replicate (length (now (numbers .entry))) (pos 0) ⌝ }
+{
+    let mut k = 0;
+    while k < numbers.len() {
+        numbers[k] = 0;
+        k += 1;
+    }
+}
