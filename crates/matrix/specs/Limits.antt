@@ -1,5 +1,5 @@
--- The limits, each in one place. Proofs cite them by name; proofs/Limits.antt alone opens them.
-use Prim.Native.Nat.{ℕ}
+-- The limits, each in one place. Proofs cite side and K by name; proofs/Limits.antt alone opens them.
+use Prim.Native.Nat.{ℕ, _^_}
 
 -- "Side n: 0 to 1,024".
 unfoldable pub side : ℕ
@@ -8,3 +8,8 @@ side = 1024
 -- "K = 1,000,000,000. Costs are 32-bit signed, in -K..K".
 unfoldable pub K : ℕ
 K = 1000000000
+
+-- How near to 0 prices and distances are: loosely, far above any multiple of K that occurs and far below 2 ^ 63, so that no sum or
+-- difference of a few of them wraps.
+abbrev pub near : ℕ
+near = 2 ^ 40

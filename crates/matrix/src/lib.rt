@@ -4,13 +4,13 @@ ghost use mathlib.Core.Path.{_≡_};
 ghost use mathlib.Core.Bool.{not};
 ghost use Prim.Native.Nat.{ℕ, _+_, _*_, _^_, _<_, _≤_};
 ghost use lib.Dec.{leb, ltb, eqb};
-ghost use lib.IntN.{pos, _+ℤ_};
+ghost use lib.IntN.{pos, _+ℤ_, _-ℤ_};
 ghost use lib.ListN.{length, take, drop};
 ghost use Rattle.ints.specs.Parts.{Within};
 ghost use Rattle.lists.specs.Runs.{first};
 ghost use Rattle.lists.specs.Permutations.{at};
 ghost use Rattle.assignment.specs.Pairings.{price};
-ghost use Rattle.matrix.specs.Limits.{side, K};
+ghost use Rattle.matrix.specs.Limits.{side, K, near};
 ghost use Rattle.matrix.specs.Refusals.{numberOf, placeOf, outside};
 ghost use Rattle.matrix.specs.Cost.{totalOf, cost, Listed};
 
@@ -165,6 +165,14 @@ pub fn row(costs: &[i32], n: usize, i: usize) -> &[i32]
     let at = i * n;
     let end = at + n;
     &costs[at..end]
+}
+
+// The crate's `reduced_cost`: cost minus column price.
+pub fn reduced_cost(cost: i32, price: i64) -> i64
+    requires { ⌜ Within near price ⌝ }
+    ensures { λ r. ⌜ r ≡ cost -ℤ price ⌝ }
+{
+    cost as i64 - price
 }
 
 // A total with one cost more.
