@@ -1,1 +1,3 @@
 pub mod Solve
+pub mod Passes
+pub mod Priced

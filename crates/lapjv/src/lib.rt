@@ -3,6 +3,9 @@ ghost use mathlib.Core.Path.{_≡_};
 ghost use Prim.Native.Nat.{ℕ, _*_, _<_, _≤_};
 ghost use lib.IntN.{pos};
 ghost use lib.ListN.{length, replicate};
+ghost use Rattle.assignment.specs.Pairings.{Night, square};
+ghost use Rattle.rules.specs.Run.{rowPrices};
+ghost use Rattle.lapjv.specs.Priced.{Priced};
 ghost use Rattle.lapjv.specs.Solve.{Lent, tested};
 use matrix::Refusal;
 use rules::Counts;
@@ -88,5 +91,21 @@ fn clear_numbers(numbers: &mut [i64])
     while k < numbers.len() {
         numbers[k] = 0;
         k += 1;
+    }
+}
+
+// Row prices: cost minus v at the paired column.
+fn write_row_prices(n: usize, costs: &[i32], cols: &[u32], v: &[i64], row_prices: &mut [i64])
+    requires { ⌜ Priced n (now costs) (now cols) (now v) (now «row_prices») ⌝ }
+    ensures { λ r. ⌜ now («row_prices» .exit) ≡ rowPrices n (square n (now (costs .entry)) .cost) (now (cols .entry)) (now (v .entry)) ⌝ }
+{
+    let mut start = 0;
+    let mut i = 0;
+    while i < n {
+        let j = cols[i] as usize;
+        let at = start + j;
+        row_prices[i] = matrix::reduced_cost(costs[at], v[j]);
+        start += n;
+        i += 1;
     }
 }

@@ -1,3 +1,5 @@
 pub mod Limits
 pub mod First
 pub mod Refusals
+pub mod Places
+pub mod Bounds

@@ -2,7 +2,6 @@
 use mathlib.Core.Path.{_≡_, sym, ap, ap₂, _∙_}
 use mathlib.Core.List.{List}
 use Prim.Native.Nat.{ℕ, _+_, _*_, _^_, _≤_, _<_, _-_}
-use native.Mathlib.Nat.{mul-le-mul-right}
 use native.Mathlib.Omega.{arith}
 use native.Mathlib.Numerals.{add-one}
 use lib.ListN.{length}
@@ -18,6 +17,7 @@ use Rattle.lists.proofs.Sums.{sum-none, sum-last}
 use Rattle.assignment.specs.Pairings.{price}
 use Rattle.matrix.specs.Cost.{totalOf}
 use Rattle.matrix.proofs.Limits.{side-small}
+use Rattle.matrix.proofs.Places.{place-below}
 use borrow.Author.Needs.{needs}
 use Rattle.matrix.proofs.total.Statement.{statement}
 use Rattle.matrix.proofs.total.Tie as tie
@@ -52,15 +52,11 @@ shared-slice-read-at c = omega (arith, c .before .before .before .before .pre .l
 cast-at : tie.Need-cast-at Inv-loop μ-loop
 cast-at c = omega (arith, c .shared-slice-known2 .given (c .before .before .loop .i))
 
--- each of the first rows and its column make a place of the costs
-place-below : (n m i j : ℕ) → i < m → m ≤ n → j < n → i * n + j < n * n
-place-below n m i j l r h = let q : i < n = omega arith in omega (arith, mul-le-mul-right n q)
-
 reached : (c : tie.After-shared-slice-known2 Inv-loop μ-loop) → c .before .before .loop .start + at (c .before .before .before .before .args .cols .now) (c .before .before .loop .i) < length (c .before .before .before .before .args .costs .now)
 reached c =
     let s = c .before .before .before .before in
     let i = c .before .before .loop .i in
-    omega (arith, place-below (s .args .n) (s .args .count) i (at (s .args .cols .now) i) (omega arith) (s .pre .rows) (s .pre .inside i (omega arith)))
+    omega (arith, place-below (s .args .n) i (at (s .args .cols .now) i) (omega (arith, s .pre .rows)) (s .pre .inside i (omega arith)))
 
 add-at : tie.Need-add-at Inv-loop μ-loop
 add-at c = omega (arith, reached c)

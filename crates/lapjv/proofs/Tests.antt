@@ -1,0 +1,105 @@
+-- The solver's tests: what they answer goes over into any answer; and they are passed exactly by the inputs that `Passes` names. Assumes nothing.
+use mathlib.Core.Path.{_≡_, refl, sym}
+use mathlib.Core.Bool.{Bool, true, false}
+use mathlib.Core.List.{List}
+use Prim.Native.Nat.{ℕ, _*_}
+use native.Mathlib.Omega.{arith}
+use borrow.Author.Tests.{le-ltb, ltb-false, eq-eqb, eqb-true, not-false}
+use lib.IntN.{ℤ, pos}
+use lib.ListN.{length}
+use Rattle.lists.specs.Runs.{first}
+use Rattle.lists.proofs.Runs.{first-none, first-before}
+use Rattle.assignment.specs.Pairings.{price}
+use Rattle.matrix.specs.Limits.{side, K}
+use Rattle.matrix.specs.Refusals.{refuseIf, refuseAt, outside}
+use Rattle.matrix.specs.declared.Refusal.{Refusal}
+use Rattle.matrix.proofs.Refusals.{passed}
+use Rattle.matrix.proofs.Bounds.{outside-within}
+use Rattle.rules.specs.Run.{run}
+use Rattle.lapjv.specs.declared.Verdict.{Verdict}
+use Rattle.lapjv.specs.declared.Verdict.the-variants.{Passed, Fails}
+use Rattle.lapjv.specs.Solve.{Lent, tests, tested, solve, refused, paired, Outcome}
+use Rattle.lapjv.specs.Passes.{Passes}
+
+-- ---- a chain of tests, taken over into another answer
+
+module _ {A B : Type 0} (f : A → B) where
+  refuseIf-map : (test : Bool) (refusal rest : A) {rest′ : B} → f rest ≡ rest′ → f (refuseIf test refusal rest) ≡ refuseIf test (f refusal) rest′
+  unfolding refuseIf
+  refuseIf-map true refusal rest e = refl
+  refuseIf-map false refusal rest e = e
+
+  refuseAt-map : (n : ℕ) (test : ℕ → Bool) (refusal : ℕ → A) (rest : A) → f (refuseAt n test refusal rest) ≡ refuseAt n test (λ k. f (refusal k)) (f rest)
+  unfolding refuseAt
+  refuseAt-map n test refusal rest = refuseIf-map _ _ _ refl
+
+  tests-map : (n : ℕ) (costs : List ℤ) (lent : Lent) (refuse : Refusal → A) (rest : A)
+      → f (tests n costs lent refuse rest) ≡ tests n costs lent (λ r. f (refuse r)) (f rest)
+  unfolding tests
+  tests-map n costs lent refuse rest =
+      refuseIf-map _ _ _
+      (refuseIf-map _ _ _
+      (refuseIf-map _ _ _
+      (refuseIf-map _ _ _ (refuseIf-map _ _ _ (refuseIf-map _ _ _ (refuseIf-map _ _ _ (refuseIf-map _ _ _ (refuseAt-map _ _ _ _))))))))
+
+-- What a caller gets and finds, from the tests' verdict.
+abbrev pub outcome : ℕ → List ℤ → Lent → Verdict → Outcome
+outcome n costs lent Passed = paired n lent (run n costs)
+outcome n costs lent (Fails refusal) = refused lent refusal
+
+pub solve-outcome : (n : ℕ) (costs : List ℤ) (lent : Lent) → outcome n costs lent (tested n costs lent) ≡ solve n costs lent
+unfolding solve
+solve-outcome n costs lent = tests-map (outcome n costs lent) n costs lent Fails Passed
+
+-- ---- what the tests show where they are passed
+
+passed-if : (test : Bool) (refusal : Refusal) (rest : Verdict) → refuseIf test (Fails refusal) rest ≡ Passed → (test ≡ false) × (rest ≡ Passed)
+unfolding refuseIf
+passed-if true refusal rest e = let z : _≡_ {A = ℕ} 0 1 = cc in absurd (omega arith)
+passed-if false refusal rest e = (refl, e)
+
+module _ (n : ℕ) (costs : List ℤ) (lent : Lent) where
+  abbrev far : ℕ → Bool
+  far k = outside (pos K) (price costs k)
+
+  pub passed-passes : tested n costs lent ≡ Passed → Passes n costs lent
+  unfolding tests refuseAt
+  passed-passes e =
+      let t1 = passed-if _ _ _ e in
+      let t2 = passed-if _ _ _ (t1 .1) in
+      let t3 = passed-if _ _ _ (t2 .1) in
+      let t4 = passed-if _ _ _ (t3 .1) in
+      let t5 = passed-if _ _ _ (t4 .1) in
+      let t6 = passed-if _ _ _ (t5 .1) in
+      let t7 = passed-if _ _ _ (t6 .1) in
+      let t8 = passed-if _ _ _ (t7 .1) in
+      let t9 = passed-if _ _ _ (t8 .1) in
+      record {
+        small = ltb-false side n (t1 .0);
+        squared = eqb-true (length costs) (n * n) (not-false _ (t2 .0));
+        cols-enough = ltb-false (length (lent .cols)) n (t3 .0);
+        rows-enough = ltb-false (length (lent .rows)) n (t4 .0);
+        row-prices-enough = ltb-false (length (lent .rowPrices)) n (t5 .0);
+        column-prices-enough = ltb-false (length (lent .columnPrices)) n (t6 .0);
+        indices-enough = ltb-false (length (lent .indices)) (4 * n) (t7 .0);
+        numbers-enough = ltb-false (length (lent .numbers)) n (t8 .0);
+        costs-within = λ k l. outside-within K (price costs k) .0
+            (first-before far (length costs) k (omega (arith, ltb-false (first (length costs) far) (length costs) (t9 .0))));
+      }
+
+  -- "[..] is never refused by the solver."
+  pub passes-paired : Passes n costs lent → solve n costs lent ≡ paired n lent (run n costs)
+  unfolding solve tests refuseAt
+  passes-paired p =
+      sym (passed _ _ _ (le-ltb side n (p .small))
+      (passed _ _ _ (rw (eq-eqb (length costs) (n * n) (p .squared)))
+      (passed _ _ _ (le-ltb (length (lent .cols)) n (p .cols-enough))
+      (passed _ _ _ (le-ltb (length (lent .rows)) n (p .rows-enough))
+      (passed _ _ _ (le-ltb (length (lent .rowPrices)) n (p .row-prices-enough))
+      (passed _ _ _ (le-ltb (length (lent .columnPrices)) n (p .column-prices-enough))
+      (passed _ _ _ (le-ltb (length (lent .indices)) (4 * n) (p .indices-enough))
+      (passed _ _ _ (le-ltb (length (lent .numbers)) n (p .numbers-enough))
+      (passed _ _ _
+      (le-ltb (first (length costs) far) (length costs)
+      (omega (arith, first-none far (length costs) (λ k l. outside-within K (price costs k) .1 (p .costs-within k l)))))
+      refl)))))))))
