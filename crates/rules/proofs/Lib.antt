@@ -4,4 +4,6 @@ pub mod Prices
 pub mod Pairs
 pub mod Lowering
 pub mod Kept
+pub mod Claims
+pub mod Transfers
 pub mod Nights
