@@ -6,4 +6,7 @@ pub mod Lowering
 pub mod Kept
 pub mod Claims
 pub mod Transfers
+pub mod Looks
+pub mod Passes
+pub mod RowReduction
 pub mod Nights
