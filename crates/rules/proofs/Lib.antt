@@ -9,4 +9,6 @@ pub mod Transfers
 pub mod Looks
 pub mod Passes
 pub mod RowReduction
+pub mod Block
+pub mod Scan
 pub mod Nights

@@ -67,19 +67,17 @@ abbrev pub countOne : Work → Work
 countOne w = record { hi = w .hi; list = w .list; distances = w .distances; predecessors = w .predecessors; scanned = w .scanned + 1 }
 
 module _ (n : ℕ) (cost : ℕ → ℕ → ℤ) (v : ℕ → ℤ) (row : ℕ → ℕ) where
-  -- Column j, at place k, has been lowered: at the block's minimum it ends the search if it is free, and else joins the block.
-  abbrev pub afterLowering : ℤ → ℕ → ℕ → Work → Turn Work Hit
-  afterLowering minimum k j w =
-      cond (same (price (w .distances) j) minimum)
-      (cond (ltb (row j) n) (on (join w k)) (left (record { column = j; work = w })))
-      (on w)
+  -- Column j, at place k, has been lowered to x: at the block's minimum it ends the search if it is free, and else joins the block.
+  abbrev pub afterLowering : ℤ → ℕ → ℕ → ℤ → Work → Turn Work Hit
+  afterLowering minimum k j x w =
+      cond (same x minimum) (cond (ltb (row j) n) (on (join w k)) (left (record { column = j; work = w }))) (on w)
 
-  -- The column at place k, as row i sees it: h is what its reduced cost is above its distance.
+  -- The column at place k, as row i sees it: h is what the reduced cost of the scanned column is above the minimum.
   abbrev pub scanColumn : ℤ → ℤ → ℕ → ℕ → Work → Turn Work Hit
   scanColumn minimum h i k w =
       let j = at (w .list) k in
       let x = reduced cost v i j -ℤ h in
-      cond (ltZ x (price (w .distances) j)) (afterLowering minimum k j (reachBy w i j x)) (on w)
+      cond (ltZ x (price (w .distances) j)) (afterLowering minimum k j x (reachBy w i j x)) (on w)
 
   -- The row of the column at place k sees all columns after the block.
   abbrev pub scanRow : ℕ → Work → Turn Work Hit
