@@ -11,4 +11,6 @@ pub mod Passes
 pub mod RowReduction
 pub mod Block
 pub mod Scan
+pub mod Scans
+pub mod Search
 pub mod Nights
