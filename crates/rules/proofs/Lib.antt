@@ -13,4 +13,6 @@ pub mod Block
 pub mod Scan
 pub mod Scans
 pub mod Search
+pub mod Potentials
+pub mod PriceChange
 pub mod Nights
