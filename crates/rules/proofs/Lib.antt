@@ -15,4 +15,5 @@ pub mod Scans
 pub mod Search
 pub mod Potentials
 pub mod PriceChange
+pub mod Flips
 pub mod Nights
