@@ -16,4 +16,5 @@ pub mod Search
 pub mod Potentials
 pub mod PriceChange
 pub mod Flips
+pub mod Augment
 pub mod Nights
