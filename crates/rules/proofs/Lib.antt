@@ -17,4 +17,5 @@ pub mod Potentials
 pub mod PriceChange
 pub mod Flips
 pub mod Augment
+pub mod Augmentation
 pub mod Nights
