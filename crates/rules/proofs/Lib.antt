@@ -18,4 +18,5 @@ pub mod PriceChange
 pub mod Flips
 pub mod Augment
 pub mod Augmentation
+pub mod Stages
 pub mod Nights
