@@ -19,4 +19,5 @@ pub mod Flips
 pub mod Augment
 pub mod Augmentation
 pub mod Stages
+pub mod Run
 pub mod Nights
