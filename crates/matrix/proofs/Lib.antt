@@ -3,3 +3,4 @@ pub mod First
 pub mod Refusals
 pub mod Places
 pub mod Bounds
+pub mod Codes

@@ -1,6 +1,6 @@
 -- The paper's refusals: number and place of each, and how a chain of tests answers with the first that applies.
 use mathlib.Core.Bool.{Bool, cond, _||_}
-use Prim.Native.Nat.{ℕ}
+use Prim.Native.Nat.{ℕ, _+_, _*_}
 use lib.Dec.{ltb}
 use lib.IntN.{ℤ, negℤ}
 use lib.Signed.{ltZ}
@@ -47,6 +47,10 @@ placeOf DistanceNotCosts = 0
 placeOf DistancePastBytes = 0
 placeOf SlipRoomShort = 0
 placeOf SheetOver = 0
+
+-- "It gets 0, or number + 256*place": a refusal as one number.
+abbrev pub codeOf : Refusal → ℕ
+codeOf refusal = numberOf refusal + 256 * placeOf refusal
 
 -- "Where several apply, the first in its entry's order is given": where the test holds the refusal is given, else what the rest of the
 -- order says.

@@ -11,7 +11,7 @@ ghost use Rattle.lists.specs.Runs.{first};
 ghost use Rattle.lists.specs.Permutations.{at};
 ghost use Rattle.assignment.specs.Pairings.{price};
 ghost use Rattle.matrix.specs.Limits.{side, K, near};
-ghost use Rattle.matrix.specs.Refusals.{numberOf, placeOf, outside};
+ghost use Rattle.matrix.specs.Refusals.{numberOf, placeOf, codeOf, outside};
 ghost use Rattle.matrix.specs.Cost.{totalOf, cost, Listed};
 
 // The paper's refusals 1 to 17 in its order, each with its place where the paper names one.
@@ -103,6 +103,14 @@ pub fn place(refusal: Refusal) -> usize
         Refusal::SlipRoomShort => 0,
         Refusal::SheetOver => 0,
     }
+}
+
+// A refusal as one number. Places are far below 2^48.
+pub fn code(refusal: Refusal) -> u64
+    requires { ⌜ placeOf refusal < 2 ^ 48 ⌝ }
+    ensures { λ r. ⌜ r ≡ codeOf refusal ⌝ }
+{
+    number(refusal) + 256 * (place(refusal) as u64)
 }
 
 // Whether x is below -limit or above limit.

@@ -69,15 +69,18 @@ module _ (n : ℕ) (cost : ℕ → ℕ → ℤ) (v : ℕ → ℤ) (p : Pairs) (s
       go : (t : ℕ) → t < n → (at (w .predecessors) (place w t) ≡ s) ⊎ ((y : ℕ) × Before n s ls (w .predecessors) p Tree rank (place w t) y)
       go t l = ⊎-elim (λ a. inl (a .leads))
           (λ (a : (u : ℕ) × (u < t) × ((at (p .rows) (place w u) < n) × (far w (place w u) ≤ℤ μ)) × FromColumn n cost v (at (p .rows)) s floor w (place w u) (place w t)).
-              let m : a .0 < n = omega (arith, a .1) in
-              let b = E .sound .permutation .injective .below (a .0) m in
-              inr (place w (a .0), record {
-                in-tree = (b, a .2 .1);
-                column-below = b;
-                ranked = omega (arith, a .1, rank-place t l, rank-place (a .0) m);
-                row-below = a .2 .0;
-                leads = a .3 .leads;
-              }))
+          let m : a .0 < n = omega (arith, a .1) in
+          let b = E .sound .permutation .injective .below (a .0) m in
+          inr (
+            place w (a .0),
+            record {
+              in-tree = (b, a .2 .1);
+              column-below = b;
+              ranked = omega (arith, a .1, rank-place t l, rank-place (a .0) m);
+              row-below = a .2 .0;
+              leads = a .3 .leads;
+            },
+          ))
           (E .root t l)
 
   pub column-below : f .column < n
@@ -139,8 +142,8 @@ module _ (n : ℕ) (cost : ℕ → ℕ → ℤ) (x : State) (s : ℕ) (C : Can n
       let rk = rank n cost v (x .pairs) s fl ls f μ E in
       let R = rooted n cost v (x .pairs) s fl ls f μ E in
       let W : Whole n s ls (f .work .predecessors) (x .pairs) T rk (augment n cost x s .pairs) =
-          flips-whole n s ls (f .work .predecessors) (x .pairs) T rk R (record { column = f .column; pairs = x .pairs })
-          (flipping n cost v (x .pairs) s fl ls f μ E (C .agree) (C .start-unpaired)) in
+      flips-whole n s ls (f .work .predecessors) (x .pairs) T rk R (record { column = f .column; pairs = x .pairs })
+      (flipping n cost v (x .pairs) s fl ls f μ E (C .agree) (C .start-unpaired)) in
       let q = augment n cost x s .pairs in
       let lj = column-below n cost v (x .pairs) s fl ls f μ E in
       let minimum = leads-minimum n cost (x .prices) row s fl (C .prices-size) (C .fair) f μ E in
@@ -148,11 +151,13 @@ module _ (n : ℕ) (cost : ℕ → ℕ → ℤ) (x : State) (s : ℕ) (C : Can n
       record {
         agree = W .agree;
         prices-size = new-size n cost (x .prices) row s fl (C .prices-size) (C .fair) f μ E;
-        fair = record { paired-at-minimum = λ k l h. ⊎-elim
-            (λ a. subst (λ (i : ℕ). AtMinimum n cost (price (newPrices f (x .prices))) i k) (sym a)
+        fair = record {
+          paired-at-minimum = λ k l h. ⊎-elim
+              (λ a. subst (λ (i : ℕ). AtMinimum n cost (price (newPrices f (x .prices))) i k) (sym a)
               (new-fair n cost (x .prices) row s fl (C .prices-size) (C .fair) f μ E .paired-at-minimum k l (omega (arith, a))))
-            (λ a. subst (λ (i : ℕ). AtMinimum n cost (price (newPrices f (x .prices))) i k) (sym (a .1)) (minimum k l (a .0 .1)))
-            (W .row-from k l) };
+              (λ a. subst (λ (i : ℕ). AtMinimum n cost (price (newPrices f (x .prices))) i k) (sym (a .1)) (minimum k l (a .0 .1)))
+              (W .row-from k l);
+        };
         start-paired = W .start-paired;
         still-paired = W .still-paired;
         still-unpaired = λ i d alone k l z. ⊎-elim (λ a. alone k l (sym a ∙ z))
@@ -162,7 +167,7 @@ module _ (n : ℕ) (cost : ℕ → ℕ → ℤ) (x : State) (s : ℕ) (C : Can n
         reached-free = (f .column, lj, E .is-free, same (f .column) lj (E .is-free));
         free-untouched = λ k l h.
             let g : n ≤ row k = ⊎-elim (λ a. omega arith)
-                (λ a. ⊎-elim (λ b. absurd (omega (arith, a .1, ls))) (λ b. absurd (omega (arith, a .1, b .1 .row-below, b .1 .leads))) (R k (a .0))) (W .row-from k l) in
+            (λ a. ⊎-elim (λ b. absurd (omega (arith, a .1, ls))) (λ b. absurd (omega (arith, a .1, b .1 .row-below, b .1 .leads))) (R k (a .0))) (W .row-from k l) in
             (g, same k l g);
         scanned-few = omega (arith, E .counted-few);
       }
@@ -173,6 +178,6 @@ pub gain-near : (n : ℕ) (cost : ℕ → ℕ → ℤ) (K : ℕ) → ((i j : ℕ
 gain-near n cost K costs x s y g B low k l =
     let f = g .reached-free in
     elim (lt-or-le (at (y .pairs .rows) k) n) [
-      inl h ↦ fair-near n cost K costs (price (y .prices)) (at (y .pairs .rows)) (f .0) B (f .1) (record { low = omega (zlin, f .3, low (f .0) (f .1) .low) }) (g .fair) k l h
-    | inr h ↦ record { low = omega (zlin, g .free-untouched k l h .1, low k l .low) }
+      | inl h ↦ fair-near n cost K costs (price (y .prices)) (at (y .pairs .rows)) (f .0) B (f .1) (record { low = omega (zlin, f .3, low (f .0) (f .1) .low) }) (g .fair) k l h
+      | inr h ↦ record { low = omega (zlin, g .free-untouched k l h .1, low k l .low) }
     ]

@@ -55,9 +55,9 @@ module _ (n : ℕ) (cost : ℕ → ℕ → ℤ) (frees : List ℕ) (count : ℕ)
           once = λ t u a b e. A .listed .once t u (omega (arith, a .0), a .1) (omega (arith, b .0), b .1) e;
           paired-or-listed = λ i h. ⊎-elim (λ a. inl (g .still-paired i h a))
               (λ (a : (t : ℕ) × ((m ≤ t) × (t < count)) × (at frees t ≡ i)). elim (ℕ-discrete (a .0) m) [
-                  yes e ↦ inl (subst (Paired (y .pairs)) (ap (at frees) (sym e) ∙ a .2) (g .start-paired))
+                | yes e ↦ inl (subst (Paired (y .pairs)) (ap (at frees) (sym e) ∙ a .2) (g .start-paired))
                 | no d ↦ inr (a .0, (omega (arith, a .1 .0), a .1 .1), a .2)
-                ])
+              ])
               (A .listed .paired-or-listed i h);
         };
         scanned-few = omega (arith, g .scanned-few, A .scanned-few, suc-mul m (n - 1));
@@ -70,8 +70,8 @@ module _ (n : ℕ) (cost : ℕ → ℕ → ℤ) (frees : List ℕ) (count : ℕ)
   augments-ok Q keeps x₀ A q m h =
       upward-keeps (λ k x. Augmented x₀ k x × Q x) 0 m (λ k y. augment n cost y (at frees k)) x₀ (omega arith) (A, q)
       (λ k x a l P.
-          let C = augmented-can x₀ k x (omega arith) (P .0) in
-          (augment-ok x₀ k x (omega arith) (P .0), keeps x (at frees k) (P .1) C (augment-gain n cost x (at frees k) C)))
+      let C = augmented-can x₀ k x (omega arith) (P .0) in
+      (augment-ok x₀ k x (omega arith) (P .0), keeps x (at frees k) (P .1) C (augment-gain n cost x (at frees k) C)))
 
   -- Once all have columns, no row is free.
   pub augmented-paired : (x₀ x : State) → Augmented x₀ count x → (i : ℕ) → i < n → Paired (x .pairs) i

@@ -40,9 +40,9 @@ module _ (n : ℕ) (d : List ℤ) (lo : ℕ) (list : List ℕ) where
       let so : (t : ℕ) → t ≢ k → t ≢ p → at ys t ≡ at xs t = exchange-other xs k p in
       -- at or above the old minimum
       let above : (t : ℕ) → lo ≤ t → t < k → b .minimum ≤ℤ price d (at xs t) = λ t a m. elim (lt-or-le t (b .hi)) [
-          inl z ↦ omega (zarith, B .at-least t a z)
+        | inl z ↦ omega (zarith, B .at-least t a z)
         | inr z ↦ B .not-less t z m
-        ] in
+      ] in
       let from-k = B .from-after k (omega (arith, B .order)) l in
       let from-p = B .from-after p h lp in
       record {
@@ -52,35 +52,35 @@ module _ (n : ℕ) (d : List ℤ) (lo : ℕ) (list : List ℕ) where
         from-after = here-or-elsewhere (λ t. lo ≤ t → t < n → (u : ℕ) × (lo ≤ u) × (u < n) × (at ys t ≡ at list u)) p
             (λ a m. (from-k .0, from-k .1, from-k .2, sb ∙ from-k .3))
             (λ t y. here-or-elsewhere (λ t. t ≢ p → lo ≤ t → t < n → (u : ℕ) × (lo ≤ u) × (u < n) × (at ys t ≡ at list u)) k
-                (λ y a m. (from-p .0, from-p .1, from-p .2, sa ∙ from-p .3))
-                (λ t z y a m. let F = B .from-after t a m in (F .0, F .1, F .2, so t z y ∙ F .3)) t y);
+            (λ y a m. (from-p .0, from-p .1, from-p .2, sa ∙ from-p .3))
+            (λ t z y a m. let F = B .from-after t a m in (F .0, F .1, F .2, so t z y ∙ F .3)) t y);
         at-least = λ t a m. elim (ℕ-discrete t p) [
-            yes z ↦ ap (λ (y : ℕ). price d (at ys y)) z ∙ ap (price d) sb
+          | yes z ↦ ap (λ (y : ℕ). price d (at ys y)) z ∙ ap (price d) sb
           | no y ↦ omega (zarith, ap (price d) (so t (λ z. omega (arith, B .order)) y), B .at-least t a (omega arith), e, f t a (omega arith))
-          ];
+        ];
         not-less = λ t a m. elim (ℕ-discrete t k) [
-            yes z ↦ omega (zarith, ap (λ (y : ℕ). price d (at ys y)) z, ap (price d) sa, above p h (omega arith), e)
+          | yes z ↦ omega (zarith, ap (λ (y : ℕ). price d (at ys y)) z, ap (price d) sa, above p h (omega arith), e)
           | no z ↦ omega (zarith, ap (price d) (so t z (λ q. omega arith)), above t (omega arith) (omega arith), e)
-          ];
+        ];
       }
 
   pub blockStep-ok : (k : ℕ) (b : Block) → IsBlock k b → k < n → IsBlock (suc k) (blockStep d lo k b)
   blockStep-ok k b B l =
       cond-cases (leZ h (b .minimum)) (IsBlock (suc k)) (blockWith b k h (cond (ltZ h (b .minimum)) lo (b .hi))) b
       (λ e. cond-cases (ltZ h (b .minimum)) (λ p. IsBlock (suc k) (blockWith b k h p)) lo (b .hi)
-          (λ a. swap-ok k lo b B l (omega arith) (omega (arith, B .order)) (omega zarith) (λ t m q. absurd (omega arith)))
-          (λ a. swap-ok k (b .hi) b B l (omega (arith, B .order)) (omega arith) (omega zarith) (λ t m q. omega zarith)))
+      (λ a. swap-ok k lo b B l (omega arith) (omega (arith, B .order)) (omega zarith) (λ t m q. absurd (omega arith)))
+      (λ a. swap-ok k (b .hi) b B l (omega (arith, B .order)) (omega arith) (omega zarith) (λ t m q. omega zarith)))
       (λ e. record {
-          permutation = B .permutation;
-          order = omega (arith, B .order);
-          before-kept = B .before-kept;
-          from-after = B .from-after;
-          at-least = B .at-least;
-          not-less = λ t g m. elim (ℕ-discrete t k) [
-              yes z ↦ omega (zarith, ap (λ (y : ℕ). price d (at (b .list) y)) z)
-            | no z ↦ B .not-less t g (omega arith)
-            ];
-        })
+        permutation = B .permutation;
+        order = omega (arith, B .order);
+        before-kept = B .before-kept;
+        from-after = B .from-after;
+        at-least = B .at-least;
+        not-less = λ t g m. elim (ℕ-discrete t k) [
+          | yes z ↦ omega (zarith, ap (λ (y : ℕ). price d (at (b .list) y)) z)
+          | no z ↦ B .not-less t g (omega arith)
+        ];
+      })
     where
       h : ℤ
       h = price d (at (b .list) k)

@@ -87,13 +87,13 @@ module _ (n : ℕ) (cost : ℕ → ℕ → ℤ) (one : 1 ≤ n) where
           holding = here-or-elsewhere (λ k. j ≤ k → k < n → at (s .rows) k < n → Holds q k) j
               (λ a b m. record { is-best = h .waiting j (omega arith); named-back = tc; marked = omega (arith, tm) })
               (λ k d a b m.
-                  let H = h .holding k (omega arith) b m in
-                  let e : at (s .rows) k ≢ i = λ y. omega (arith, H .marked, ap (at (s .marks)) y) in
-                  record {
-                    is-best = H .is-best;
-                    named-back = kc (at (s .rows) k) e ∙ H .named-back;
-                    marked = omega (arith, km (at (s .rows) k) e, H .marked);
-                  });
+              let H = h .holding k (omega arith) b m in
+              let e : at (s .rows) k ≢ i = λ y. omega (arith, H .marked, ap (at (s .marks)) y) in
+              record {
+                is-best = H .is-best;
+                named-back = kc (at (s .rows) k) e ∙ H .named-back;
+                marked = omega (arith, km (at (s .rows) k) e, H .marked);
+              });
           marked-held = here-or-elsewhere (λ x. x < n → 1 ≤ at (q .marks) x → (j ≤ at (q .cols) x) × (at (s .rows) (at (q .cols) x) ≡ x)) i
               (λ a b. (omega (arith, tc), ap (at (s .rows)) tc))
               (λ x d a b. let C = h .marked-held x a (omega (arith, km x d)) in (omega (arith, kc x d, C .0), ap (at (s .rows)) (kc x d) ∙ C .1));
@@ -108,9 +108,9 @@ module _ (n : ℕ) (cost : ℕ → ℕ → ℤ) (one : 1 ≤ n) where
         let kr : (x : ℕ) → x ≢ j → at (q .rows) x ≡ at (s .rows) x = λ x d. getD-set-other (s .rows) j x free 0 d in
         let km : (x : ℕ) → x ≢ i → at (q .marks) x ≡ at (s .marks) x = λ x d. getD-set-other (s .marks) i x 2 0 d in
         let still : (x : ℕ) → 1 ≤ at (s .marks) x → 1 ≤ at (q .marks) x =
-            here-or-elsewhere (λ x. 1 ≤ at (s .marks) x → 1 ≤ at (q .marks) x) i (λ a. omega (arith, tm)) (λ x d a. omega (arith, km x d)) in
+        here-or-elsewhere (λ x. 1 ≤ at (s .marks) x → 1 ≤ at (q .marks) x) i (λ a. omega (arith, tm)) (λ x d a. omega (arith, km x d)) in
         let before : (x : ℕ) → 1 ≤ at (q .marks) x → 1 ≤ at (s .marks) x =
-            here-or-elsewhere (λ x. 1 ≤ at (q .marks) x → 1 ≤ at (s .marks) x) i (λ a. z) (λ x d a. omega (arith, km x d)) in
+        here-or-elsewhere (λ x. 1 ≤ at (q .marks) x → 1 ≤ at (s .marks) x) i (λ a. z) (λ x d a. omega (arith, km x d)) in
         record {
           cols-size = h .cols-size;
           rows-size = length-set (s .rows) j free ∙ h .rows-size;

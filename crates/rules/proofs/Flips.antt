@@ -92,29 +92,31 @@ module _ (n s : ℕ) (ls : s < n) (predecessors : List ℕ) (p₀ : Pairs) (Tree
       let kc = kept-col n p (H .cols-size) (H .rows-size) i j li (H .open-below) in
       let tr = took-row n p (H .cols-size) (H .rows-size) i j li (H .open-below) in
       let kr = kept-row n p (H .cols-size) (H .rows-size) i j li (H .open-below) in
-      let q = takeColumn p i j in
-      (ci, record {
-        cols-size = length-set (p .cols) i j ∙ H .cols-size;
-        rows-size = length-set (p .rows) j i ∙ H .rows-size;
-        open-below = b .column-below;
-        open-in-tree = b .in-tree;
-        cols-below = taken-below n p (H .cols-size) (H .rows-size) i j li (H .open-below) (H .cols-below);
-        named-back = here-or-elsewhere (λ k. k < n → k ≢ k₀ → at (q .rows) k < n → at (q .cols) (at (q .rows) k) ≡ k) j
-            (λ l d h. ap (at (q .cols)) tr ∙ tc)
-            (λ k c l d h. let b′ = H .named-back k l c (omega (arith, kr k c)) in
-                ap (at (q .cols)) (kr k c) ∙ kc (at (p .rows) k) (λ y. d (sym b′ ∙ ap (at (p .cols)) y ∙ ci)) ∙ b′);
-        still-paired = here-or-elsewhere (λ x. x < n → Paired p₀ x → (at (q .cols) x ≢ k₀) × Paired q x) i
-            (λ l m. (λ z. dk (sym z ∙ tc), ap (at (q .rows)) tc ∙ tr))
-            (λ x d l m. (
+      let q = takeColumn p i j in (
+        ci,
+        record {
+          cols-size = length-set (p .cols) i j ∙ H .cols-size;
+          rows-size = length-set (p .rows) j i ∙ H .rows-size;
+          open-below = b .column-below;
+          open-in-tree = b .in-tree;
+          cols-below = taken-below n p (H .cols-size) (H .rows-size) i j li (H .open-below) (H .cols-below);
+          named-back = here-or-elsewhere (λ k. k < n → k ≢ k₀ → at (q .rows) k < n → at (q .cols) (at (q .rows) k) ≡ k) j
+              (λ l d h. ap (at (q .cols)) tr ∙ tc)
+              (λ k c l d h. let b′ = H .named-back k l c (omega (arith, kr k c)) in
+              ap (at (q .cols)) (kr k c) ∙ kc (at (p .rows) k) (λ y. d (sym b′ ∙ ap (at (p .cols)) y ∙ ci)) ∙ b′);
+          still-paired = here-or-elsewhere (λ x. x < n → Paired p₀ x → (at (q .cols) x ≢ k₀) × Paired q x) i
+              (λ l m. (λ z. dk (sym z ∙ tc), ap (at (q .rows)) tc ∙ tr))
+              (λ x d l m. (
                 λ z. d (sym (H .still-paired x l m .1) ∙ ap (at (p .rows)) (sym (kc x d) ∙ z) ∙ ri),
-                ap (at (q .rows)) (kc x d) ∙ kr (at (p .cols) x) (H .still-paired x l m .0) ∙ H .still-paired x l m .1
+                ap (at (q .rows)) (kc x d) ∙ kr (at (p .cols) x) (H .still-paired x l m .0) ∙ H .still-paired x l m .1,
               ));
-        start-unpaired = here-or-elsewhere (λ k. k < n → k ≢ k₀ → at (q .rows) k ≢ s) j
-            (λ l d z. ds (sym tr ∙ z)) (λ k c l d z. H .start-unpaired k l c (sym (kr k c) ∙ z));
-        untouched = λ k l tk r. kr k (λ y. omega (arith, b .ranked, ap rank y)) ∙ H .untouched k l tk (omega (arith, b .ranked));
-        row-from = here-or-elsewhere (λ k. k < n → RowFrom q k) j (λ l. inr (H .open-in-tree, tr))
-            (λ k d l. ⊎-elim (λ a. inl (kr k d ∙ a)) (λ a. inr (a .0, kr k d ∙ a .1)) (H .row-from k l));
-      })
+          start-unpaired = here-or-elsewhere (λ k. k < n → k ≢ k₀ → at (q .rows) k ≢ s) j
+              (λ l d z. ds (sym tr ∙ z)) (λ k c l d z. H .start-unpaired k l c (sym (kr k c) ∙ z));
+          untouched = λ k l tk r. kr k (λ y. omega (arith, b .ranked, ap rank y)) ∙ H .untouched k l tk (omega (arith, b .ranked));
+          row-from = here-or-elsewhere (λ k. k < n → RowFrom q k) j (λ l. inr (H .open-in-tree, tr))
+              (λ k d l. ⊎-elim (λ a. inl (kr k d ∙ a)) (λ a. inr (a .0, kr k d ∙ a .1)) (H .row-from k l));
+        },
+      )
 
   -- After k flips: the open column has k places before it to lose.
   pub record Flipping (k : ℕ) (o : Open) : Type 0 where
@@ -130,10 +132,13 @@ module _ (n s : ℕ) (ls : s < n) (predecessors : List ℕ) (p₀ : Pairs) (Tree
       where
         j : ℕ
         j = o .column
+
         i : ℕ
         i = at predecessors j
+
         q : Pairs
         q = takeColumn (o .pairs) i j
+
         next : i ≢ s → (k₀ : ℕ) → Before j k₀ → Flipping (suc k) (record { column = at (o .pairs .cols) i; pairs = q })
         next d k₀ b =
             let N = next-flip (o .pairs) j (H .holed) d k₀ b in

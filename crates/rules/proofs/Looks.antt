@@ -48,8 +48,12 @@ module _ (n : ℕ) (cost : ℕ → ℕ → ℤ) (one : 1 ≤ n) (v : List ℤ) (
           column-below = r .first-inside;
           not-raised = omega (zlin, r .order, dif (b .value) (a .value));
           at-minimum = λ k l d. omega (zlin, r .no-lower-but k l d, r .first-is, dif (b .value) (a .value), dif x (b .value -ℤ a .value));
-          source = inr (b .place, r .second-inside, (λ e. r .apart (sym e)),
-            omega (zlin, r .second-is, r .first-is, dif (b .value) (a .value), dif x (b .value -ℤ a .value)));
+          source = inr (
+            b .place,
+            r .second-inside,
+            (λ e. r .apart (sym e)),
+            omega (zlin, r .second-is, r .first-is, dif (b .value) (a .value), dif x (b .value -ℤ a .value)),
+          );
         }
 
     lowest-kept : Lowers n cost (price v) i (a .place) (price v (a .place))
@@ -84,10 +88,10 @@ module _ (n : ℕ) (cost : ℕ → ℕ → ℤ) (one : 1 ≤ n) (v : List ℤ) (
       let j = cond (ltb (at rows (a .place)) n) (b .place) (a .place) in
       cond-cases early (Fits early) (cond (ltZ (a .value) (b .value)) (lowerPrice v (a .place) (a .value) (b .value)) (keepPrice v j)) (keepPrice v (a .place))
       (λ e. cond-cases (ltZ (a .value) (b .value)) (Fits early) (lowerPrice v (a .place) (a .value) (b .value)) (keepPrice v j)
-          (λ t. record { lowers = lowered a b r; back-early = λ z. e })
-          (λ t. cond-cases (ltb (at rows (a .place)) n) (λ k. Fits early (keepPrice v k)) (b .place) (a .place)
-              (λ u. record { lowers = second-kept a b r t; back-early = not-back })
-              (λ u. record { lowers = lowest-kept a b r; back-early = not-back })))
+      (λ t. record { lowers = lowered a b r; back-early = λ z. e })
+      (λ t. cond-cases (ltb (at rows (a .place)) n) (λ k. Fits early (keepPrice v k)) (b .place) (a .place)
+      (λ u. record { lowers = second-kept a b r t; back-early = not-back })
+      (λ u. record { lowers = lowest-kept a b r; back-early = not-back })))
       (λ e. record { lowers = lowest-kept a b r; back-early = not-back })
 
 -- ---- the row at place s of the list takes column j
@@ -117,9 +121,9 @@ module _ (n : ℕ) (p : Pairs) (A : Agree n p) (frees : List ℕ) (In : ℕ → 
   -- A row that had a column has it still, or had j.
   others : (x : ℕ) → x ≢ i → Paired p x → Paired q x ⊎ (x ≡ at (p .rows) j)
   others x d m = elim (ℕ-discrete (at (p .cols) x) j) [
-      yes e ↦ inr (sym m ∙ ap (at (p .rows)) e)
+    | yes e ↦ inr (sym m ∙ ap (at (p .rows)) e)
     | no f ↦ inl (ap (at (q .rows)) (kc x d) ∙ kr (at (p .cols) x) f ∙ m)
-    ]
+  ]
 
   -- The rows at the other places have no column still.
   still-unpaired : (t : ℕ) → In t → t ≢ s → Unpaired n q (at frees t)
@@ -135,7 +139,7 @@ module _ (n : ℕ) (p : Pairs) (A : Agree n p) (frees : List ℕ) (In : ℕ → 
     once = λ t u a b e. L .once t u (out t a .0) (out u b .0) e;
     paired-or-listed = here-or-elsewhere (λ x. x < n → Paired q x ⊎ ((t : ℕ) × In′ t × (at frees t ≡ x))) i (λ l. inl taker)
         (λ x d l. ⊎-elim (λ m. ⊎-elim (λ y. inl y) (λ y. absurd (omega arith)) (others x d m))
-            (λ (y : (t : ℕ) × In t × (at frees t ≡ x)). inr (y .0, into (y .0) (y .1) (λ e. d (sym (y .2) ∙ ap (at frees) e)), y .2)) (L .paired-or-listed x l));
+        (λ (y : (t : ℕ) × In t × (at frees t ≡ x)). inr (y .0, into (y .0) (y .1) (λ e. d (sym (y .2) ∙ ap (at frees) e)), y .2)) (L .paired-or-listed x l));
   }
 
   -- A row held column j: it is listed at place r.
@@ -145,30 +149,32 @@ module _ (n : ℕ) (p : Pairs) (A : Agree n p) (frees : List ℕ) (In : ℕ → 
     row-below = here-or-elsewhere (λ t. In′ t → at new t < n) r (λ a. omega (arith, here)) (λ t d a. omega (arith, there t d, L .row-below t (out t a d .0)));
     unpaired = here-or-elsewhere (λ t. In′ t → Unpaired n q (at new t)) r
         (λ a. here-or-elsewhere (λ k. k < n → at (q .rows) k ≢ at new r) j
-            (λ l e. L .unpaired s is j lj (sym here ∙ sym e ∙ tr))
-            (λ k d l e.
-                let z : at (p .rows) k ≡ at (p .rows) j = sym (kr k d) ∙ e ∙ here in
-                d (sym (A .named-back k l (omega arith)) ∙ ap (at (p .cols)) z ∙ A .named-back j lj lh)))
+        (λ l e. L .unpaired s is j lj (sym here ∙ sym e ∙ tr))
+        (λ k d l e.
+        let z : at (p .rows) k ≡ at (p .rows) j = sym (kr k d) ∙ e ∙ here in
+        d (sym (A .named-back k l (omega arith)) ∙ ap (at (p .cols)) z ∙ A .named-back j lj lh)))
         (λ t d a k l e. still-unpaired t (out t a d .0) (out t a d .1) k l (e ∙ there t d));
     once = λ t u a b e. elim (ℕ-discrete t r) [
-        yes y ↦ elim (ℕ-discrete u r) [
-            yes y′ ↦ omega arith
-          | no d ↦ absurd (L .unpaired u (out u b d .0) j lj (sym here ∙ ap (at new) (sym y) ∙ e ∙ there u d))
-          ]
+      | yes y ↦ elim (ℕ-discrete u r) [
+        | yes y′ ↦ omega arith
+        | no d ↦ absurd (L .unpaired u (out u b d .0) j lj (sym here ∙ ap (at new) (sym y) ∙ e ∙ there u d))
+      ]
       | no d ↦ elim (ℕ-discrete u r) [
-            yes y ↦ absurd (L .unpaired t (out t a d .0) j lj (sym here ∙ ap (at new) (sym y) ∙ sym e ∙ there t d))
-          | no d′ ↦ L .once t u (out t a d .0) (out u b d′ .0) (sym (there t d) ∙ e ∙ there u d′)
-          ]
-      ];
+        | yes y ↦ absurd (L .unpaired t (out t a d .0) j lj (sym here ∙ ap (at new) (sym y) ∙ sym e ∙ there t d))
+        | no d′ ↦ L .once t u (out t a d .0) (out u b d′ .0) (sym (there t d) ∙ e ∙ there u d′)
+      ]
+    ];
     paired-or-listed = here-or-elsewhere (λ x. x < n → Paired q x ⊎ ((t : ℕ) × In′ t × (at new t ≡ x))) i (λ l. inl taker)
         (λ x d l. ⊎-elim (λ m. ⊎-elim (λ y. inl y) (λ y. inr (r, ir, here ∙ sym y)) (others x d m))
-            (λ (y : (t : ℕ) × In t × (at frees t ≡ x)).
-                let z = into (y .0) (y .1) (λ e. d (sym (y .2) ∙ ap (at frees) e)) in inr (y .0, z .0, there (y .0) (z .1) ∙ y .2)) (L .paired-or-listed x l));
+        (λ (y : (t : ℕ) × In t × (at frees t ≡ x)).
+        let z = into (y .0) (y .1) (λ e. d (sym (y .2) ∙ ap (at frees) e)) in inr (y .0, z .0, there (y .0) (z .1) ∙ y .2)) (L .paired-or-listed x l));
   }
     where
       new : List ℕ
       new = set frees r (at (p .rows) j)
+
       here : at (set frees r (at (p .rows) j)) r ≡ at (p .rows) j
       here = getD-set-same frees r (at (p .rows) j) 0 lr
+
       there : (t : ℕ) → t ≢ r → at (set frees r (at (p .rows) j)) t ≡ at frees t
       there t d = getD-set-other frees r t (at (p .rows) j) 0 d

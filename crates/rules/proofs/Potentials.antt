@@ -32,8 +32,18 @@ module _ (n : ℕ) (cost : ℕ → ℕ → ℤ) where
       paired-at-minimum = λ j l h. record {
         no-less = λ k m.
             let i = row j in
-            omega (zarith, S .relaxed j k l m h, reduced-lowered i j, reduced-lowered i k, sum (reduced cost v′ i j) (e j), sum (reduced cost v i j) μ,
-            sum (reduced cost v′ i k) (e k), sum (reduced cost v i k) μ, sum (e k) (reduced cost v i j), sum (e j) (reduced cost v i k));
+            omega (
+              zarith,
+              S .relaxed j k l m h,
+              reduced-lowered i j,
+              reduced-lowered i k,
+              sum (reduced cost v′ i j) (e j),
+              sum (reduced cost v i j) μ,
+              sum (reduced cost v′ i k) (e k),
+              sum (reduced cost v i k) μ,
+              sum (e k) (reduced cost v i j),
+              sum (e j) (reduced cost v i k),
+            );
       };
     }
 
@@ -53,6 +63,16 @@ module _ (n : ℕ) (cost : ℕ → ℕ → ℤ) where
     step-minimum S x j lx l h q = record {
       no-less = λ k m.
           let i = row x in
-          omega (zarith, still-fair S .paired-at-minimum x lx h .no-less k m, reduced-lowered i x, reduced-lowered i j, sum (reduced cost v′ i j) (e j),
-          sum (reduced cost v i j) μ, sum (reduced cost v′ i x) (e x), sum (reduced cost v i x) μ, sum (e j) (reduced cost v i x), sum (e x) (reduced cost v i j));
+          omega (
+            zarith,
+            still-fair S .paired-at-minimum x lx h .no-less k m,
+            reduced-lowered i x,
+            reduced-lowered i j,
+            sum (reduced cost v′ i j) (e j),
+            sum (reduced cost v i j) μ,
+            sum (reduced cost v′ i x) (e x),
+            sum (reduced cost v i x) μ,
+            sum (e j) (reduced cost v i x),
+            sum (e x) (reduced cost v i j),
+          );
     }

@@ -58,7 +58,7 @@ module _ (n : ℕ) (d : List ℤ) (list : List ℕ) (P : Permutation n list) (μ
       let y = price x j +ℤ (price d j -ℤ μ) in
       let here : price (raise d μ j x) j ≡ y = getD-set-same x j y (pos 0) (omega (arith, C .prices-size, P .injective .below m l)) in
       let there : (t : ℕ) → t < n → t ≢ m → price (raise d μ j x) (at list t) ≡ price x (at list t) =
-          λ t k f. getD-set-other x j (at list t) y (pos 0) (λ e. f (P .injective .once t m k l e)) in
+      λ t k f. getD-set-other x j (at list t) y (pos 0) (λ e. f (P .injective .once t m k l e)) in
       record {
         prices-size = length-set x j y ∙ C .prices-size;
         changed = below-suc (λ t. price (raise d μ j x) (at list t) ≡ price v (at list t) +ℤ (price d (at list t) -ℤ μ))
@@ -111,8 +111,17 @@ module _ (n : ℕ) (cost : ℕ → ℕ → ℤ) (v : List ℤ) (row : ℕ → �
       near t k a l =
           let A = reduced cost (price v) (row (place w t)) (place w t) in
           let B = reduced cost (price v) (row (place w t)) k in
-          omega (zarith, lesser-both (far w k) μ .0, lesser-first (far w (place w t)) μ (E .low t a), E .relaxed t a k l, sum (e k) A, sum (far w k) A,
-          sum (e (place w t)) B, sum (far w (place w t)) B)
+          omega (
+            zarith,
+            lesser-both (far w k) μ .0,
+            lesser-first (far w (place w t)) μ (E .low t a),
+            E .relaxed t a k l,
+            sum (e k) A,
+            sum (far w k) A,
+            sum (e (place w t)) B,
+            sum (far w (place w t)) B,
+          )
+
       beyond : (t k : ℕ) → f .ready ≤ t → t < n → k < n → row (place w t) < n
           → (e k +ℤ reduced cost (price v) (row (place w t)) (place w t)) ≤ℤ (e (place w t) +ℤ reduced cost (price v) (row (place w t)) k)
       beyond t k a m l h =
@@ -124,12 +133,12 @@ module _ (n : ℕ) (cost : ℕ → ℕ → ℤ) (v : List ℤ) (row : ℕ → �
   -- The list has the lowered prices.
   new-price : (k : ℕ) → k < n → price v′ k ≡ lowered n cost (price v) e μ k
   new-price k l = let P = where-is k l in subst (λ (x : ℕ). price v′ x ≡ lowered n cost (price v) e μ x) (P .2) (elim (lt-or-le (P .0) (f .ready)) [
-      inl a ↦ changed-ok .changed (P .0) a
-          ∙ ap (λ z. price v (place w (P .0)) +ℤ (z -ℤ μ)) (sym (lesser-first (far w (place w (P .0))) μ (E .low (P .0) a)))
+    | inl a ↦ changed-ok .changed (P .0) a
+        ∙ ap (λ z. price v (place w (P .0)) +ℤ (z -ℤ μ)) (sym (lesser-first (far w (place w (P .0))) μ (E .low (P .0) a)))
     | inr a ↦ let x = place w (P .0) in
         changed-ok .unchanged (P .0) a (P .1)
         ∙ omega (zarith, lesser-second (far w x) μ (E .high (P .0) a (P .1)), dif (e x) μ, sum (price v x) (e x -ℤ μ))
-    ])
+  ])
 
   -- At the minimum with the lowered prices, so with the list's.
   to-list : (i k : ℕ) → k < n → AtMinimum n cost (lowered n cost (price v) e μ) i k → AtMinimum n cost (price v′) i k
@@ -153,9 +162,9 @@ module _ (n : ℕ) (cost : ℕ → ℕ → ℤ) (v : List ℤ) (row : ℕ → �
 
   pub free-same : (k : ℕ) → k < n → n ≤ row k → price v′ k ≡ price v k
   free-same k l h = let P = where-is k l in elim (lt-or-le (P .0) (f .ready)) [
-      inl a ↦ absurd (omega (arith, E .paired (P .0) a, ap row (P .2)))
+    | inl a ↦ absurd (omega (arith, E .paired (P .0) a, ap row (P .2)))
     | inr a ↦ new-same k l (subst (λ (x : ℕ). μ ≤ℤ far w x) (P .2) (E .high (P .0) a (P .1)))
-    ]
+  ]
 
   -- A column that lies at μ or nearer: the row that leads to it sits at its minimum there.
   pub leads-minimum : (k : ℕ) → k < n → far w k ≤ℤ μ → AtMinimum n cost (price v′) (at (w .predecessors) k) k
@@ -166,12 +175,12 @@ module _ (n : ℕ) (cost : ℕ → ℕ → ℤ) (v : List ℤ) (row : ℕ → �
       go : (t : ℕ) → t < n → far w (place w t) ≤ℤ μ → AtMinimum n cost (lowered n cost (price v) e μ) (at (w .predecessors) (place w t)) (place w t)
       go t m h = ⊎-elim
           (λ a. subst (λ (i : ℕ). AtMinimum n cost (lowered n cost (price v) e μ) i (place w t)) (sym (a .leads))
-            (start-minimum n cost (price v) row s e μ settled (place w t) (E .sound .permutation .injective .below t m) (lesser-first (far w (place w t)) μ h ∙ a .exact)))
+          (start-minimum n cost (price v) row s e μ settled (place w t) (E .sound .permutation .injective .below t m) (lesser-first (far w (place w t)) μ h ∙ a .exact)))
           (λ (a : (u : ℕ) × (u < t) × ((row (place w u) < n) × (far w (place w u) ≤ℤ μ)) × FromColumn n cost (price v) row s floor w (place w u) (place w t)).
-            let x = place w (a .0) in
-            let lx : x < n = E .sound .permutation .injective .below (a .0) (omega (arith, a .1)) in
-            subst (λ (i : ℕ). AtMinimum n cost (lowered n cost (price v) e μ) i (place w t)) (sym (a .3 .leads))
-            (step-minimum n cost (price v) row s e μ settled x (place w t) lx (E .sound .permutation .injective .below t m) (a .2 .0)
-              (ap (λ z. z +ℤ reduced cost (price v) (row x) x) (lesser-first (far w (place w t)) μ h) ∙ a .3 .exact
-                ∙ ap (λ z. z +ℤ reduced cost (price v) (row x) (place w t)) (sym (lesser-first (far w x) μ (a .2 .1))))))
+          let x = place w (a .0) in
+          let lx : x < n = E .sound .permutation .injective .below (a .0) (omega (arith, a .1)) in
+          subst (λ (i : ℕ). AtMinimum n cost (lowered n cost (price v) e μ) i (place w t)) (sym (a .3 .leads))
+          (step-minimum n cost (price v) row s e μ settled x (place w t) lx (E .sound .permutation .injective .below t m) (a .2 .0)
+          (ap (λ z. z +ℤ reduced cost (price v) (row x) x) (lesser-first (far w (place w t)) μ h) ∙ a .3 .exact
+          ∙ ap (λ z. z +ℤ reduced cost (price v) (row x) (place w t)) (sym (lesser-first (far w x) μ (a .2 .1))))))
           (E .root t m)

@@ -48,17 +48,17 @@ module _ (n : ℕ) (cost : ℕ → ℕ → ℤ) (one : 1 ≤ n) (K : ℕ) (costs
     looks-ok x X m =
         upward-keeps P 0 m (λ k y. cond (ltb (y .pass .current) F) (look n cost y) y) x (omega arith) X
         (λ k y a l Y. cond-cases (ltb (y .pass .current) F) (P (suc k)) (look n cost y) y
-            (λ t. let c : y .pass .current < F = ltb-true (y .pass .current) F t in
-                look-ok n cost one K costs F lF y k Y c (⊎-elim (λ e. e) (λ e. absurd (omega arith)) (Y .each-looks)))
-            (λ t. stays k y Y (ltb-false (y .pass .current) F t)))
+        (λ t. let c : y .pass .current < F = ltb-true (y .pass .current) F t in
+        look-ok n cost one K costs F lF y k Y c (⊎-elim (λ e. e) (λ e. absurd (omega arith)) (Y .each-looks)))
+        (λ t. stays k y Y (ltb-false (y .pass .current) F t)))
 
     -- After F * n turns all rows are done.
     pub looks-done : (x : Passing) → P (F * n) x → x .pass .current ≡ F
     looks-done x X = ⊎-elim
         (λ e. elim (lt-or-le (x .pass .current) F) [
-            inl l ↦ absurd (omega (arith, X .looks-now l, mul-le-mul-right n l, add-one (x .pass .current)))
+          | inl l ↦ absurd (omega (arith, X .looks-now l, mul-le-mul-right n l, add-one (x .pass .current)))
           | inr l ↦ omega (arith, X .current-few)
-          ])
+        ])
         (λ e. omega (arith, X .current-few)) (X .each-looks)
 
   -- ---- a pass
@@ -118,7 +118,7 @@ module _ (n : ℕ) (cost : ℕ → ℕ → ℤ) (one : 1 ≤ n) (K : ℕ) (costs
               once = λ t u a b. X .listed .once t u (inl a) (inl b);
               paired-or-listed = λ i l. ⊎-elim (λ a. inl a)
                   (λ (a : (t : ℕ) × ((t < x .pass .left) ⊎ ((x .pass .current ≤ t) × (t < F))) × (at (x .frees) t ≡ i)).
-                      inr (a .0, ⊎-elim (λ b. b) (λ b. absurd (omega (arith, b .0, b .1))) (a .1), a .2)) (X .listed .paired-or-listed i l);
+                  inr (a .0, ⊎-elim (λ b. b) (λ b. absurd (omega (arith, b .0, b .1))) (a .1), a .2)) (X .listed .paired-or-listed i l);
             };
           };
           all-looked-at = e;

@@ -81,9 +81,9 @@ module _ (n : ℕ) (cost : ℕ → ℕ → ℤ) (one : 1 ≤ n) (K : ℕ) (costs
   -- Some column is at -3K or more.
   some-three : (k : ℕ) × (k < n) × NotBelow (3 * K) (price v k)
   some-three = elim (ℕ-discrete n 1) [
-      yes e ↦ (0, one, record { low = omega (zlin, κ .single e 0 one, first-low n cost one K costs 0 .low) })
+    | yes e ↦ (0, one, record { low = omega (zlin, κ .single e 0 one, first-low n cost one K costs 0 .low) })
     | no d ↦ let o = another (omega arith) (κ .bounds .one) in (o .0, o .1, κ .bounds .others-low (o .0) (o .1) (o .2))
-    ]
+  ]
 
   -- Row prices are in 0..4K.
   pub row-price-between : (i j : ℕ) → i < n → j < n → AtMinimum n cost (price v) i j → Between 0 (4 * K) (reduced cost (price v) i j)
@@ -151,7 +151,7 @@ module _ (n : ℕ) (costs : List ℤ) (K : ℕ) (within : (k : ℕ) → Within K
           row-prices-between = λ i l.
               subst (Between 0 (4 * K)) (sym (getD-table n (λ i. reduced cost′ (price v) i (at (p .cols) i)) (pos 0) i l))
               (row-price-between n cost′ one K (λ i j. within (i * n + j)) p v κ i (at (p .cols) i) l (κ .agree .cols-below i l)
-                (paired-minimum n costs p v (κ .agree) (κ .fair) (L .all-paired) i l));
+              (paired-minimum n costs p v (κ .agree) (κ .fair) (L .all-paired) i l));
           total-is = refl;
         }
 

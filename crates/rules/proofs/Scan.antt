@@ -138,18 +138,28 @@ module _ (n : ℕ) (cost : ℕ → ℕ → ℤ) (v : ℕ → ℤ) (row : ℕ →
                 let B = R (row (place w t)) y in
                 omega (zarith, fh t b, less y, I .relaxed t a b y m, sum (far q y) A, sum (far w y) A, sum (far q (place w t)) B, sum (far w (place w t)) B);
             root = here-or-elsewhere (λ t. t < n → Root q (λ u. u < w .hi) t (place w t)) k
-                (λ m. inr (k₀, omega (arith, M .to, M .in-block), M .in-block, record {
+                (λ m. inr (
+                  k₀,
+                  omega (arith, M .to, M .in-block),
+                  M .in-block,
+                  record {
                     leads = ps ∙ ap row (sym (M .here));
                     exact = subst (λ (y : ℕ). far q j +ℤ R (row y) y ≡ far q (place w k₀) +ℤ R (row y) j) (sym (M .here))
                         (ap (λ y. y +ℤ R i₀ j₀) fs ∙ e ∙ ap (λ y. y +ℤ R i₀ j) (sym (fh k₀ (M .in-block) ∙ μ₀)));
-                  }))
+                  },
+                ))
                 (λ t d m. ⊎-elim (λ a. inl (record { leads = po (place w t) (apart t m d) ∙ a .leads; exact = ft t m d ∙ a .exact }))
-                    (λ (a : (u : ℕ) × (u < t) × (u < w .hi) × FromColumn w (place w u) (place w t)). inr (a .0, a .1, a .2, record {
-                        leads = po (place w t) (apart t m d) ∙ a .3 .leads;
-                        exact = let y = place w (a .0) in
-                            ap (λ z. z +ℤ R (row y) y) (ft t m d) ∙ a .3 .exact ∙ ap (λ z. z +ℤ R (row y) (place w t)) (sym (fh (a .0) (a .2)));
-                      }))
-                    (I .root t m));
+                (λ (a : (u : ℕ) × (u < t) × (u < w .hi) × FromColumn w (place w u) (place w t)). inr (
+                  a .0,
+                  a .1,
+                  a .2,
+                  record {
+                    leads = po (place w t) (apart t m d) ∙ a .3 .leads;
+                    exact = let y = place w (a .0) in
+                        ap (λ z. z +ℤ R (row y) y) (ft t m d) ∙ a .3 .exact ∙ ap (λ z. z +ℤ R (row y) (place w t)) (sym (fh (a .0) (a .2)));
+                  },
+                ))
+                (I .root t m));
           };
           here = M .here;
           in-block = M .in-block;
@@ -176,16 +186,20 @@ module _ (n : ℕ) (cost : ℕ → ℕ → ℤ) (v : ℕ → ℤ) (row : ℕ →
         let sl : (t : ℕ) → t < b → place q t ≡ place w t = λ t m. so t (λ z. omega arith) (λ z. omega arith) in
         -- what holds of the columns at k, at b and at t holds of the one that stands at t then
         let move : (P : ℕ → Type 0) (t : ℕ) → P (place w k) → P (place w b) → P (place w t) → P (place q t) = λ P t pk pb pt. elim (ℕ-discrete t b) [
-            yes z ↦ subst (λ (y : ℕ). P (place q y)) (sym z) (subst P (sym sb) pk)
+          | yes z ↦ subst (λ (y : ℕ). P (place q y)) (sym z) (subst P (sym sb) pk)
           | no d ↦ elim (ℕ-discrete t k) [
-              yes z ↦ subst (λ (y : ℕ). P (place q y)) (sym z) (subst P (sym sa) pb)
+            | yes z ↦ subst (λ (y : ℕ). P (place q y)) (sym z) (subst P (sym sa) pb)
             | no f ↦ subst P (sym (so t f d)) pt
-            ]
-          ] in
+          ]
+        ] in
         let roots : (t u y : ℕ) → ((x : ℕ) → x < t → x < b → x < u) → Root w (λ x. x < b) t y → Root q (λ x. x < b + 1) u y = λ t u y f. ⊎-elim
-            (λ a. inl (record { leads = a .leads; exact = a .exact }))
-            (λ (a : (x : ℕ) × (x < t) × (x < b) × FromColumn w (place w x) y). inr (a .0, f (a .0) (a .1) (a .2), omega (arith, a .2),
-              subst (λ (z : ℕ). FromColumn q z y) (sym (sl (a .0) (a .2))) (record { leads = a .3 .leads; exact = a .3 .exact }))) in
+        (λ a. inl (record { leads = a .leads; exact = a .exact }))
+        (λ (a : (x : ℕ) × (x < t) × (x < b) × FromColumn w (place w x) y). inr (
+          a .0,
+          f (a .0) (a .1) (a .2),
+          omega (arith, a .2),
+          subst (λ (z : ℕ). FromColumn q z y) (sym (sl (a .0) (a .2))) (record { leads = a .3 .leads; exact = a .3 .exact }),
+        )) in
         record {
           scanning = record {
             sound = record {
@@ -197,32 +211,32 @@ module _ (n : ℕ) (cost : ℕ → ℕ → ℤ) (v : ℕ → ℤ) (row : ℕ →
             };
             order = omega (arith, I .order);
             paired = λ t m. elim (ℕ-discrete t b) [
-                yes z ↦ subst (λ (y : ℕ). row (place q y) < n) (sym z) (subst (λ (y : ℕ). row y < n) (sym sb) h)
+              | yes z ↦ subst (λ (y : ℕ). row (place q y) < n) (sym z) (subst (λ (y : ℕ). row y < n) (sym sb) h)
               | no d ↦ subst (λ (y : ℕ). row y < n) (sym (sl t (omega arith))) (I .paired t (omega arith))
-              ];
+            ];
             low = λ t m. elim (ℕ-discrete t b) [
-                yes z ↦ omega (zarith, ap (λ (y : ℕ). far w (place q y)) z, ap (far w) sb)
+              | yes z ↦ omega (zarith, ap (λ (y : ℕ). far w (place q y)) z, ap (far w) sb)
               | no d ↦ omega (zarith, ap (far w) (sl t (omega arith)), I .low t (omega arith))
-              ];
+            ];
             level = λ t a m. elim (ℕ-discrete t b) [
-                yes z ↦ ap (λ (y : ℕ). far w (place q y)) z ∙ ap (far w) sb ∙ e
+              | yes z ↦ ap (λ (y : ℕ). far w (place q y)) z ∙ ap (far w) sb ∙ e
               | no d ↦ ap (far w) (sl t (omega arith)) ∙ I .level t a (omega arith)
-              ];
+            ];
             high = λ t a m. move (λ y. μ ≤ℤ far w y) t (omega zarith) (I .high b (omega arith) lb) (I .high t (omega arith) m);
             relaxed = λ t a m. subst (Relaxed q) (sym (sl t (omega (arith, M .in-block, I .order)))) (I .relaxed t a (omega (arith, M .in-block)));
             root = λ t m. elim (lt-or-le t b) [
-                inl a ↦ subst (Root q (λ x. x < b + 1) t) (sym (sl t a)) (roots t t (place w t) (λ x y z. y) (I .root t m))
+              | inl a ↦ subst (Root q (λ x. x < b + 1) t) (sym (sl t a)) (roots t t (place w t) (λ x y z. y) (I .root t m))
               | inr a ↦ move (Root q (λ x. x < b + 1) t) t (roots k t (place w k) (λ x y z. omega arith) (I .root k l))
                   (roots b t (place w b) (λ x y z. omega arith) (I .root b lb)) (roots t t (place w t) (λ x y z. y) (I .root t m))
-              ];
+            ];
           };
           here = sl k₀ (M .in-block) ∙ M .here;
           in-block = omega (arith, M .in-block);
           to = omega arith;
           seen = λ t m. elim (lt-or-le t b) [
-              inl a ↦ subst (λ (y : ℕ). (far w y +ℤ R i₀ j₀) ≤ℤ (μ +ℤ R i₀ y)) (sym (sl t a)) (M .seen t m)
+            | inl a ↦ subst (λ (y : ℕ). (far w y +ℤ R i₀ j₀) ≤ℤ (μ +ℤ R i₀ y)) (sym (sl t a)) (M .seen t m)
             | inr a ↦ move (λ y. (far w y +ℤ R i₀ j₀) ≤ℤ (μ +ℤ R i₀ y)) t (M .seen k (omega arith)) (M .seen b (omega arith)) (M .seen t m)
-            ];
+          ];
           counted = M .counted;
         }
 
@@ -231,46 +245,53 @@ module _ (n : ℕ) (cost : ℕ → ℕ → ℤ) (v : ℕ → ℤ) (row : ℕ →
     scanColumn-ok k w M l =
         cond-cases (ltZ x (far w j)) G (afterLowering n cost v row μ k j x q) (on w)
         (λ a. cond-cases (same x μ) G (cond (ltb (row j) n) (on (join q k)) (left (record { column = j; work = q }))) (on q)
-            (λ b. cond-cases (ltb (row j) n) G (on (join q k)) (left (record { column = j; work = q }))
-                (λ d. goes-on (joins k q (low a) (M .to .0) l (ltb-true (row j) n d) (fs ∙ same-true x μ b)))
-                (λ d. is-left (record {
-                    scanning = low a .scanning;
-                    in-block = M .in-block;
-                    stands = (k, l, M .to .0, refl);
-                    is-free = ltb-false (row j) n d;
-                    distance = fs ∙ same-true x μ b;
-                    counted = M .counted;
-                  })))
-            (λ b. goes-on (low a)))
+        (λ b. cond-cases (ltb (row j) n) G (on (join q k)) (left (record { column = j; work = q }))
+        (λ d. goes-on (joins k q (low a) (M .to .0) l (ltb-true (row j) n d) (fs ∙ same-true x μ b)))
+        (λ d. is-left (record {
+          scanning = low a .scanning;
+          in-block = M .in-block;
+          stands = (k, l, M .to .0, refl);
+          is-free = ltb-false (row j) n d;
+          distance = fs ∙ same-true x μ b;
+          counted = M .counted;
+        })))
+        (λ b. goes-on (low a)))
         (λ a. goes-on (record {
-            scanning = M .scanning;
-            here = M .here;
-            in-block = M .in-block;
-            to = omega (arith, M .to);
-            seen = here-or-elsewhere (λ t. t < suc k → (far w (place w t) +ℤ R i₀ j₀) ≤ℤ (μ +ℤ R i₀ (place w t))) k
-                (λ m. omega (zarith, lowered-exact j, sum x (R i₀ j₀), sum (far w j) (R i₀ j₀)))
-                (λ t d m. M .seen t (omega arith));
-            counted = M .counted;
-          }))
+          scanning = M .scanning;
+          here = M .here;
+          in-block = M .in-block;
+          to = omega (arith, M .to);
+          seen = here-or-elsewhere (λ t. t < suc k → (far w (place w t) +ℤ R i₀ j₀) ≤ℤ (μ +ℤ R i₀ (place w t))) k
+              (λ m. omega (zarith, lowered-exact j, sum x (R i₀ j₀), sum (far w j) (R i₀ j₀)))
+              (λ t d m. M .seen t (omega arith));
+          counted = M .counted;
+        }))
       where
         G : Turn Work Hit → Type 0
         G = Either (Seeing ready k₀ μ j₀ c (suc k)) (Reaches ready k₀ μ c)
+
         j : ℕ
         j = place w k
+
         x : ℤ
         x = R i₀ j -ℤ (R i₀ j₀ -ℤ μ)
+
         q : Work
         q = reachBy w i₀ j x
+
         lj : j < n
         lj = M .scanning .sound .permutation .injective .below k l
+
         fs : far q j ≡ x
         fs = getD-set-same (w .distances) j x (pos 0) (omega (arith, M .scanning .sound .distances-size, lj))
+
         no-less : R i₀ j₀ ≤ℤ R i₀ j
         no-less =
             let e = M .here in
             let l₀ : j₀ < n = subst (λ (y : ℕ). y < n) e (M .scanning .sound .permutation .injective .below k₀ (omega (arith, M .to, M .in-block))) in
             let h₀ : row j₀ < n = subst (λ (y : ℕ). row y < n) e (M .scanning .paired k₀ (M .in-block)) in
             F .paired-at-minimum j₀ l₀ h₀ .no-less j lj
+
         low : ltZ x (far w j) ≡ true → Seeing ready k₀ μ j₀ c (suc k) q
         low a =
             lowers k w x M l (omega zarith)

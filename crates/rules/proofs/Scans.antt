@@ -64,7 +64,7 @@ module _ (n : ℕ) (cost : ℕ → ℕ → ℤ) (v : ℕ → ℤ) (row : ℕ →
           relaxed = I .relaxed;
           root = λ t m. ⊎-elim (λ a. inl (record { leads = a .leads; exact = a .exact }))
               (λ (a : (u : ℕ) × (u < t) × (u < w .hi) × FromColumn n cost v row s floor w (place w u) (place w t)).
-                  inr (a .0, a .1, a .2, record { leads = a .3 .leads; exact = a .3 .exact })) (I .root t m);
+              inr (a .0, a .1, a .2, record { leads = a .3 .leads; exact = a .3 .exact })) (I .root t m);
         };
         here = refl;
         in-block = l;
@@ -73,8 +73,8 @@ module _ (n : ℕ) (cost : ℕ → ℕ → ℤ) (v : ℕ → ℤ) (row : ℕ →
             let a = R n cost v row s floor (row j) j in
             let b = R n cost v row s floor (row j) (place w t) in
             let no-less : a ≤ℤ b =
-                F .paired-at-minimum j (S .permutation .injective .below k (omega (arith, I .order))) (I .paired k l) .no-less (place w t)
-                (S .permutation .injective .below t (omega (arith, I .order))) in
+            F .paired-at-minimum j (S .permutation .injective .below k (omega (arith, I .order))) (I .paired k l) .no-less (place w t)
+            (S .permutation .injective .below t (omega (arith, I .order))) in
             omega (zarith, I .low t m, sum (far w (place w t)) a, sum μ b);
         counted = refl;
       }
@@ -100,7 +100,7 @@ module _ (n : ℕ) (cost : ℕ → ℕ → ℤ) (v : ℕ → ℤ) (row : ℕ →
           let r = reached (M .scanning .sound .permutation .injective) y m in
           let e : far w (place w k) ≡ μ = M .scanning .level k (M .scanning .order .0) (M .in-block) in
           let p : (far w y +ℤ R n cost v row s floor (row j) j) ≤ℤ (μ +ℤ R n cost v row s floor (row j) y) =
-              subst (λ (x : ℕ). (far w x +ℤ R n cost v row s floor (row j) j) ≤ℤ (μ +ℤ R n cost v row s floor (row j) x)) (r .2) (M .seen (r .0) (r .1)) in
+          subst (λ (x : ℕ). (far w x +ℤ R n cost v row s floor (row j) j) ≤ℤ (μ +ℤ R n cost v row s floor (row j) x)) (r .2) (M .seen (r .0) (r .1)) in
           subst (λ (z : ℤ). (far w y +ℤ R n cost v row s floor (row (place w k)) (place w k)) ≤ℤ (z +ℤ R n cost v row s floor (row (place w k)) y)) (sym e)
           (subst (λ (x : ℕ). (far w y +ℤ R n cost v row s floor (row x) x) ≤ℤ (μ +ℤ R n cost v row s floor (row x) y)) (sym (M .here)) p)
 
@@ -114,20 +114,20 @@ module _ (n : ℕ) (cost : ℕ → ℕ → ℤ) (v : ℕ → ℤ) (row : ℕ →
       let P : ℕ → Work → Type 0 = Seeing n cost v row s floor ready k μ j c in
       let Q : Hit → Type 0 = Reaches n cost v row s floor ready k μ c in
       let run : Either (P n) Q (until (w .hi) n (scanColumn n cost v row μ (R n cost v row s floor (row j) j -ℤ μ) (row j)) (countOne w)) =
-          until-keeps P Q (w .hi) n (scanColumn n cost v row μ (R n cost v row s floor (row j) j -ℤ μ) (row j)) (countOne w) (I .order .2) (see-start k w I l)
-          (λ t x a m M. scanColumn-ok n cost v row s floor F ready k μ j c t x M m) in
+      until-keeps P Q (w .hi) n (scanColumn n cost v row μ (R n cost v row s floor (row j) j -ℤ μ) (row j)) (countOne w) (I .order .2) (see-start k w I l)
+      (λ t x a m M. scanColumn-ok n cost v row s floor F ready k μ j c t x M m) in
       either-map
       (subst (λ (y : ℤ). Either (P n) Q (until (w .hi) n (scanColumn n cost v row y (R n cost v row s floor (row j) j -ℤ y) (row j)) (countOne w))) (sym e) run)
       (λ x M. record {
-          scanning = see-end k j c x M;
-          counted-few = omega (arith, M .counted, D .counted-few);
-          counted-in-block = omega (arith, M .counted, D .counted-few, M .in-block);
-        })
+        scanning = see-end k j c x M;
+        counted-few = omega (arith, M .counted, D .counted-few);
+        counted-in-block = omega (arith, M .counted, D .counted-few, M .in-block);
+      })
       (λ h X. record {
-          at-place = k;
-          reaches = subst (λ (z : ℕ). Reaches n cost v row s floor ready k μ z h) (sym (X .counted)) X;
-          counted-few = omega (arith, X .counted, D .counted-few, X .in-block, X .stands .1, X .stands .2);
-        })
+        at-place = k;
+        reaches = subst (λ (z : ℕ). Reaches n cost v row s floor ready k μ z h) (sym (X .counted)) X;
+        counted-few = omega (arith, X .counted, D .counted-few, X .in-block, X .stands .1, X .stands .2);
+      })
 
   -- The block's columns from place lo on.
   pub scan-ok : (lo : ℕ) (w : Work) → lo ≤ n → C lo w → Either (C n) L (scan n cost v row lo w)
@@ -135,8 +135,8 @@ module _ (n : ℕ) (cost : ℕ → ℕ → ℤ) (v : ℕ → ℤ) (row : ℕ →
   scan-ok lo w l D =
       until-keeps C L lo n (λ k x. cond (ltb k (x .hi)) (scanRow n cost v row k x) (on x)) w l D
       (λ k x a m E. cond-cases (ltb k (x .hi)) (Either (C (suc k)) L) (scanRow n cost v row k x) (on x)
-          (λ t. scanRow-ok k x E (ltb-true k (x .hi) t))
-          (λ t. goes-on (past k x E (ltb-false k (x .hi) t))))
+      (λ t. scanRow-ok k x E (ltb-true k (x .hi) t))
+      (λ t. goes-on (past k x E (ltb-false k (x .hi) t))))
     where
       past : (k : ℕ) (x : Work) → C k x → x .hi ≤ k → C (suc k) x
       past k x D h = let I = D .scanning in record {

@@ -45,8 +45,8 @@ module _ (n : ℕ) (row : ℕ → ℕ) (list : List ℕ) (lo : ℕ) where
   lastFree-ok cost v hi h =
       upward-keeps Sought lo hi (λ k found. cond (ltb (row (at list k)) n) found (At (at list k))) NoneYet h (λ t a m. absurd (omega arith))
       (λ k o a m S. cond-cases (ltb (row (at list k)) n) (Sought (suc k)) o (At (at list k))
-          (λ e. more-sought k o (ltb-true (row (at list k)) n e) S)
-          (λ e. (k, a, omega arith, refl, ltb-false (row (at list k)) n e)))
+      (λ e. more-sought k o (ltb-true (row (at list k)) n e) S)
+      (λ e. (k, a, omega arith, refl, ltb-false (row (at list k)) n e)))
 
 module _ (n : ℕ) (cost : ℕ → ℕ → ℤ) (v : ℕ → ℤ) (row : ℕ → ℕ) (s : ℕ) (floor : ℤ) where
   -- Between two blocks: the columns before hi are settled.
@@ -115,15 +115,19 @@ module _ (n : ℕ) (cost : ℕ → ℕ → ℤ) (v : ℕ → ℤ) (row : ℕ →
 
     carry : (t t′ y : ℕ) → ((u : ℕ) → u < t → u < lo → u < t′) → Root n cost v row s floor w (λ u. u < lo) t y → Root n cost v row s floor q (λ u. u < lo) t′ y
     carry t t′ y g = ⊎-elim (λ a. inl (record { leads = a .leads; exact = a .exact }))
-        (λ (a : (u : ℕ) × (u < t) × (u < lo) × FromColumn n cost v row s floor w (place w u) y). inr (a .0, g (a .0) (a .1) (a .2), a .2,
-          subst (λ (x : ℕ). FromColumn n cost v row s floor q x y) (sym (kept (a .0) (a .2))) (record { leads = a .3 .leads; exact = a .3 .exact })))
+        (λ (a : (u : ℕ) × (u < t) × (u < lo) × FromColumn n cost v row s floor w (place w u) y). inr (
+          a .0,
+          g (a .0) (a .1) (a .2),
+          a .2,
+          subst (λ (x : ℕ). FromColumn n cost v row s floor q x y) (sym (kept (a .0) (a .2))) (record { leads = a .3 .leads; exact = a .3 .exact }),
+        ))
 
     root-b : (t : ℕ) → t < n → Root n cost v row s floor q (λ u. u < lo) t (place q t)
     root-b t m = elim (lt-or-le t lo) [
-        inl a ↦ subst (Root n cost v row s floor q (λ u. u < lo) t) (sym (kept t a)) (carry t t (place w t) (λ u x y. x) (H .root t m))
+      | inl a ↦ subst (Root n cost v row s floor q (λ u. u < lo) t) (sym (kept t a)) (carry t t (place w t) (λ u x y. x) (H .root t m))
       | inr a ↦ let F = isB .from-after t a m in
           subst (Root n cost v row s floor q (λ u. u < lo) t) (sym (F .3)) (carry (F .0) t (place w (F .0)) (λ u x y. omega arith) (H .root (F .0) (F .2)))
-      ]
+    ]
 
     relaxed-b : (t : ℕ) → t < lo → Relaxed n cost v row s floor q (place q t)
     relaxed-b t a = subst (Relaxed n cost v row s floor q) (sym (kept t a)) (H .relaxed t a)
@@ -144,7 +148,7 @@ module _ (n : ℕ) (cost : ℕ → ℕ → ℤ) (v : ℕ → ℤ) (row : ℕ →
         relaxed = λ t a m. relaxed-b t a;
         root = λ t m. ⊎-elim (λ a. inl a)
             (λ (a : (u : ℕ) × (u < t) × (u < lo) × FromColumn n cost v row s floor q (place q u) (place q t)).
-                inr (a .0, a .1, omega (arith, a .2, isB .order), a .3)) (root-b t m);
+            inr (a .0, a .1, omega (arith, a .2, isB .order), a .3)) (root-b t m);
       };
       counted-few = H .counted-few;
       counted-in-block = omega (arith, H .counted-few, isB .order);
@@ -163,7 +167,7 @@ module _ (n : ℕ) (cost : ℕ → ℕ → ℤ) (v : ℕ → ℤ) (row : ℕ →
       relaxed = relaxed-b;
       root = λ x y. ⊎-elim (λ e. inl e)
           (λ (e : (u : ℕ) × (u < x) × (u < lo) × FromColumn n cost v row s floor q (place q u) (place q x)).
-              inr (e .0, e .1, (paired-b (e .0) (e .2), low-b (e .0) (e .2)), e .3)) (root-b x y);
+          inr (e .0, e .1, (paired-b (e .0) (e .2), low-b (e .0) (e .2)), e .3)) (root-b x y);
       stands = (t, omega (arith, isB .order), refl);
       is-free = f;
       distance = isB .at-least t a m;
@@ -188,7 +192,7 @@ module _ (n : ℕ) (cost : ℕ → ℕ → ℤ) (v : ℕ → ℤ) (row : ℕ →
         relaxed = λ t m. I .relaxed t (omega (arith, I .order)) (omega (arith, I .order));
         root = λ t m. ⊎-elim (λ e. inl e)
             (λ (e : (u : ℕ) × (u < t) × (u < w .hi) × FromColumn n cost v row s floor w (place w u) (place w t)).
-                inr (e .0, e .1, (I .paired (e .0) (e .2), I .low (e .0) (e .2)), e .3)) (I .root t m);
+            inr (e .0, e .1, (I .paired (e .0) (e .2), I .low (e .0) (e .2)), e .3)) (I .root t m);
         stands = let P = X .reaches .stands in (P .0, P .1, P .3);
         is-free = X .reaches .is-free;
         distance = X .reaches .distance;
@@ -214,8 +218,8 @@ module _ (n : ℕ) (cost : ℕ → ℕ → ℤ) (v : ℕ → ℤ) (row : ℕ →
     head-open w H =
         let P = reached (H .sound .permutation .injective) y ly in
         elim (lt-or-le (P .0) (w .hi)) [
-          inl a ↦ absurd (omega (arith, H .paired (P .0) a, ap row (P .2)))
-        | inr a ↦ omega (arith, P .1)
+          | inl a ↦ absurd (omega (arith, H .paired (P .0) a, ap row (P .2)))
+          | inr a ↦ omega (arith, P .1)
         ]
 
     -- One block: at least one column more is settled, or the search is left.
@@ -224,14 +228,18 @@ module _ (n : ℕ) (cost : ℕ → ℕ → ℤ) (v : ℕ → ℤ) (row : ℕ →
       where
         l : w .hi < n
         l = head-open w H
+
         after : (t : Turn Work Hit) → Either (Counted n cost v row s floor (w .hi) (b w H l .minimum) n) (LeftAt n cost v row s floor (w .hi) (b w H l .minimum)) t
             → Either (λ x. Head x × (w .hi < x .hi)) Good (afterScan n cost v row (w .hi) (q w H l .hi) t)
         after (on x) (goes-on C) = goes-on (scanned-head (w .hi) (b w H l .minimum) x C, C .scanning .order .1)
         after (left h) (is-left X) = is-left (b w H l .minimum, hit-end (w .hi) (q w H l .hi) (b w H l .minimum) h X)
+
         by : (o : LastFree) → Sought n row (q w H l .list) (w .hi) (q w H l .hi) o → Either (λ x. Head x × (w .hi < x .hi)) Good (afterBlock n cost v row (w .hi) (q w H l) o)
-        by (At j) S = is-left (b w H l .minimum,
-            subst (λ (x : ℕ). Ended (found n cost v row (w .hi) (record { lo = w .hi; hi = q w H l .hi }) x (q w H l)) (b w H l .minimum)) (S .3)
-            (to-end w H l (S .0) (S .1) (S .2) (subst (λ (x : ℕ). n ≤ row x) (sym (S .3)) (S .4))))
+        by (At j) S = is-left (
+          b w H l .minimum,
+          subst (λ (x : ℕ). Ended (found n cost v row (w .hi) (record { lo = w .hi; hi = q w H l .hi }) x (q w H l)) (b w H l .minimum)) (S .3)
+              (to-end w H l (S .0) (S .1) (S .2) (subst (λ (x : ℕ). n ≤ row x) (sym (S .3)) (S .4))),
+        )
         by NoneYet S = after (scan n cost v row (w .hi) (q w H l)) (scan-ok n cost v row s floor F (w .hi) (b w H l .minimum) (w .hi) (q w H l) (omega (arith, l)) (to-scan w H l S))
 
     -- Within m blocks: m columns are settled, or the search is left.
@@ -273,8 +281,10 @@ module _ (n : ℕ) (cost : ℕ → ℕ → ℤ) (v : ℕ → ℤ) (row : ℕ →
     where
       w : Work
       w = searchStart n cost v row s
+
       at-own : (i : ℕ) → i < n → place w i ≡ i
       at-own i l = getD-table n (λ j. j) 0 i l
+
       far-is : (k : ℕ) → k < n → far w k ≡ R n cost v row s floor s k
       far-is k l = getD-table n (reduced cost v s) (pos 0) k l
 

@@ -46,9 +46,9 @@ module _ (n : ℕ) (cost : ℕ → ℕ → ℤ) (one : 1 ≤ n) (K : ℕ) (costs
       let lf = g .reached-free .1 in
       let ef : price (y .prices) f ≡ v₀ f = g .reached-free .3 ∙ κ .free-untouched f lf (g .reached-free .2) in
       let untouched : (k : ℕ) → k < n → n ≤ at (y .pairs .rows) k → price (y .prices) k ≡ v₀ k =
-          λ k l h. g .free-untouched k l h .1 ∙ κ .free-untouched k l (g .free-untouched k l h .0) in
+      λ k l h. g .free-untouched k l h .1 ∙ κ .free-untouched k l (g .free-untouched k l h .0) in
       let all = all-near n cost K costs (price (y .prices)) (at (y .pairs .rows)) f lf (record { low = omega (zlin, ef, first-low n cost one K costs f .low) }) (g .fair)
-          (λ k l h. record { low = omega (zlin, untouched k l h, first-low n cost one K costs k .low) }) in
+      (λ k l h. record { low = omega (zlin, untouched k l h, first-low n cost one K costs k .low) }) in
       record {
         agree = g .agree;
         prices-size = g .prices-size;
@@ -83,7 +83,7 @@ module _ (n : ℕ) (cost : ℕ → ℕ → ℤ) (one : 1 ≤ n) (K : ℕ) (costs
     -- After m searches.
     pub augments-kept : (m : ℕ) → m ≤ s .count
         → Augmented n cost (s .frees) (s .count) x₀ m (augments n cost (s .frees) m x₀)
-          × Kept n cost K costs v₀ (augments n cost (s .frees) m x₀ .pairs) (augments n cost (s .frees) m x₀ .prices)
+        × Kept n cost K costs v₀ (augments n cost (s .frees) m x₀ .pairs) (augments n cost (s .frees) m x₀ .prices)
     augments-kept =
         augments-ok n cost (s .frees) (s .count) (λ x. Kept n cost K costs v₀ (x .pairs) (x .prices))
         (λ x r κ C g. gain-kept x r (augment n cost x r) κ g) x₀ start-augmented (G .kept)

@@ -92,8 +92,12 @@ module _ (n : ℕ) (cost : ℕ → ℕ → ℤ) (one : 1 ≤ n) (K : ℕ) (costs
     start-kept v z e = record {
       agree = agree;
       prices-size = z;
-      fair = record { paired-at-minimum = λ j l h. record { no-less = λ k m.
-          let i = row j in omega (zlin, e j l, e k m, row-cost j l h, first-least n cost one i k h) } };
+      fair = record {
+        paired-at-minimum = λ j l h. record {
+          no-less = λ k m.
+              let i = row j in omega (zlin, e j l, e k m, row-cost j l h, first-least n cost one i k h);
+        };
+      };
       free-untouched = λ k l m. e k l;
       not-risen = λ k l. omega (zlin, e k l);
       single = λ a k l. e k l;
@@ -122,15 +126,15 @@ module _ (n : ℕ) (cost : ℕ → ℕ → ℤ) (one : 1 ≤ n) (K : ℕ) (costs
             listed-unmarked = here-or-elsewhere (λ t. t < x .count + 1 → at (s .marks) (at new t) ≡ 0) (x .count)
                 (λ l. ap (at (s .marks)) here ∙ z) (λ t d l. ap (at (s .marks)) (there t d) ∙ T .listed-unmarked t (old t l d));
             once = λ t u a b e. elim (ℕ-discrete t (x .count)) [
-                yes y ↦ elim (ℕ-discrete u (x .count)) [
-                    yes y′ ↦ omega arith
-                  | no d ↦ absurd (omega (arith, ap (at new) y, here, there u d, T .listed-below u (old u b d)))
-                  ]
+              | yes y ↦ elim (ℕ-discrete u (x .count)) [
+                | yes y′ ↦ omega arith
+                | no d ↦ absurd (omega (arith, ap (at new) y, here, there u d, T .listed-below u (old u b d)))
+              ]
               | no d ↦ elim (ℕ-discrete u (x .count)) [
-                    yes y ↦ absurd (omega (arith, ap (at new) y, here, there t d, T .listed-below t (old t a d)))
-                  | no d′ ↦ T .once t u (old t a d) (old u b d′) (sym (there t d) ∙ e ∙ there u d′)
-                  ]
-              ];
+                | yes y ↦ absurd (omega (arith, ap (at new) y, here, there t d, T .listed-below t (old t a d)))
+                | no d′ ↦ T .once t u (old t a d) (old u b d′) (sym (there t d) ∙ e ∙ there u d′)
+              ]
+            ];
             unmarked-listed = here-or-elsewhere (λ i. i < suc m → at (s .marks) i ≡ 0 → (t : ℕ) × (t < x .count + 1) × (at new t ≡ i)) m
                 (λ l a. (x .count, omega arith, here))
                 (λ i d l a. let R = T .unmarked-listed i (omega arith) a in (R .0, omega (arith, R .1), there (R .0) (λ y. omega (arith, R .1)) ∙ R .2));
@@ -163,7 +167,7 @@ module _ (n : ℕ) (cost : ℕ → ℕ → ℤ) (one : 1 ≤ n) (K : ℕ) (costs
           let w = less-lowers n cost v m j lj ej (λ k l. omega (zlin, T .kept .not-risen k l, first-least n cost one m k lm)) o (leastBut-is n (reduced cost v m) j) in
           passes (omega arith) (set (x .prices) j (lessLeast (v j) o))
           (step n cost K costs v₀ (first-low n cost one K costs) pairs (x .prices) (T .kept) j (lessLeast (v j) o) lj
-            j lj (record { low = omega (zlin, vj, first-low n cost one K costs j .low) }) m w pairs agree hj lm (λ k d. refl))
+          j lj (record { low = omega (zlin, vj, first-low n cost one K costs j .low) }) m w pairs agree hj lm (λ k d. refl))
           (λ k l h. getD-set-other (x .prices) j k (lessLeast (v j) o) (pos 0) (λ y. omega (arith, ap row y)))
 
       pub transfer-ok : Transferred (suc m) (transfer n cost s m x)
@@ -173,8 +177,8 @@ module _ (n : ℕ) (cost : ℕ → ℕ → ℤ) (one : 1 ≤ n) (K : ℕ) (costs
           cond-cases (eqb (at (s .marks) m) 0) (Transferred (suc m)) a (cond (eqb (at (s .marks) m) 1) b x)
           (λ t. joins (eqb-true (at (s .marks) m) 0 t))
           (λ t. cond-cases (eqb (at (s .marks) m) 1) (Transferred (suc m)) b x
-              (λ u. lowers (eqb-true (at (s .marks) m) 1 u))
-              (λ u. passes (omega (arith, eqb-false (at (s .marks) m) 0 t)) (x .prices) (T .kept) (λ k l h. refl)))
+          (λ u. lowers (eqb-true (at (s .marks) m) 1 u))
+          (λ u. passes (omega (arith, eqb-false (at (s .marks) m) 0 t)) (x .prices) (T .kept) (λ k l h. refl)))
 
     pub untransferred-ok : Transferred 0 (untransferred n cost)
     untransferred-ok = record {
@@ -201,9 +205,9 @@ module _ (n : ℕ) (cost : ℕ → ℕ → ℤ) (one : 1 ≤ n) (K : ℕ) (costs
           omega (arith, H .marked, ap (at (s .marks)) e, T .listed-unmarked t l);
       once = T .once;
       paired-or-listed = λ i l. elim (ℕ-discrete (at (s .marks) i) 0) [
-          yes z ↦ inr (T .unmarked-listed i l z)
+        | yes z ↦ inr (T .unmarked-listed i l z)
         | no d ↦ inl (C .marked-held i l (omega arith) .1)
-        ];
+      ];
     }
 
   -- Rule 3 ends as it must.
