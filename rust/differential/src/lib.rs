@@ -1,0 +1,10 @@
+//! The crate lapjv 0.3.0 on f64, document 01's rules over integers, and the nights on which they are
+//! compared.
+
+pub mod checks;
+pub mod nights;
+pub mod oracle;
+pub mod rules;
+
+/// The largest cost.
+pub const K: i64 = 1_000_000_000;
