@@ -1,0 +1,306 @@
+//! For each slip of the hand a smallest night that tells it from the rule.
+//!
+//!     slips search     searches, and writes the table to standard output
+//!     slips FILE       replays the table in FILE: every line is made again from its slip and its costs
+//!
+//! A night's right answer is the rules' and the crate's (`checks::night`).
+
+mod slipped;
+
+use std::process::ExitCode;
+
+use differential::nights::{Every, Random, FAMILIES};
+use differential::rules::{self, Answer};
+use differential::{checks, oracle};
+use slipped::{Slip, SLIPS};
+
+/// A night and how it ranks: the difference shows in the pairing or prices, then side, then shows in the
+/// columns, then the largest cost, the sum, and the costs in order.
+#[derive(Clone, PartialEq, Eq, PartialOrd, Ord)]
+struct Night {
+    only_in_counts: bool,
+    n: usize,
+    same_columns: bool,
+    largest: i32,
+    sum: i64,
+    costs: Vec<i32>,
+}
+
+/// The five counts are compared; the rows left between the passes are not among them.
+fn same(a: &Answer, b: &Answer) -> bool {
+    a.columns == b.columns
+        && a.rows == b.rows
+        && a.column_prices == b.column_prices
+        && a.row_prices == b.row_prices
+        && a.total == b.total
+        && a.counts.five() == b.counts.five()
+}
+
+/// The night's rank for a slip, where it tells it.
+fn told(slip: Slip, n: usize, costs: &[i32], right: &Answer) -> Option<Night> {
+    let (only_in_counts, same_columns) = match slipped::solve(Some(slip), n, costs) {
+        Err(_) => (false, false),
+        Ok(wrong) if same(&wrong, right) => return None,
+        Ok(wrong) => {
+            let same_columns = wrong.columns == right.columns;
+            (same_columns && wrong.column_prices == right.column_prices, same_columns)
+        }
+    };
+    Some(Night {
+        only_in_counts,
+        n,
+        same_columns,
+        largest: costs.iter().copied().max().unwrap_or(0),
+        sum: costs.iter().map(|&cost| i64::from(cost)).sum(),
+        costs: costs.to_vec(),
+    })
+}
+
+/// The slips that a night is tried on.
+#[derive(Clone, Copy)]
+enum Tried {
+    ToldByNoSmallerSide,
+    ToldByLargerSide,
+    Untold,
+}
+
+/// The best night of each slip so far.
+struct Found {
+    best: Vec<Option<Night>>,
+    nights: u64,
+}
+
+impl Found {
+    fn try_night(&mut self, n: usize, costs: &[i32], slips: Tried) {
+        let right = rules::solve(n, costs);
+        self.nights += 1;
+        for (best, (slip, _, _)) in self.best.iter_mut().zip(SLIPS) {
+            let tried = best.as_ref().is_none_or(|best| match slips {
+                Tried::ToldByNoSmallerSide => best.only_in_counts || best.n >= n,
+                Tried::ToldByLargerSide => best.n > n,
+                Tried::Untold => false,
+            });
+            if !tried {
+                continue;
+            }
+            if let Some(night) = told(slip, n, costs, &right) {
+                if best.as_ref().is_none_or(|best| night < *best) {
+                    *best = Some(night);
+                }
+            }
+        }
+    }
+
+    /// Lowers single costs, or clears pairs of them, as long as the night gets better.
+    fn lower(&mut self) {
+        for (best, (slip, _, _)) in self.best.iter_mut().zip(SLIPS) {
+            let Some(best) = best else { continue };
+            let mut again = true;
+            while again {
+                again = false;
+                let places = best.costs.len();
+                let tries = (0..places).flat_map(|p| (0..9).map(move |c| (p, c)));
+                for ((p, c), q) in tries.flat_map(|t| (0..places).map(move |q| (t, q))) {
+                    for other in [0, 1, 2] {
+                        let mut costs = best.costs.clone();
+                        costs[p] = c;
+                        if q != p {
+                            costs[q] = other;
+                        }
+                        let right = rules::solve(best.n, &costs);
+                        if let Some(night) = told(slip, best.n, &costs, &right) {
+                            if night < *best {
+                                *best = night;
+                                again = true;
+                            }
+                        }
+                    }
+                }
+            }
+        }
+    }
+}
+
+fn search() -> Found {
+    let mut found = Found { best: vec![None; SLIPS.len()], nights: 0 };
+    let full: [(usize, &[i32]); 5] = [
+        (2, &[0, 1, 2, 3, 4, 5]),
+        (3, &[0, 1, 2, 3, 4]),
+        (3, &[0, 1, 5, 9]),
+        (4, &[0, 1]),
+        (4, &[0, 5]),
+    ];
+    for (n, values) in full {
+        Every::new(n, values).for_each(|costs| found.try_night(n, &costs, Tried::ToldByNoSmallerSide));
+    }
+    let mut random = Random::new(1);
+    let mut small = |found: &mut Found, n: usize, high: i64, count: usize| {
+        for _ in 0..count {
+            let costs: Vec<i32> = random.numbers(n * n, 0, high).into_iter().map(|c| c as i32).collect();
+            found.try_night(n, &costs, Tried::ToldByNoSmallerSide);
+        }
+    };
+    small(&mut found, 3, 9, 400_000);
+    for high in [2, 4, 9] {
+        small(&mut found, 4, high, 300_000);
+    }
+    Every::new(4, &[0, 1, 2]).for_each(|costs| found.try_night(4, &costs, Tried::ToldByLargerSide));
+    for high in [3, 9] {
+        small(&mut found, 5, high, 200_000);
+    }
+    found.lower();
+    // Slips that no small night tells are tried on every family.
+    for _ in 0..100_000 {
+        let n = 2 + random.below(19);
+        let costs = (FAMILIES[random.below(FAMILIES.len())].costs)(&mut random, n);
+        found.try_night(n, &costs, Tried::Untold);
+    }
+    found
+}
+
+fn list<T: std::fmt::Display>(entries: &[T]) -> String {
+    entries.iter().map(T::to_string).collect::<Vec<_>>().join(" ")
+}
+
+fn shown(n: usize, costs: &[i32]) -> String {
+    let rows: Vec<String> = costs.chunks(n).map(list).collect();
+    format!("[{}]", rows.join(" / "))
+}
+
+/// What the slip answers, where it differs.
+fn wrong(slip: Slip, n: usize, costs: &[i32], right: &Answer) -> String {
+    let wrong = match slipped::solve(Some(slip), n, costs) {
+        Ok(wrong) => wrong,
+        Err(how) => return how.to_string(),
+    };
+    let mut parts = Vec::new();
+    if wrong.columns != right.columns {
+        parts.push(format!("columns {}", list(&wrong.columns)));
+    }
+    if wrong.column_prices != right.column_prices {
+        parts.push(format!("v {}", list(&wrong.column_prices)));
+    }
+    if wrong.row_prices != right.row_prices {
+        parts.push(format!("row prices {}", list(&wrong.row_prices)));
+    }
+    if wrong.total != right.total {
+        parts.push(format!("total {}", wrong.total));
+    }
+    if wrong.counts.five() != right.counts.five() {
+        parts.push(format!("counts {}", list(&wrong.counts.five())));
+    }
+    parts.join("; ")
+}
+
+/// The table's line for a slip and its night.
+fn line(slip: Slip, letter: &str, what: &str, n: usize, costs: &[i32]) -> Result<String, String> {
+    let right = checks::night(n, costs)?;
+    let others: Vec<&str> = all_told(n, costs, &right).into_iter().filter(|other| *other != letter).collect();
+    Ok(format!(
+        "| {letter} | {what} | {} | {} | {} | {} | {} | {} | {} | {} | {} |",
+        shown(n, costs),
+        list(&right.columns),
+        list(&right.rows),
+        list(&right.column_prices),
+        list(&right.row_prices),
+        right.total,
+        list(&right.counts.five()),
+        wrong(slip, n, costs, &right),
+        others.join(" "),
+    ))
+}
+
+/// Document 01's starred nights that the solver is run on.
+const STARRED: [(&str, usize, &[i32]); 7] = [
+    ("N2", 2, &[1, 2, 3, 4]),
+    ("N3", 3, &[0; 9]),
+    ("N4", 2, &[1, 5, 6, 2]),
+    ("N5", 2, &[-1_000_000_000, 1_000_000_000, 1_000_000_000, -1_000_000_000]),
+    ("N6", 2, &[1, 2, 1, 5]),
+    ("N7", 3, &[3, 1, 0, 0, 0, 2, 9, 9, 0]),
+    ("N8", 3, &[3, 1, 0, 0, 0, 2, 4, 1, 0]),
+];
+
+/// The slips that a night tells.
+fn all_told(n: usize, costs: &[i32], right: &Answer) -> Vec<&'static str> {
+    let told = SLIPS.iter().filter(|(slip, _, _)| told(*slip, n, costs, right).is_some());
+    told.map(|(_, letter, _)| *letter).collect()
+}
+
+fn starred_line(name: &str, n: usize, costs: &[i32]) -> Result<String, String> {
+    Ok(format!("| {name} | {} |", all_told(n, costs, &checks::night(n, costs)?).join(" ")))
+}
+
+fn write_table() -> Result<(), String> {
+    let found = search();
+    println!("| | slip | costs | columns | rows | v | row prices | total | counts | the slip's answer, where it differs | also tells |");
+    println!("|---|---|---|---|---|---|---|---|---|---|---|");
+    for (best, (slip, letter, what)) in found.best.iter().zip(SLIPS) {
+        match best {
+            Some(night) => println!("{}", line(slip, letter, what, night.n, &night.costs)?),
+            None => println!("| {letter} | {what} | none among {} nights | | | | | | | | |", found.nights),
+        }
+    }
+    println!("\n| night | tells |\n|---|---|");
+    for (name, n, costs) in STARRED {
+        println!("{}", starred_line(name, n, costs)?);
+    }
+    Ok(())
+}
+
+fn costs_of(shown: &str) -> Option<Vec<i32>> {
+    let inside = shown.strip_prefix('[')?.strip_suffix(']')?;
+    inside.split([' ', '/']).filter(|word| !word.is_empty()).map(|word| word.parse().ok()).collect()
+}
+
+fn replay(file: &str) -> Result<(), String> {
+    let text = std::fs::read_to_string(file).map_err(|failure| format!("{file}: {failure}"))?;
+    let mut lines = 0;
+    for written in text.lines() {
+        let cells: Vec<&str> = written.split('|').map(str::trim).collect();
+        if let Some((name, n, costs)) = STARRED.iter().find(|(name, _, _)| cells.get(1) == Some(name)) {
+            let made = starred_line(name, *n, costs)?;
+            if made != written {
+                return Err(format!("the table has\n{written}\nbut the night gives\n{made}"));
+            }
+            lines += 1;
+            continue;
+        }
+        let slip = SLIPS.iter().find(|(_, letter, _)| cells.get(1) == Some(letter));
+        let (Some((slip, letter, what)), Some(costs)) = (slip, cells.get(3).and_then(|cell| costs_of(cell))) else {
+            continue;
+        };
+        let n = costs.len().isqrt();
+        let made = line(*slip, letter, what, n, &costs)?;
+        if made != written {
+            return Err(format!("the table has\n{written}\nbut the night gives\n{made}"));
+        }
+        if wrong(*slip, n, &costs, &rules::solve(n, &costs)).is_empty() {
+            return Err(format!("the night does not tell the slip: {written}"));
+        }
+        lines += 1;
+    }
+    println!("slips: {lines} lines replayed");
+    if lines == 0 {
+        return Err(format!("{file} holds no line of the table"));
+    }
+    Ok(())
+}
+
+fn main() -> ExitCode {
+    if !oracle::AT_HAND {
+        println!("{}", oracle::NOT_RUN);
+    }
+    let done = match std::env::args().nth(1).as_deref() {
+        Some("search") => write_table(),
+        Some(file) => replay(file),
+        None => Err(String::from("slips search, or slips FILE")),
+    };
+    match done {
+        Ok(()) => ExitCode::SUCCESS,
+        Err(failure) => {
+            println!("slips: FAILED: {failure}");
+            ExitCode::FAILURE
+        }
+    }
+}
