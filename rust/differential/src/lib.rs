@@ -4,7 +4,9 @@
 pub mod checks;
 pub mod nights;
 pub mod oracle;
+pub mod refusals;
 pub mod rules;
+pub mod sheets;
 
 /// The largest cost.
 pub const K: i64 = 1_000_000_000;

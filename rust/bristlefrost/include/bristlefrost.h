@@ -1,0 +1,100 @@
+/* Least-cost pairing of n rows with n columns, over the archive libface.a.
+ *
+ * Each list is a pointer and, after it, its length in elements. Numbers are handed over by value and the
+ * structs below are returned by value.
+ *
+ * What the caller keeps, since C cannot test it:
+ *   - no pointer is null, and each is aligned for its type, even where its length is 0;
+ *   - each pointer is valid for its length in elements: for reading, and for writing where it is not const;
+ *   - no list that is written overlaps any other list of the same call;
+ *   - no other thread touches a list during the call (lists that are only read may be read by others).
+ * Nothing is kept after the call returns. Nothing else is asked: any side, length and number is answered.
+ *
+ * A refusal is 0 where the input was accepted, else number + 256*place, with document 01's numbers:
+ *    1  side over its limit (1,024; a sheet 64 is number 13)        place 0
+ *    2  the costs are not exactly n*n                               0
+ *    3  an output or list shorter than n (cost: longer than n)      the first such, by its number
+ *    4  work room too short                                         1 indices, 2 numbers
+ *    5  a cost outside -1,000,000,000..1,000,000,000                the first, i*n+j
+ *    6  a listed column is not below n                              the first row
+ *    7  the column of a row does not name that row back             the first row
+ *    8  a price outside -10,000,000,000..10,000,000,000             the first: row i, then n+j
+ *    9  row price + column price over the cost                      the first i*n+j
+ *   10  on a paired place that sum is not the cost                  the first row
+ *   11  sheet under 12 bytes, or wrong mark                         0
+ *   12  edition not 1                                               0
+ *   13  sheet side over 64                                          0
+ *   14  distance not 4*n*n                                          0
+ *   15  distance exceeds the bytes before the trailer               0
+ *   16  slip room under 18n+20                                      0
+ *   17  sheet over 65,536 bytes                                     0
+ * Lists are numbered 1 columns by row, 2 rows by column, 3 row prices, 4 column prices. A refusal has total 0
+ * and counts 0 and changes nothing that was lent. */
+
+#ifndef BRISTLEFROST_H
+#define BRISTLEFROST_H
+
+#include <stddef.h>
+#include <stdint.h>
+
+#ifdef __cplusplus
+extern "C" {
+#endif
+
+/* The solver's answer: the refusal, the least total, and the five counts. */
+typedef struct {
+    uint64_t refusal;
+    int64_t total;
+    uint64_t free_rows;       /* free rows after column reduction */
+    uint64_t looks_one;       /* looks in pass one */
+    uint64_t looks_two;       /* looks in pass two */
+    uint64_t rows_left;       /* rows left after the passes */
+    uint64_t columns_scanned; /* columns whose row was used in a scan */
+} bristlefrost_solved;
+
+/* The answer of check and cost. */
+typedef struct {
+    uint64_t refusal;
+    int64_t total;
+} bristlefrost_total;
+
+/* Pairs a night. costs: n*n in row order. cols, rows, row_prices, col_prices: at least n entries each, the first
+ * n are written. indices: at least 4n, numbers: at least n; the first 4n and n are 0 afterwards. Entries past
+ * these are untouched. Refusals 1 2 3 4 5. */
+bristlefrost_solved bristlefrost_solve(
+    size_t n,
+    const int32_t *costs, size_t costs_len,
+    uint32_t *cols, size_t cols_len,
+    uint32_t *rows, size_t rows_len,
+    int64_t *row_prices, size_t row_prices_len,
+    int64_t *col_prices, size_t col_prices_len,
+    uint32_t *indices, size_t indices_len,
+    int64_t *numbers, size_t numbers_len);
+
+/* Accepts a pairing with its prices, and answers its total; accepted means that no pairing has a lower one. Each
+ * list has at least n entries and the first n are read. Refusals 1 2 3 5 6 7 8 9 10. */
+bristlefrost_total bristlefrost_check(
+    size_t n,
+    const int32_t *costs, size_t costs_len,
+    const uint32_t *cols, size_t cols_len,
+    const uint32_t *rows, size_t rows_len,
+    const int64_t *row_prices, size_t row_prices_len,
+    const int64_t *col_prices, size_t col_prices_len);
+
+/* The total over a list of at most n columns: the column of row 0, of row 1, and so on. Refusals 1 2 3 5 6. */
+bristlefrost_total bristlefrost_cost(
+    size_t n,
+    const int32_t *costs, size_t costs_len,
+    const uint32_t *listed, size_t listed_len);
+
+/* Reads a sheet and writes its slip of 18n+20 bytes; later bytes of the slip's room are untouched. Answers 0, or
+ * number + 256*place. Refusals 17 11 12 13 14 15 16 5. */
+uint64_t bristlefrost_sheet(
+    const uint8_t *sheet, size_t sheet_len,
+    uint8_t *slip, size_t slip_len);
+
+#ifdef __cplusplus
+}
+#endif
+
+#endif

@@ -1,0 +1,125 @@
+//! The archive's C names (include/bristlefrost.h), called with slices. Rust's types keep what the header asks of
+//! a caller: a slice's pointer is never null, is aligned and is valid for its length, and a slice that is written
+//! overlaps no other.
+
+use crate::Lent;
+
+#[repr(C)]
+pub struct Solved {
+    pub refusal: u64,
+    pub total: i64,
+    pub free_rows: u64,
+    pub looks_one: u64,
+    pub looks_two: u64,
+    pub rows_left: u64,
+    pub columns_scanned: u64,
+}
+
+#[repr(C)]
+pub struct Total {
+    pub refusal: u64,
+    pub total: i64,
+}
+
+extern "C" {
+    fn bristlefrost_solve(
+        n: usize,
+        costs: *const i32,
+        costs_len: usize,
+        cols: *mut u32,
+        cols_len: usize,
+        rows: *mut u32,
+        rows_len: usize,
+        row_prices: *mut i64,
+        row_prices_len: usize,
+        col_prices: *mut i64,
+        col_prices_len: usize,
+        indices: *mut u32,
+        indices_len: usize,
+        numbers: *mut i64,
+        numbers_len: usize,
+    ) -> Solved;
+
+    fn bristlefrost_check(
+        n: usize,
+        costs: *const i32,
+        costs_len: usize,
+        cols: *const u32,
+        cols_len: usize,
+        rows: *const u32,
+        rows_len: usize,
+        row_prices: *const i64,
+        row_prices_len: usize,
+        col_prices: *const i64,
+        col_prices_len: usize,
+    ) -> Total;
+
+    fn bristlefrost_cost(
+        n: usize,
+        costs: *const i32,
+        costs_len: usize,
+        listed: *const u32,
+        listed_len: usize,
+    ) -> Total;
+
+    fn bristlefrost_sheet(sheet: *const u8, sheet_len: usize, slip: *mut u8, slip_len: usize) -> u64;
+}
+
+pub fn solve(n: usize, costs: &[i32], lent: Lent<'_>) -> Solved {
+    // Safety: every pointer and length come from one slice, and the mutable ones are exclusive.
+    unsafe {
+        bristlefrost_solve(
+            n,
+            costs.as_ptr(),
+            costs.len(),
+            lent.columns.as_mut_ptr(),
+            lent.columns.len(),
+            lent.rows.as_mut_ptr(),
+            lent.rows.len(),
+            lent.row_prices.as_mut_ptr(),
+            lent.row_prices.len(),
+            lent.column_prices.as_mut_ptr(),
+            lent.column_prices.len(),
+            lent.indices.as_mut_ptr(),
+            lent.indices.len(),
+            lent.numbers.as_mut_ptr(),
+            lent.numbers.len(),
+        )
+    }
+}
+
+pub fn check(
+    n: usize,
+    costs: &[i32],
+    columns: &[u32],
+    rows: &[u32],
+    row_prices: &[i64],
+    column_prices: &[i64],
+) -> Total {
+    // Safety: every pointer and length come from one slice, and nothing is written.
+    unsafe {
+        bristlefrost_check(
+            n,
+            costs.as_ptr(),
+            costs.len(),
+            columns.as_ptr(),
+            columns.len(),
+            rows.as_ptr(),
+            rows.len(),
+            row_prices.as_ptr(),
+            row_prices.len(),
+            column_prices.as_ptr(),
+            column_prices.len(),
+        )
+    }
+}
+
+pub fn cost(n: usize, costs: &[i32], listed: &[u32]) -> Total {
+    // Safety: every pointer and length come from one slice, and nothing is written.
+    unsafe { bristlefrost_cost(n, costs.as_ptr(), costs.len(), listed.as_ptr(), listed.len()) }
+}
+
+pub fn sheet(sheet: &[u8], slip: &mut [u8]) -> u64 {
+    // Safety: every pointer and length come from one slice, and the mutable one is exclusive.
+    unsafe { bristlefrost_sheet(sheet.as_ptr(), sheet.len(), slip.as_mut_ptr(), slip.len()) }
+}

@@ -1,0 +1,230 @@
+//! Pairs the rows and columns of a square matrix of bounded integer costs at the least total, with prices that
+//! prove it. The work is done by the archive libface.a, whose functions are proved; this crate lends it slices
+//! and reads its answers.
+//!
+//! Costs are n*n numbers in row order, within -K..K for K = 1,000,000,000; the side n is at most 1,024.
+//!
+//! ```
+//! let night = bristlefrost::solve(3, &[3, 1, 0, 0, 0, 2, 4, 1, 0])?;
+//! assert_eq!(night.columns, [2, 0, 1]);
+//! assert_eq!(night.rows, [1, 2, 0]);
+//! assert_eq!(night.row_prices, [1, 0, 1]);
+//! assert_eq!(night.column_prices, [0, 0, -1]);
+//! assert_eq!(night.paired.total, 1);
+//!
+//! // Another pairing of the same total is accepted under the same prices.
+//! let costs = [3, 1, 0, 0, 0, 2, 4, 1, 0];
+//! let (u, v) = (&night.row_prices, &night.column_prices);
+//! assert_eq!(bristlefrost::check(3, &costs, &[1, 0, 2], &[1, 0, 2], u, v), Ok(1));
+//!
+//! // One that costs more is refused.
+//! let refused = bristlefrost::check(3, &costs, &[0, 1, 2], &[0, 1, 2], u, v);
+//! assert_eq!(refused, Err(bristlefrost::Refusal::PricesUnderCost { row: 0 }));
+//! # Ok::<(), bristlefrost::Refusal>(())
+//! ```
+
+mod face;
+mod refusal;
+
+pub use refusal::{List, Refusal, Room};
+
+/// The largest side.
+pub const LARGEST_SIDE: usize = 1024;
+
+/// The largest side on a sheet.
+pub const LARGEST_SHEET_SIDE: usize = 64;
+
+/// K: costs lie within -K..K.
+pub const LARGEST_COST: i32 = 1_000_000_000;
+
+/// The total of an accepted night, and how the solver came to it.
+#[derive(Clone, Copy, Debug, PartialEq, Eq)]
+pub struct Paired {
+    pub total: i64,
+    /// Free rows after column reduction.
+    pub free_rows: u64,
+    /// Looks in pass one of row reduction.
+    pub looks_one: u64,
+    /// Looks in pass two.
+    pub looks_two: u64,
+    /// Rows left after the passes.
+    pub rows_left: u64,
+    /// Columns whose row was used in a scan.
+    pub columns_scanned: u64,
+}
+
+/// A paired night in lists of its own.
+#[derive(Clone, Debug, PartialEq, Eq)]
+pub struct Night {
+    /// The column of each row.
+    pub columns: Vec<u32>,
+    /// The row of each column.
+    pub rows: Vec<u32>,
+    pub row_prices: Vec<i64>,
+    pub column_prices: Vec<i64>,
+    pub paired: Paired,
+}
+
+/// Where [`solve_into`] writes: four outputs of at least n entries each, and two work rooms, of at least 4n indices
+/// and n numbers.
+pub struct Lent<'a> {
+    /// The column of each row.
+    pub columns: &'a mut [u32],
+    /// The row of each column.
+    pub rows: &'a mut [u32],
+    pub row_prices: &'a mut [i64],
+    pub column_prices: &'a mut [i64],
+    pub indices: &'a mut [u32],
+    pub numbers: &'a mut [i64],
+}
+
+/// Pairs a night.
+///
+/// ```
+/// use bristlefrost::{solve, Refusal};
+///
+/// let night = solve(2, &[1, 2, 1, 5])?;
+/// assert_eq!((night.columns, night.paired.total), (vec![1, 0], 3));
+/// assert_eq!(solve(0, &[])?.paired.total, 0);
+///
+/// assert_eq!(solve(2, &[1, 2, 3]), Err(Refusal::CostsNotSquare));
+/// assert_eq!(solve(1, &[1_000_000_001]), Err(Refusal::CostOutside { place: 0 }));
+/// # Ok::<(), Refusal>(())
+/// ```
+pub fn solve(n: usize, costs: &[i32]) -> Result<Night, Refusal> {
+    // A side over the limit is refused before any list is looked at.
+    let room = if n <= LARGEST_SIDE { n } else { 0 };
+    let (mut columns, mut rows) = (vec![0; room], vec![0; room]);
+    let (mut row_prices, mut column_prices) = (vec![0; room], vec![0; room]);
+    let (mut indices, mut numbers) = (vec![0; 4 * room], vec![0; room]);
+    let lent = Lent {
+        columns: &mut columns,
+        rows: &mut rows,
+        row_prices: &mut row_prices,
+        column_prices: &mut column_prices,
+        indices: &mut indices,
+        numbers: &mut numbers,
+    };
+    let paired = solve_into(n, costs, lent)?;
+    Ok(Night { columns, rows, row_prices, column_prices, paired })
+}
+
+/// Pairs a night into lent lists. After acceptance the first n entries of each output hold the answer, the first
+/// 4n indices and n numbers are 0, and later entries are untouched; a refusal changes nothing.
+///
+/// ```
+/// use bristlefrost::{solve_into, Lent, List, Refusal};
+///
+/// let (mut columns, mut rows) = ([9; 4], [9; 2]);
+/// let (mut row_prices, mut column_prices) = ([9; 2], [9; 2]);
+/// let (mut indices, mut numbers) = ([9; 8], [9; 3]);
+/// let mut night = |costs: &[i32], rows_lent: usize| {
+///     let lent = Lent {
+///         columns: &mut columns,
+///         rows: &mut rows[..rows_lent],
+///         row_prices: &mut row_prices,
+///         column_prices: &mut column_prices,
+///         indices: &mut indices,
+///         numbers: &mut numbers,
+///     };
+///     solve_into(2, costs, lent)
+/// };
+/// assert_eq!(night(&[1, 5, 6, 2], 1), Err(Refusal::ListLength(List::Rows)));
+/// assert_eq!(night(&[1, 5, 6, 2], 2).map(|paired| paired.total), Ok(3));
+/// assert_eq!(columns, [0, 1, 9, 9]);
+/// assert_eq!(column_prices, [-2, -6]);
+/// assert_eq!(numbers, [0, 0, 9]);
+/// ```
+pub fn solve_into(n: usize, costs: &[i32], lent: Lent<'_>) -> Result<Paired, Refusal> {
+    let solved = face::solve(n, costs, lent);
+    Refusal::read(solved.refusal)?;
+    Ok(Paired {
+        total: solved.total,
+        free_rows: solved.free_rows,
+        looks_one: solved.looks_one,
+        looks_two: solved.looks_two,
+        rows_left: solved.rows_left,
+        columns_scanned: solved.columns_scanned,
+    })
+}
+
+/// Accepts a pairing and its prices with the pairing's total; accepted means that no pairing has a lower total.
+/// Only the first n entries of each list are read.
+///
+/// ```
+/// use bristlefrost::{check, Refusal};
+///
+/// let costs = [1, 5, 6, 2];
+/// assert_eq!(check(2, &costs, &[0, 1], &[0, 1], &[1, 2], &[0, 0]), Ok(3));
+/// assert_eq!(check(2, &costs, &[0, 1], &[1, 0], &[1, 2], &[0, 0]), Err(Refusal::NotNamedBack { row: 0 }));
+/// assert_eq!(check(2, &costs, &[0, 1], &[0, 1], &[1, 7], &[0, 0]), Err(Refusal::PricesOverCost { place: 2 }));
+/// ```
+pub fn check(
+    n: usize,
+    costs: &[i32],
+    columns: &[u32],
+    rows: &[u32],
+    row_prices: &[i64],
+    column_prices: &[i64],
+) -> Result<i64, Refusal> {
+    let answer = face::check(n, costs, columns, rows, row_prices, column_prices);
+    Refusal::read(answer.refusal)?;
+    Ok(answer.total)
+}
+
+/// The total over a list of at most n columns: of row 0, of row 1, and so on. It need not be a permutation.
+///
+/// ```
+/// use bristlefrost::{cost, List, Refusal};
+///
+/// assert_eq!(cost(2, &[1, 2, 3, 4], &[1, 1]), Ok(6));
+/// assert_eq!(cost(2, &[1, 2, 3, 4], &[]), Ok(0));
+/// assert_eq!(cost(2, &[1, 2, 3, 4], &[0, 2]), Err(Refusal::ColumnNotBelowSide { row: 1 }));
+/// assert_eq!(cost(1, &[1], &[0, 0]), Err(Refusal::ListLength(List::Columns)));
+/// ```
+pub fn cost(n: usize, costs: &[i32], listed: &[u32]) -> Result<i64, Refusal> {
+    let answer = face::cost(n, costs, listed);
+    Refusal::read(answer.refusal)?;
+    Ok(answer.total)
+}
+
+/// The bytes of the slip of a side.
+pub const fn slip_length(n: usize) -> usize {
+    18 * n + 20
+}
+
+/// Pairs a sheet and answers its slip.
+///
+/// ```
+/// let sheet = [7, 0, 0, 0, 4, 0, 0, 0, 1, 0, 1, 0, 0x4D, 0x54, 0x43, 0x48];
+/// let slip = bristlefrost::sheet(&sheet)?;
+/// assert_eq!(slip[..10], [0; 10]);
+/// assert_eq!(slip[10..18], 7i64.to_le_bytes());
+/// assert_eq!(slip[18..26], 7i64.to_le_bytes());
+/// assert_eq!(slip[26..], [0x1A, 0, 0, 0, 1, 0, 1, 0, 0x53, 0x4C, 0x49, 0x50]);
+///
+/// assert_eq!(bristlefrost::sheet(&[]), Err(bristlefrost::Refusal::SheetMark));
+/// # Ok::<(), bristlefrost::Refusal>(())
+/// ```
+pub fn sheet(sheet: &[u8]) -> Result<Vec<u8>, Refusal> {
+    let mut slip = vec![0; slip_length(LARGEST_SHEET_SIDE)];
+    sheet_into(sheet, &mut slip)?;
+    // An accepted sheet ends with its trailer, which holds the side in bytes 4 and 5.
+    let side = &sheet[sheet.len() - 8..sheet.len() - 6];
+    slip.truncate(slip_length(usize::from(u16::from_le_bytes([side[0], side[1]]))));
+    Ok(slip)
+}
+
+/// Pairs a sheet and writes its slip, 18n+20 bytes; later bytes are untouched, and a refusal changes nothing.
+///
+/// ```
+/// let sheet = [7, 0, 0, 0, 4, 0, 0, 0, 1, 0, 1, 0, 0x4D, 0x54, 0x43, 0x48];
+/// let mut slip = [9; 40];
+/// assert_eq!(bristlefrost::sheet_into(&sheet, &mut slip[..37]), Err(bristlefrost::Refusal::SlipRoom));
+/// assert_eq!(slip, [9; 40]);
+/// assert_eq!(bristlefrost::sheet_into(&sheet, &mut slip), Ok(()));
+/// assert_eq!(slip[34..], [0x53, 0x4C, 0x49, 0x50, 9, 9]);
+/// ```
+pub fn sheet_into(sheet: &[u8], slip: &mut [u8]) -> Result<(), Refusal> {
+    Refusal::read(face::sheet(sheet, slip))
+}

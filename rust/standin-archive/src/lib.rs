@@ -1,0 +1,148 @@
+//! A stand-in for libface.a: the same C names over document 01's rules in plain Rust. It is proved in no way and
+//! serves to try the wrapper and the comparison. Its features each do one thing wrong.
+
+use std::slice::{from_raw_parts, from_raw_parts_mut};
+
+use differential::{refusals, rules, sheets};
+
+#[repr(C)]
+pub struct Solved {
+    refusal: u64,
+    total: i64,
+    counts: [u64; 5],
+}
+
+#[repr(C)]
+pub struct Total {
+    refusal: u64,
+    total: i64,
+}
+
+fn answer(result: Result<i64, refusals::Refused>) -> Total {
+    match result {
+        Ok(total) => Total { refusal: 0, total },
+        Err(refused) => {
+            Total { refusal: refusals::code(refused), total: i64::from(cfg!(feature = "total-on-refusal")) }
+        }
+    }
+}
+
+/// # Safety
+/// As include/bristlefrost.h asks.
+#[no_mangle]
+pub unsafe extern "C" fn bristlefrost_solve(
+    n: usize,
+    costs: *const i32,
+    costs_len: usize,
+    cols: *mut u32,
+    cols_len: usize,
+    rows: *mut u32,
+    rows_len: usize,
+    row_prices: *mut i64,
+    row_prices_len: usize,
+    col_prices: *mut i64,
+    col_prices_len: usize,
+    indices: *mut u32,
+    indices_len: usize,
+    numbers: *mut i64,
+    numbers_len: usize,
+) -> Solved {
+    let costs = from_raw_parts(costs, costs_len);
+    let (cols, rows) = (from_raw_parts_mut(cols, cols_len), from_raw_parts_mut(rows, rows_len));
+    let row_prices = from_raw_parts_mut(row_prices, row_prices_len);
+    let col_prices = from_raw_parts_mut(col_prices, col_prices_len);
+    let indices = from_raw_parts_mut(indices, indices_len);
+    let numbers = from_raw_parts_mut(numbers, numbers_len);
+
+    let lists = [cols_len, rows_len, row_prices_len, col_prices_len];
+    if let Err(refused) = refusals::solver(n, costs, lists, [indices_len, numbers_len]) {
+        if cfg!(feature = "written-on-refusal") && refused.0 == 5 {
+            numbers[0] = 1;
+        }
+        return Solved { refusal: refusals::code(refused), total: 0, counts: [0; 5] };
+    }
+    let night = rules::solve(n, costs);
+    for k in 0..n {
+        cols[k] = night.columns[k] as u32;
+        rows[k] = night.rows[k] as u32;
+        row_prices[k] = night.row_prices[k];
+        col_prices[k] = night.column_prices[k];
+    }
+    if !cfg!(feature = "room-not-cleared") {
+        indices[..4 * n].fill(0);
+        numbers[..n].fill(0);
+    }
+    if cfg!(feature = "one-past-the-end") && cols_len > n {
+        cols[n] = 0;
+    }
+    Solved { refusal: 0, total: night.total, counts: night.counts.five().map(|count| count as u64) }
+}
+
+/// # Safety
+/// As include/bristlefrost.h asks.
+#[no_mangle]
+pub unsafe extern "C" fn bristlefrost_check(
+    n: usize,
+    costs: *const i32,
+    costs_len: usize,
+    cols: *const u32,
+    cols_len: usize,
+    rows: *const u32,
+    rows_len: usize,
+    row_prices: *const i64,
+    row_prices_len: usize,
+    col_prices: *const i64,
+    col_prices_len: usize,
+) -> Total {
+    let costs = from_raw_parts(costs, costs_len);
+    let (cols, rows) = (from_raw_parts(cols, cols_len), from_raw_parts(rows, rows_len));
+    let row_prices = from_raw_parts(row_prices, row_prices_len);
+    let col_prices = from_raw_parts(col_prices, col_prices_len);
+    let result = refusals::checker(n, costs, cols, rows, row_prices, col_prices);
+    if cfg!(feature = "refusals-out-of-order") && matches!(result, Err((9, _))) {
+        // A 10 on an earlier row hides the 9.
+        let tight = |i: usize| row_prices[i] + col_prices[cols[i] as usize] == i64::from(costs[i * n + cols[i] as usize]);
+        if let Some(row) = (0..n).find(|&i| !tight(i)) {
+            return answer(Err((10, row as u64)));
+        }
+    }
+    answer(result)
+}
+
+/// # Safety
+/// As include/bristlefrost.h asks.
+#[no_mangle]
+pub unsafe extern "C" fn bristlefrost_cost(
+    n: usize,
+    costs: *const i32,
+    costs_len: usize,
+    listed: *const u32,
+    listed_len: usize,
+) -> Total {
+    let (costs, listed) = (from_raw_parts(costs, costs_len), from_raw_parts(listed, listed_len));
+    let result = refusals::cost(n, costs, listed);
+    if cfg!(feature = "cost-inside-only") && matches!(result, Err((5, place)) if place as usize >= n * listed_len) {
+        return answer(Ok(0));
+    }
+    answer(result)
+}
+
+/// # Safety
+/// As include/bristlefrost.h asks.
+#[no_mangle]
+pub unsafe extern "C" fn bristlefrost_sheet(
+    sheet: *const u8,
+    sheet_len: usize,
+    slip: *mut u8,
+    slip_len: usize,
+) -> u64 {
+    let (sheet, slip) = (from_raw_parts(sheet, sheet_len), from_raw_parts_mut(slip, slip_len));
+    match refusals::sheet(sheet, slip_len) {
+        Ok(night) => {
+            let bytes = sheets::slip(night.n, &rules::solve(night.n, &night.costs));
+            slip[..bytes.len()].copy_from_slice(&bytes);
+            0
+        }
+        Err(refused) => refusals::code(refused),
+    }
+}
