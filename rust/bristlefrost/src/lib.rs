@@ -23,7 +23,8 @@
 //! # Ok::<(), bristlefrost::Refusal>(())
 //! ```
 
-mod face;
+#[doc(hidden)]
+pub mod face;
 mod refusal;
 
 pub use refusal::{List, Refusal, Room};

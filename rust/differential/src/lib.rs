@@ -1,6 +1,8 @@
 //! The crate lapjv 0.3.0 on f64, document 01's rules over integers, and the nights on which they are
 //! compared.
 
+#[cfg(feature = "archive")]
+pub mod archive;
 pub mod checks;
 pub mod nights;
 pub mod oracle;

@@ -1,13 +1,18 @@
-//! Compares the crate lapjv 0.3.0 with document 01's rules, night by night.
+//! Compares the crate lapjv 0.3.0 with document 01's rules, night by night, and with the feature `archive` the
+//! archive with both.
 //!
 //!     differential [--seed S] [--count N] [--large L]
 //!
 //! S is where the random nights begin (1), N how many of sides to 64 are run (20,000), and L how many of each
-//! of the sides 100, 256, 512, 1,023 and 1,024 (2). Small sides over few values are run in full each time.
+//! of the sides 100, 256, 512, 1,023 and 1,024 (2). Small sides over few values are run in full each time. The
+//! archive is also given N damaged inputs and those at the limits.
 
 use std::process::ExitCode;
 
+#[cfg(feature = "archive")]
+use differential::archive;
 use differential::nights::{Every, Random, FAMILIES};
+use differential::rules::Answer;
 use differential::{checks, oracle, K};
 
 /// What the command line sets.
@@ -33,16 +38,67 @@ fn settings() -> Result<Settings, String> {
     Ok(settings)
 }
 
+/// What a run compares beside the crate and the rules.
+#[cfg(feature = "archive")]
+struct Archive {
+    random: Random,
+    met: archive::Met,
+}
+
+#[cfg(feature = "archive")]
+impl Archive {
+    fn new(settings: &Settings) -> Self {
+        Archive { random: Random::new(!settings.seed), met: archive::Met::default() }
+    }
+
+    fn night(&mut self, n: usize, costs: &[i32], answer: &Answer) -> Result<(), String> {
+        archive::night(&mut self.random, &mut self.met, n, costs, answer)
+    }
+
+    /// Damaged inputs, and those at the limits.
+    fn damaged(&mut self, settings: &Settings) -> Result<(), String> {
+        archive::limits(&mut self.random)?;
+        for _ in 0..settings.count {
+            archive::damaged(&mut self.random, &mut self.met)?;
+        }
+        println!("{} damaged inputs and the limits, seed {}: the archive and document 01", settings.count, settings.seed);
+        for line in self.met.lines()? {
+            println!("  {line}");
+        }
+        Ok(())
+    }
+}
+
+#[cfg(not(feature = "archive"))]
+struct Archive;
+
+#[cfg(not(feature = "archive"))]
+impl Archive {
+    fn new(_: &Settings) -> Self {
+        Archive
+    }
+
+    fn night(&mut self, _: usize, _: &[i32], _: &Answer) -> Result<(), String> {
+        Ok(())
+    }
+
+    fn damaged(&mut self, _: &Settings) -> Result<(), String> {
+        println!("the comparison with the archive was not run: this was built without the feature `archive`");
+        Ok(())
+    }
+}
+
 /// Tests one night; a failure names the night in full where it is small.
-fn test(n: usize, costs: &[i32], family: &str) -> Result<(), String> {
-    checks::night(n, costs).map(|_| ()).map_err(|failure| {
+fn test(archive: &mut Archive, n: usize, costs: &[i32], family: &str) -> Result<(), String> {
+    let tested = checks::night(n, costs).and_then(|answer| archive.night(n, costs, &answer));
+    tested.map_err(|failure| {
         let night = if n <= 12 { format!("{costs:?}") } else { String::from("(not shown)") };
         format!("side {n}, {family}: {failure}\ncosts {night}")
     })
 }
 
 /// Small sides in full.
-fn every() -> Result<usize, String> {
+fn every(archive: &mut Archive) -> Result<usize, String> {
     let k = K as i32;
     let full: [(usize, &[i32]); 9] = [
         (0, &[0]),
@@ -58,7 +114,7 @@ fn every() -> Result<usize, String> {
     let mut nights = 0;
     for (n, values) in full {
         for costs in Every::new(n, values) {
-            test(n, &costs, "in full")?;
+            test(archive, n, &costs, "in full")?;
             nights += 1;
         }
     }
@@ -66,24 +122,24 @@ fn every() -> Result<usize, String> {
 }
 
 /// Random nights of every side to 64, half of them of side 8 or less, over all families.
-fn random(settings: &Settings) -> Result<usize, String> {
+fn random(archive: &mut Archive, settings: &Settings) -> Result<usize, String> {
     let mut random = Random::new(settings.seed);
     for night in 0..settings.count {
         let n = if night % 2 == 0 { 2 + random.below(7) } else { (night / 2) % 65 };
         let family = &FAMILIES[random.below(FAMILIES.len())];
-        test(n, &(family.costs)(&mut random, n), family.name)?;
+        test(archive, n, &(family.costs)(&mut random, n), family.name)?;
     }
     Ok(settings.count)
 }
 
 /// A few nights of each large side.
-fn large(settings: &Settings) -> Result<usize, String> {
+fn large(archive: &mut Archive, settings: &Settings) -> Result<usize, String> {
     let mut random = Random::new(settings.seed ^ 0x6C61_7267_65);
     let mut nights = 0;
     for n in [100, 256, 512, 1023, 1024] {
         for _ in 0..settings.large {
             let family = &FAMILIES[random.below(FAMILIES.len())];
-            test(n, &(family.costs)(&mut random, n), family.name)?;
+            test(archive, n, &(family.costs)(&mut random, n), family.name)?;
             nights += 1;
         }
     }
@@ -95,11 +151,19 @@ fn run() -> Result<(), String> {
     if !oracle::AT_HAND {
         println!("{}", oracle::NOT_RUN);
     }
-    let against = if oracle::AT_HAND { "the crate's file on f64 and the rules" } else { "the rules alone" };
-    println!("{} small nights in full: {against}", every()?);
-    println!("{} random nights of sides to 64, seed {}: {against}", random(&settings)?, settings.seed);
-    println!("{} random nights of sides 100 to 1024, seed {}: {against}", large(&settings)?, settings.seed);
-    Ok(())
+    let mut sides = vec!["the rules"];
+    if oracle::AT_HAND {
+        sides.insert(0, "the crate's file on f64");
+    }
+    if cfg!(feature = "archive") {
+        sides.push("the archive");
+    }
+    let (sides, seed) = (sides.join(", "), settings.seed);
+    let mut archive = Archive::new(&settings);
+    println!("{} small nights in full: {sides}", every(&mut archive)?);
+    println!("{} random nights of sides to 64, seed {seed}: {sides}", random(&mut archive, &settings)?);
+    println!("{} random nights of sides 100 to 1024, seed {seed}: {sides}", large(&mut archive, &settings)?);
+    archive.damaged(&settings)
 }
 
 fn main() -> ExitCode {

@@ -1,0 +1,423 @@
+//! The archive, through the wrapper, against the rules and against document 01's refusals: answers, what lent
+//! lists hold afterwards, and what they hold behind their first entries.
+
+use std::collections::BTreeMap;
+
+use bristlefrost::{face, Lent};
+
+use crate::nights::{Random, FAMILIES};
+use crate::rules::{self, Answer};
+use crate::{refusals, sheets, K};
+
+/// How often each entry answered each number; 0 is acceptance.
+#[derive(Default)]
+pub struct Met(BTreeMap<(&'static str, u64), usize>);
+
+impl Met {
+    fn note(&mut self, entry: &'static str, code: u64) {
+        *self.0.entry((entry, code % 256)).or_default() += 1;
+    }
+
+    /// The numbers that each entry can answer, in its order.
+    const ALL: [(&'static str, &'static [u64]); 4] = [
+        ("solve", &[0, 1, 2, 3, 4, 5]),
+        ("check", &[0, 1, 2, 3, 5, 6, 7, 8, 9, 10]),
+        ("cost", &[0, 1, 2, 3, 5, 6]),
+        ("sheet", &[0, 17, 11, 12, 13, 14, 15, 16, 5]),
+    ];
+
+    /// One line for each entry; an error where a number was never met.
+    pub fn lines(&self) -> Result<Vec<String>, String> {
+        let mut lines = Vec::new();
+        for (entry, numbers) in Self::ALL {
+            let mut words = Vec::new();
+            for number in numbers {
+                let times = self.0.get(&(entry, *number)).copied().unwrap_or(0);
+                if times == 0 {
+                    return Err(format!("{entry} never answered {number}: raise the count"));
+                }
+                words.push(format!("{number}: {times}"));
+            }
+            lines.push(format!("{entry} by number: {}", words.join(", ")));
+        }
+        Ok(lines)
+    }
+}
+
+/// The six lists that the solver writes.
+#[derive(Clone, Debug, PartialEq, Eq)]
+struct Lists {
+    columns: Vec<u32>,
+    rows: Vec<u32>,
+    row_prices: Vec<i64>,
+    column_prices: Vec<i64>,
+    indices: Vec<u32>,
+    numbers: Vec<i64>,
+}
+
+impl Lists {
+    /// Lists of these lengths, full of random entries.
+    fn new(random: &mut Random, lengths: [usize; 6]) -> Self {
+        let mut small = |length: usize| -> Vec<u32> { (0..length).map(|_| random.next() as u32).collect() };
+        let (columns, rows, indices) = (small(lengths[0]), small(lengths[1]), small(lengths[4]));
+        let mut wide = |length: usize| -> Vec<i64> { (0..length).map(|_| random.next() as i64).collect() };
+        let (row_prices, column_prices, numbers) = (wide(lengths[2]), wide(lengths[3]), wide(lengths[5]));
+        Lists { columns, rows, row_prices, column_prices, indices, numbers }
+    }
+
+    fn lent(&mut self) -> Lent<'_> {
+        Lent {
+            columns: &mut self.columns,
+            rows: &mut self.rows,
+            row_prices: &mut self.row_prices,
+            column_prices: &mut self.column_prices,
+            indices: &mut self.indices,
+            numbers: &mut self.numbers,
+        }
+    }
+
+    /// What document 01 leaves in the lists after acceptance.
+    fn hold(&mut self, n: usize, answer: &Answer) {
+        for k in 0..n {
+            self.columns[k] = answer.columns[k] as u32;
+            self.rows[k] = answer.rows[k] as u32;
+        }
+        self.row_prices[..n].copy_from_slice(&answer.row_prices);
+        self.column_prices[..n].copy_from_slice(&answer.column_prices);
+        self.indices[..4 * n].fill(0);
+        self.numbers[..n].fill(0);
+    }
+}
+
+/// Random entries behind a list.
+fn behind<T>(random: &mut Random, list: &mut Vec<T>, entry: fn(u64) -> T) {
+    for _ in 0..random.below(4) {
+        list.push(entry(random.next()));
+    }
+}
+
+fn expect<T: PartialEq + std::fmt::Debug>(what: &str, found: &T, right: &T) -> Result<(), String> {
+    if found == right {
+        return Ok(());
+    }
+    Err(format!("{what}: {found:?}, but {right:?} was expected"))
+}
+
+/// The archive's number and total for what the plain reading gives.
+fn told(right: Result<i64, refusals::Refused>) -> (u64, i64) {
+    match right {
+        Ok(total) => (0, total),
+        Err(refused) => (refusals::code(refused), 0),
+    }
+}
+
+/// The wrapper's answer as number and total.
+fn wrapped(answer: Result<i64, bristlefrost::Refusal>) -> (u64, i64) {
+    told(answer.map_err(|refusal| (refusal.number().into(), refusal.place())))
+}
+
+/// Lends the solver lists of these lengths and compares everything.
+fn solve(random: &mut Random, n: usize, costs: &[i32], lengths: [usize; 6], known: Option<&Answer>) -> Result<u64, String> {
+    let before = Lists::new(random, lengths);
+    let mut found = before.clone();
+    let mut right = before;
+    let (lists, rooms) = ([lengths[0], lengths[1], lengths[2], lengths[3]], [lengths[4], lengths[5]]);
+    let solved = face::solve(n, costs, found.lent());
+    let counts = [solved.free_rows, solved.looks_one, solved.looks_two, solved.rows_left, solved.columns_scanned];
+    let (code, total, five) = match refusals::solver(n, costs, lists, rooms) {
+        Err(refused) => (refusals::code(refused), 0, [0; 5]),
+        Ok(()) => {
+            let own;
+            let answer = match known {
+                Some(answer) => answer,
+                None => {
+                    own = rules::solve(n, costs);
+                    &own
+                }
+            };
+            right.hold(n, answer);
+            (0, answer.total, answer.counts.five().map(|count| count as u64))
+        }
+    };
+    expect("solve", &(solved.refusal, solved.total, counts), &(code, total, five))?;
+    expect("lists after solve", &found, &right)?;
+    let again = bristlefrost::solve_into(n, costs, found.lent());
+    expect("the wrapper's solve", &wrapped(again.map(|paired| paired.total)), &(code, total))?;
+    Ok(code)
+}
+
+/// Lends the checker these lists and compares its answer.
+fn check(n: usize, costs: &[i32], lists: &Lists) -> Result<u64, String> {
+    let (columns, rows, u, v) = (&lists.columns, &lists.rows, &lists.row_prices, &lists.column_prices);
+    let right = told(refusals::checker(n, costs, columns, rows, u, v));
+    let found = face::check(n, costs, columns, rows, u, v);
+    expect("check", &(found.refusal, found.total), &right)?;
+    expect("the wrapper's check", &wrapped(bristlefrost::check(n, costs, columns, rows, u, v)), &right)?;
+    Ok(right.0)
+}
+
+fn cost(n: usize, costs: &[i32], listed: &[u32]) -> Result<u64, String> {
+    let right = told(refusals::cost(n, costs, listed));
+    let found = face::cost(n, costs, listed);
+    expect("cost", &(found.refusal, found.total), &right)?;
+    expect("the wrapper's cost", &wrapped(bristlefrost::cost(n, costs, listed)), &right)?;
+    Ok(right.0)
+}
+
+/// Hands over a sheet and room for a slip, and compares the slip's room in full.
+fn sheet(random: &mut Random, bytes: &[u8], room: usize) -> Result<u64, String> {
+    let mut found: Vec<u8> = (0..room).map(|_| random.next() as u8).collect();
+    let mut right = found.clone();
+    let code = match refusals::sheet(bytes, room) {
+        Err(refused) => refusals::code(refused),
+        Ok(night) => {
+            let slip = sheets::slip(night.n, &rules::solve(night.n, &night.costs));
+            right[..slip.len()].copy_from_slice(&slip);
+            0
+        }
+    };
+    expect("sheet", &face::sheet(bytes, &mut found), &code)?;
+    expect("the slip's room", &found, &right)
+        .map_err(|failure| if room <= 400 { failure } else { String::from("the slip's room (not shown)") })?;
+    let again = bristlefrost::sheet_into(bytes, &mut found).map(|()| 0);
+    expect("the wrapper's sheet", &wrapped(again), &(code, 0))?;
+    Ok(code)
+}
+
+/// The answer's lists, with random entries behind them.
+fn longer(random: &mut Random, answer: &Answer) -> Lists {
+    let index = |list: &[usize]| -> Vec<u32> { list.iter().map(|&entry| entry as u32).collect() };
+    let mut lists = Lists {
+        columns: index(&answer.columns),
+        rows: index(&answer.rows),
+        row_prices: answer.row_prices.clone(),
+        column_prices: answer.column_prices.clone(),
+        indices: Vec::new(),
+        numbers: Vec::new(),
+    };
+    behind(random, &mut lists.columns, |entry| entry as u32);
+    behind(random, &mut lists.rows, |entry| entry as u32);
+    behind(random, &mut lists.row_prices, |entry| entry as i64);
+    behind(random, &mut lists.column_prices, |entry| entry as i64);
+    lists
+}
+
+/// A night through every entry: solved into exact and longer lists, checked, summed, and on a sheet.
+pub fn night(random: &mut Random, met: &mut Met, n: usize, costs: &[i32], answer: &Answer) -> Result<(), String> {
+    let lengths = [n, n, n, n, 4 * n, n].map(|length| length + random.below(4));
+    met.note("solve", solve(random, n, costs, lengths, Some(answer))?);
+
+    let lists = longer(random, answer);
+    met.note("check", check(n, costs, &lists)?);
+    expect("the solver's answer is accepted", &told(Ok(answer.total)), &wrapped(bristlefrost::check(
+        n,
+        costs,
+        &lists.columns,
+        &lists.rows,
+        &lists.row_prices,
+        &lists.column_prices,
+    )))?;
+
+    met.note("cost", cost(n, costs, &lists.columns[..n])?);
+    let listed: Vec<u32> = (0..random.below(n + 1)).map(|_| random.below(n) as u32).collect();
+    met.note("cost", cost(n, costs, &listed)?);
+
+    if n <= 64 {
+        let note: Vec<u8> = (0..random.below(40)).map(|_| random.next() as u8).collect();
+        let room = 18 * n + 20 + random.below(4);
+        met.note("sheet", sheet(random, &sheets::sheet(&note, n, costs), room)?);
+    }
+    Ok(())
+}
+
+/// Sides that stand at or beyond a limit.
+const SIDES: [usize; 7] = [1024, 1025, 1026, 65_536, 1 << 32, usize::MAX / 2, usize::MAX];
+
+/// Costs outside -K..K, and at its ends.
+fn far_cost(random: &mut Random) -> i32 {
+    random.pick(&[K, -K, K + 1, -K - 1, i32::MAX.into(), i32::MIN.into()]) as i32
+}
+
+/// Prices outside -10K..10K, and at its ends.
+fn far_price(random: &mut Random) -> i64 {
+    random.pick(&[10 * K, -10 * K, 10 * K + 1, -10 * K - 1, i64::MAX, i64::MIN, i64::MAX - K, i64::MIN + K])
+}
+
+/// A side that is 0 to 6, most often 1 to 4.
+fn small_side(random: &mut Random) -> usize {
+    random.below(4) + random.below(4)
+}
+
+/// A small night with one cost or the number of costs damaged, seldom both.
+fn damaged_costs(random: &mut Random, n: &mut usize, costs: &mut Vec<i32>) {
+    match random.below(8) {
+        0 => *n = SIDES[random.below(SIDES.len())],
+        1 => *n = random.below(8),
+        2 => {
+            costs.pop();
+        }
+        3 => costs.push(far_cost(random)),
+        _ if !costs.is_empty() => {
+            let place = random.below(costs.len());
+            costs[place] = far_cost(random);
+        }
+        _ => {}
+    }
+}
+
+/// One damage to a checker's lists.
+fn damaged_lists(random: &mut Random, n: usize, lists: &mut Lists) {
+    let list = random.below(2);
+    let indices = if list == 0 { &mut lists.columns } else { &mut lists.rows };
+    let place = random.below(indices.len().max(1));
+    match random.below(10) {
+        0 if !indices.is_empty() => indices[place] = random.pick(&[n as i64, n as i64 + 1, u32::MAX.into()]) as u32,
+        1 | 2 if !indices.is_empty() => indices[place] = random.below(n.max(1)) as u32,
+        3 => indices.truncate(n.saturating_sub(1)),
+        4 if n >= 2 && lists.columns.len() >= n && lists.rows.len() >= n => {
+            // Another pairing under the same prices.
+            for (i, j) in random.permutation(n).into_iter().enumerate() {
+                lists.columns[i] = j as u32;
+                lists.rows[j] = i as u32;
+            }
+        }
+        _ => {
+            let prices = if list == 0 { &mut lists.row_prices } else { &mut lists.column_prices };
+            let place = random.below(prices.len().max(1));
+            match random.below(4) {
+                0 if !prices.is_empty() => prices[place] = far_price(random),
+                1 => prices.truncate(n.saturating_sub(1)),
+                _ if !prices.is_empty() => prices[place] = prices[place].saturating_add(random.between(-1, 1)),
+                _ => {}
+            }
+        }
+    }
+}
+
+/// One damage to a sheet.
+fn damaged_sheet(random: &mut Random, bytes: &mut Vec<u8>) {
+    let end = bytes.len();
+    match random.below(9) {
+        0 => bytes.truncate(random.below(end + 1)),
+        1 => bytes.splice(0..0, vec![7; 65_530]).for_each(drop),
+        2 if end >= 12 => bytes[end - 1 - random.below(4)] ^= 1 << random.below(8),
+        3 if end >= 12 => bytes[end - 5 - random.below(2)] = random.next() as u8,
+        4 if end >= 12 => bytes[end - 7 - random.below(2)] = random.pick(&[0, 1, 64, 65, 255]) as u8,
+        5 if end >= 12 => bytes[end - 9 - random.below(4)] = random.next() as u8,
+        6 => {
+            bytes.drain(0..random.below(end + 1));
+        }
+        7 if end > 12 => {
+            let place = random.below(end - 12);
+            bytes[place] = random.pick(&[0x7F, 0x80, 0xFF]) as u8;
+        }
+        _ if end > 0 => {
+            let place = random.below(end);
+            bytes[place] = random.next() as u8;
+        }
+        _ => {}
+    }
+}
+
+/// One input that is damaged in up to three ways, for one of the entries.
+pub fn damaged(random: &mut Random, met: &mut Met) -> Result<(), String> {
+    let mut n = small_side(random);
+    let mut costs = (FAMILIES[random.below(FAMILIES.len())].costs)(random, n);
+    let answer = rules::solve(n, &costs);
+    let side = n;
+    let times = random.below(4);
+    match random.below(4) {
+        0 => {
+            let mut lengths = [n, n, n, n, 4 * n, n].map(|length| length + random.below(3));
+            for _ in 0..times {
+                if random.below(2) == 0 {
+                    damaged_costs(random, &mut n, &mut costs);
+                } else {
+                    let list = random.below(6);
+                    lengths[list] = lengths[list].saturating_sub(1 + random.below(3));
+                }
+            }
+            met.note("solve", solve(random, n, &costs, lengths, None)?);
+        }
+        1 => {
+            let mut lists = longer(random, &answer);
+            for _ in 0..times {
+                if random.below(4) == 0 {
+                    damaged_costs(random, &mut n, &mut costs);
+                } else {
+                    damaged_lists(random, side, &mut lists);
+                }
+            }
+            met.note("check", check(n, &costs, &lists)?);
+        }
+        2 => {
+            let mut listed: Vec<u32> = (0..random.below(n + 2)).map(|_| random.below(n.max(1)) as u32).collect();
+            for _ in 0..times {
+                if random.below(2) == 0 {
+                    damaged_costs(random, &mut n, &mut costs);
+                } else if !listed.is_empty() {
+                    let place = random.below(listed.len());
+                    listed[place] = random.pick(&[side as i64, side as i64 + 1, u32::MAX.into()]) as u32;
+                }
+            }
+            met.note("cost", cost(n, &costs, &listed)?);
+        }
+        _ => {
+            let note: Vec<u8> = (0..random.below(9)).map(|_| random.next() as u8).collect();
+            let mut bytes = sheets::sheet(&note, n, &costs);
+            for _ in 0..times {
+                damaged_sheet(random, &mut bytes);
+            }
+            let room = (18 * n + 20 + random.below(4)).saturating_sub(if random.below(4) == 0 { 1 + random.below(30) } else { 0 });
+            met.note("sheet", sheet(random, &bytes, room)?);
+        }
+    }
+    Ok(())
+}
+
+fn limit(what: &str, found: u64, right: u64) -> Result<(), String> {
+    expect(what, &found, &right)
+}
+
+/// The limits themselves: K, 1,024, 64 and 65,536, accepted at and refused past.
+pub fn limits(random: &mut Random) -> Result<(), String> {
+    let k = K as i32;
+    for (cost, code) in [(k, 0), (-k, 0), (k + 1, 5), (-k - 1, 5)] {
+        limit("a cost at its limit", solve(random, 1, &[cost], [1, 1, 1, 1, 4, 1], None)?, code)?;
+        limit("a sheet's cost at its limit", sheet(random, &sheets::sheet(&[], 1, &[cost]), 38)?, code)?;
+    }
+
+    let full = vec![7; 1025 * 1025];
+    for (n, code) in [(1024, 0), (1025, 1)] {
+        limit("side at its limit", solve(random, n, &full[..n * n], [n, n, n, n, 4 * n, n], None)?, code)?;
+        let identity: Vec<u32> = (0..n as u32).collect();
+        let lists = Lists {
+            columns: identity.clone(),
+            rows: identity.clone(),
+            row_prices: vec![7 - 10 * K; n],
+            column_prices: vec![10 * K; n],
+            indices: Vec::new(),
+            numbers: Vec::new(),
+        };
+        limit("checker's side at its limit", check(n, &full[..n * n], &lists)?, code)?;
+        limit("cost's side at its limit", cost(n, &full[..n * n], &identity)?, code)?;
+    }
+    let mut last = full[..1024 * 1024].to_vec();
+    last[1024 * 1024 - 1] = k + 1;
+    let lengths = [1024, 1024, 1024, 1024, 4096, 1024];
+    limit("the last cost is bad", solve(random, 1024, &last, lengths, None)?, 5 + 256 * (1024 * 1024 - 1))?;
+
+    for (n, code) in [(64, 0), (65, 13)] {
+        let bytes = sheets::sheet(&[], n, &vec![-3; n * n]);
+        limit("a sheet's side at its limit", sheet(random, &bytes, 18 * n + 20)?, code)?;
+        limit("a slip's room at its limit", sheet(random, &bytes, 18 * n + 19)?, if code == 0 { 16 } else { code })?;
+    }
+    let costs = [1, 5, 6, 2];
+    for (length, code) in [(65_536, 0), (65_537, 17)] {
+        let bytes = sheets::sheet(&vec![1; length - 28], 2, &costs);
+        limit("a sheet's length at its limit", sheet(random, &bytes, 56)?, code)?;
+    }
+    limit("an empty sheet", sheet(random, &[], 100)?, 11)?;
+    limit("a sheet of side 0", sheet(random, &sheets::sheet(&[], 0, &[]), 20)?, 0)?;
+    limit("side 0 and a column", cost(0, &[], &[0])?, 3 + 256)
+}
