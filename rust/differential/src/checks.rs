@@ -1,8 +1,9 @@
 //! What must hold of every night's answer: it is the crate's, its total is the least, its prices prove
 //! that, and its numbers lie within document 01's bounds.
 
+use crate::oracle::Floats;
 use crate::rules::{self, Answer};
-use crate::{oracle, K};
+use crate::K;
 
 /// Solves a night by the rules and tests the answer in every way; says what failed.
 pub fn night(n: usize, costs: &[i32]) -> Result<Answer, String> {
@@ -33,13 +34,13 @@ fn hold(what: &str, holds: bool) -> Result<(), String> {
 /// The crate's file as it stands, and its copy with prices and counts, give this answer. The crate's price
 /// on side 1 is not compared: it is minus the float maximum.
 fn with_crate(n: usize, costs: &[i32], answer: &Answer) -> Result<(), String> {
-    if let Some((columns, rows)) = oracle::pairing(n, costs) {
+    let floats = Floats::new(n, costs);
+    if let Some((columns, rows)) = floats.pairing() {
         expect("columns against the crate", &answer.columns, &columns)?;
         expect("rows against the crate", &answer.rows, &rows)?;
-        let total = oracle::cost(n, costs, &columns).expect("the source is at hand");
-        expect("total against the crate", &(answer.total as f64), &total)?;
+        expect("total against the crate", &Some(answer.total as f64), &floats.cost(&columns))?;
     }
-    if let Some((columns, rows, v, counts)) = oracle::priced(n, costs) {
+    if let Some((columns, rows, v, counts)) = floats.priced() {
         expect("columns against the crate's copy", &answer.columns, &columns)?;
         expect("rows against the crate's copy", &answer.rows, &rows)?;
         if n != 1 {

@@ -1,5 +1,5 @@
 //! The crate's own file on f64, unchanged, and a copy of it in which the column prices and the counts can
-//! be read (build.rs makes it). Where the source is missing, `AT_HAND` is false and both answer nothing.
+//! be read (build.rs makes it). Where the source is missing, `AT_HAND` is false and every answer is `None`.
 
 /// Whether the crate's source was at hand when this was built.
 pub const AT_HAND: bool = cfg!(lapjv_source);
@@ -14,60 +14,59 @@ pub type Pairing = (Vec<usize>, Vec<usize>);
 /// The copy's answer: the pairing, v, and the five counts.
 pub type Priced = (Vec<usize>, Vec<usize>, Vec<f64>, [usize; 5]);
 
+/// The crate's file as it stands.
 #[cfg(lapjv_source)]
-mod with_source {
-    use ndarray::Array2;
+#[allow(dead_code)]
+mod unchanged {
+    include!(env!("LAPJV_FILE"));
+}
 
-    /// The crate's file as it stands.
-    #[allow(dead_code)]
-    pub mod unchanged {
-        include!(env!("LAPJV_FILE"));
-    }
+/// The copy that also answers v and the counts.
+#[cfg(lapjv_source)]
+#[allow(dead_code)]
+mod with_prices {
+    include!(concat!(env!("OUT_DIR"), "/lapjv_with_prices.rs"));
+}
 
-    /// The copy that also answers v and the counts.
-    #[allow(dead_code)]
-    pub mod with_prices {
-        include!(concat!(env!("OUT_DIR"), "/lapjv_with_prices.rs"));
-    }
+/// A night's costs as the crate takes them.
+pub struct Floats(#[cfg_attr(not(lapjv_source), allow(dead_code))] ndarray::Array2<f64>);
 
-    pub fn matrix(n: usize, costs: &[i32]) -> Array2<f64> {
+impl Floats {
+    pub fn new(n: usize, costs: &[i32]) -> Self {
         let entries = costs.iter().map(|&cost| f64::from(cost)).collect();
-        Array2::from_shape_vec((n, n), entries).expect("n*n costs")
+        Floats(ndarray::Array2::from_shape_vec((n, n), entries).expect("n*n costs"))
     }
 }
 
 #[cfg(lapjv_source)]
-pub use with_source::{matrix, unchanged, with_prices};
+impl Floats {
+    /// The crate's pairing of a night.
+    pub fn pairing(&self) -> Option<Pairing> {
+        Some(unchanged::lapjv(&self.0).expect("the crate pairs every square matrix"))
+    }
 
-/// The crate's pairing of a night.
-#[cfg(lapjv_source)]
-pub fn pairing(n: usize, costs: &[i32]) -> Option<Pairing> {
-    Some(unchanged::lapjv(&matrix(n, costs)).expect("the crate pairs every square matrix"))
-}
+    /// The crate's pairing of a night, with v and the counts.
+    pub fn priced(&self) -> Option<Priced> {
+        Some(with_prices::lapjv(&self.0).expect("the crate pairs every square matrix"))
+    }
 
-/// The crate's pairing of a night, with v and the counts.
-#[cfg(lapjv_source)]
-pub fn priced(n: usize, costs: &[i32]) -> Option<Priced> {
-    Some(with_prices::lapjv(&matrix(n, costs)).expect("the crate pairs every square matrix"))
-}
-
-/// The crate's total over a list of columns.
-#[cfg(lapjv_source)]
-pub fn cost(n: usize, costs: &[i32], listed: &[usize]) -> Option<f64> {
-    Some(unchanged::cost(&matrix(n, costs), listed))
+    /// The crate's total over a list of columns.
+    pub fn cost(&self, listed: &[usize]) -> Option<f64> {
+        Some(unchanged::cost(&self.0, listed))
+    }
 }
 
 #[cfg(not(lapjv_source))]
-pub fn pairing(_: usize, _: &[i32]) -> Option<Pairing> {
-    None
-}
+impl Floats {
+    pub fn pairing(&self) -> Option<Pairing> {
+        None
+    }
 
-#[cfg(not(lapjv_source))]
-pub fn priced(_: usize, _: &[i32]) -> Option<Priced> {
-    None
-}
+    pub fn priced(&self) -> Option<Priced> {
+        None
+    }
 
-#[cfg(not(lapjv_source))]
-pub fn cost(_: usize, _: &[i32], _: &[usize]) -> Option<f64> {
-    None
+    pub fn cost(&self, _: &[usize]) -> Option<f64> {
+        None
+    }
 }

@@ -1,0 +1,178 @@
+//! Times the crate lapjv 0.3.0 on f64 and the archive on the same matrices, in one process and in turn, and writes
+//! the medians and their ratio as a table.
+//!
+//!     bench [--seed S] [--matrices M] [--rounds R] [--largest N]
+//!
+//! M matrices of each kind and side (3) are solved R times each (5), by the crate and by the archive in turn, after
+//! one round that is not counted; sides over N (1,024) are left out.
+//!
+//! What is timed: the crate's `lapjv` on a matrix of f64 that is made beforehand; the archive's solver on a slice
+//! of i32, into lists that are allocated once for each matrix beforehand. Nobody clears those lists between runs;
+//! that the archive sets its work room to 0 before it returns is part of its time, as the crate's own allocations
+//! are part of the crate's.
+
+use std::process::ExitCode;
+use std::time::{Duration, Instant};
+
+use bristlefrost::Lent;
+use differential::nights::Random;
+use differential::oracle;
+
+const K: i64 = 1_000_000_000;
+
+/// A kind of matrix: its name, and the cost at (i, j).
+type Kind = (&'static str, fn(&mut Random, usize, usize) -> i64);
+
+const KINDS: [Kind; 5] = [
+    ("random 0..10^6", |random, _, _| random.between(0, 1_000_000)),
+    ("random 0..10^9", |random, _, _| random.between(0, K)),
+    ("tied 0..3", |random, _, _| random.between(0, 3)),
+    ("-K or K", |random, _, _| random.pick(&[-K, K])),
+    ("i*j", |_, i, j| (i * j) as i64),
+];
+
+const SIDES: [usize; 4] = [64, 256, 512, 1024];
+
+/// What the command line sets.
+struct Settings {
+    seed: u64,
+    matrices: usize,
+    rounds: usize,
+    largest: usize,
+}
+
+fn settings() -> Result<Settings, String> {
+    let mut settings = Settings { seed: 1, matrices: 3, rounds: 5, largest: 1024 };
+    let mut arguments = std::env::args().skip(1);
+    while let Some(name) = arguments.next() {
+        let value = arguments.next().and_then(|value| value.parse::<u64>().ok());
+        let value = value.ok_or_else(|| format!("{name} wants a number"))?;
+        match name.as_str() {
+            "--seed" => settings.seed = value,
+            "--matrices" => settings.matrices = (value as usize).max(1),
+            "--rounds" => settings.rounds = (value as usize).max(1),
+            "--largest" => settings.largest = value as usize,
+            _ => return Err(format!("unknown: {name}")),
+        }
+    }
+    Ok(settings)
+}
+
+/// One matrix for both, with the lists that the archive is lent.
+struct Matrix {
+    n: usize,
+    costs: Vec<i32>,
+    floats: oracle::Floats,
+    columns: Vec<u32>,
+    rows: Vec<u32>,
+    row_prices: Vec<i64>,
+    column_prices: Vec<i64>,
+    indices: Vec<u32>,
+    numbers: Vec<i64>,
+}
+
+impl Matrix {
+    fn new(n: usize, costs: Vec<i32>) -> Self {
+        Matrix {
+            n,
+            floats: oracle::Floats::new(n, &costs),
+            costs,
+            columns: vec![0; n],
+            rows: vec![0; n],
+            row_prices: vec![0; n],
+            column_prices: vec![0; n],
+            indices: vec![0; 4 * n],
+            numbers: vec![0; n],
+        }
+    }
+
+    fn by_crate(&self) -> (Duration, Option<oracle::Pairing>) {
+        let start = Instant::now();
+        let pairing = self.floats.pairing();
+        (start.elapsed(), pairing)
+    }
+
+    fn by_archive(&mut self) -> (Duration, Result<i64, String>) {
+        let lent = Lent {
+            columns: &mut self.columns,
+            rows: &mut self.rows,
+            row_prices: &mut self.row_prices,
+            column_prices: &mut self.column_prices,
+            indices: &mut self.indices,
+            numbers: &mut self.numbers,
+        };
+        let start = Instant::now();
+        let paired = bristlefrost::solve_into(self.n, &self.costs, lent);
+        (start.elapsed(), paired.map(|paired| paired.total).map_err(|refusal| refusal.to_string()))
+    }
+}
+
+fn median(mut times: Vec<Duration>) -> Duration {
+    times.sort();
+    times[times.len() / 2]
+}
+
+fn milliseconds(time: Duration) -> f64 {
+    time.as_secs_f64() * 1000.0
+}
+
+/// Times one kind at one side and answers the table's line.
+fn line(settings: &Settings, random: &mut Random, kind: &Kind, n: usize) -> Result<String, String> {
+    let (name, cost) = kind;
+    let (mut crates, mut archives) = (Vec::new(), Vec::new());
+    for _ in 0..settings.matrices {
+        let costs = (0..n * n).map(|place| cost(random, place / n, place % n) as i32).collect();
+        let mut matrix = Matrix::new(n, costs);
+        for round in 0..=settings.rounds {
+            let (crate_time, pairing) = matrix.by_crate();
+            let (archive_time, total) = matrix.by_archive();
+            total?;
+            if let Some((columns, _)) = pairing {
+                let same = columns.iter().zip(&matrix.columns).all(|(&a, &b)| a == b as usize);
+                if !same {
+                    return Err(format!("{name}, side {n}: the crate and the archive pair differently"));
+                }
+            }
+            if round > 0 {
+                crates.push(crate_time);
+                archives.push(archive_time);
+            }
+        }
+    }
+    let archive = milliseconds(median(archives));
+    if !oracle::AT_HAND {
+        return Ok(format!("| {name} | {n} | not run | {archive:.3} | |"));
+    }
+    let own = milliseconds(median(crates));
+    Ok(format!("| {name} | {n} | {own:.3} | {archive:.3} | {:.2} |", archive / own))
+}
+
+fn run() -> Result<(), String> {
+    let settings = settings()?;
+    if !oracle::AT_HAND {
+        println!("{}", oracle::NOT_RUN);
+    }
+    println!(
+        "Seed {}, {} matrices of each, {} rounds each; milliseconds, medians; lists are lent uncleared.\n",
+        settings.seed, settings.matrices, settings.rounds
+    );
+    println!("| costs | side | crate, f64 | archive | archive / crate |");
+    println!("|---|---|---|---|---|");
+    let mut random = Random::new(settings.seed);
+    for n in SIDES.into_iter().filter(|&n| n <= settings.largest) {
+        for kind in &KINDS {
+            println!("{}", line(&settings, &mut random, kind, n)?);
+        }
+    }
+    Ok(())
+}
+
+fn main() -> ExitCode {
+    match run() {
+        Ok(()) => ExitCode::SUCCESS,
+        Err(failure) => {
+            println!("bench: FAILED: {failure}");
+            ExitCode::FAILURE
+        }
+    }
+}
