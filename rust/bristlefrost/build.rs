@@ -16,6 +16,7 @@ fn main() {
         return;
     }
     let directory = directory.canonicalize().expect("the archive's directory has a full path");
+    println!("cargo:rustc-env=BRISTLEFROST_DIRECTORY={}", directory.display());
     println!("cargo:rustc-link-search=native={}", directory.display());
     println!("cargo:rustc-link-lib=static=face");
 }

@@ -5,7 +5,7 @@ use std::collections::BTreeMap;
 
 use bristlefrost::{face, Lent};
 
-use crate::nights::{Random, FAMILIES};
+use crate::nights::Random;
 use crate::rules::{self, Answer};
 use crate::{refusals, sheets, K};
 
@@ -14,7 +14,7 @@ use crate::{refusals, sheets, K};
 pub struct Met(BTreeMap<(&'static str, u64), usize>);
 
 impl Met {
-    fn note(&mut self, entry: &'static str, code: u64) {
+    pub fn note(&mut self, entry: &'static str, code: u64) {
         *self.0.entry((entry, code % 256)).or_default() += 1;
     }
 
@@ -46,13 +46,13 @@ impl Met {
 
 /// The six lists that the solver writes.
 #[derive(Clone, Debug, PartialEq, Eq)]
-struct Lists {
-    columns: Vec<u32>,
-    rows: Vec<u32>,
-    row_prices: Vec<i64>,
-    column_prices: Vec<i64>,
-    indices: Vec<u32>,
-    numbers: Vec<i64>,
+pub struct Lists {
+    pub columns: Vec<u32>,
+    pub rows: Vec<u32>,
+    pub row_prices: Vec<i64>,
+    pub column_prices: Vec<i64>,
+    pub indices: Vec<u32>,
+    pub numbers: Vec<i64>,
 }
 
 impl Lists {
@@ -117,7 +117,13 @@ fn wrapped(answer: Result<i64, bristlefrost::Refusal>) -> (u64, i64) {
 }
 
 /// Lends the solver lists of these lengths and compares everything.
-fn solve(random: &mut Random, n: usize, costs: &[i32], lengths: [usize; 6], known: Option<&Answer>) -> Result<u64, String> {
+pub fn solve(
+    random: &mut Random,
+    n: usize,
+    costs: &[i32],
+    lengths: [usize; 6],
+    known: Option<&Answer>,
+) -> Result<u64, String> {
     let before = Lists::new(random, lengths);
     let mut found = before.clone();
     let mut right = before;
@@ -147,7 +153,7 @@ fn solve(random: &mut Random, n: usize, costs: &[i32], lengths: [usize; 6], know
 }
 
 /// Lends the checker these lists and compares its answer.
-fn check(n: usize, costs: &[i32], lists: &Lists) -> Result<u64, String> {
+pub fn check(n: usize, costs: &[i32], lists: &Lists) -> Result<u64, String> {
     let (columns, rows, u, v) = (&lists.columns, &lists.rows, &lists.row_prices, &lists.column_prices);
     let right = told(refusals::checker(n, costs, columns, rows, u, v));
     let found = face::check(n, costs, columns, rows, u, v);
@@ -156,7 +162,7 @@ fn check(n: usize, costs: &[i32], lists: &Lists) -> Result<u64, String> {
     Ok(right.0)
 }
 
-fn cost(n: usize, costs: &[i32], listed: &[u32]) -> Result<u64, String> {
+pub fn cost(n: usize, costs: &[i32], listed: &[u32]) -> Result<u64, String> {
     let right = told(refusals::cost(n, costs, listed));
     let found = face::cost(n, costs, listed);
     expect("cost", &(found.refusal, found.total), &right)?;
@@ -165,7 +171,7 @@ fn cost(n: usize, costs: &[i32], listed: &[u32]) -> Result<u64, String> {
 }
 
 /// Hands over a sheet and room for a slip, and compares the slip's room in full.
-fn sheet(random: &mut Random, bytes: &[u8], room: usize) -> Result<u64, String> {
+pub fn sheet(random: &mut Random, bytes: &[u8], room: usize) -> Result<u64, String> {
     let mut found: Vec<u8> = (0..room).map(|_| random.next() as u8).collect();
     let mut right = found.clone();
     let code = match refusals::sheet(bytes, room) {
@@ -177,15 +183,20 @@ fn sheet(random: &mut Random, bytes: &[u8], room: usize) -> Result<u64, String> 
         }
     };
     expect("sheet", &face::sheet(bytes, &mut found), &code)?;
-    expect("the slip's room", &found, &right)
-        .map_err(|failure| if room <= 400 { failure } else { String::from("the slip's room (not shown)") })?;
+    expect("the slip's room", &found, &right).map_err(|failure| {
+        if room <= 400 {
+            failure
+        } else {
+            String::from("the slip's room (not shown)")
+        }
+    })?;
     let again = bristlefrost::sheet_into(bytes, &mut found).map(|()| 0);
     expect("the wrapper's sheet", &wrapped(again), &(code, 0))?;
     Ok(code)
 }
 
 /// The answer's lists, with random entries behind them.
-fn longer(random: &mut Random, answer: &Answer) -> Lists {
+pub fn longer(random: &mut Random, answer: &Answer) -> Lists {
     let index = |list: &[usize]| -> Vec<u32> { list.iter().map(|&entry| entry as u32).collect() };
     let mut lists = Lists {
         columns: index(&answer.columns),
@@ -209,14 +220,18 @@ pub fn night(random: &mut Random, met: &mut Met, n: usize, costs: &[i32], answer
 
     let lists = longer(random, answer);
     met.note("check", check(n, costs, &lists)?);
-    expect("the solver's answer is accepted", &told(Ok(answer.total)), &wrapped(bristlefrost::check(
-        n,
-        costs,
-        &lists.columns,
-        &lists.rows,
-        &lists.row_prices,
-        &lists.column_prices,
-    )))?;
+    expect(
+        "the solver's answer is accepted",
+        &told(Ok(answer.total)),
+        &wrapped(bristlefrost::check(
+            n,
+            costs,
+            &lists.columns,
+            &lists.rows,
+            &lists.row_prices,
+            &lists.column_prices,
+        )),
+    )?;
 
     met.note("cost", cost(n, costs, &lists.columns[..n])?);
     let listed: Vec<u32> = (0..random.below(n + 1)).map(|_| random.below(n) as u32).collect();
@@ -226,151 +241,6 @@ pub fn night(random: &mut Random, met: &mut Met, n: usize, costs: &[i32], answer
         let note: Vec<u8> = (0..random.below(40)).map(|_| random.next() as u8).collect();
         let room = 18 * n + 20 + random.below(4);
         met.note("sheet", sheet(random, &sheets::sheet(&note, n, costs), room)?);
-    }
-    Ok(())
-}
-
-/// Sides that stand at or beyond a limit.
-const SIDES: [usize; 7] = [1024, 1025, 1026, 65_536, 1 << 32, usize::MAX / 2, usize::MAX];
-
-/// Costs outside -K..K, and at its ends.
-fn far_cost(random: &mut Random) -> i32 {
-    random.pick(&[K, -K, K + 1, -K - 1, i32::MAX.into(), i32::MIN.into()]) as i32
-}
-
-/// Prices outside -10K..10K, and at its ends.
-fn far_price(random: &mut Random) -> i64 {
-    random.pick(&[10 * K, -10 * K, 10 * K + 1, -10 * K - 1, i64::MAX, i64::MIN, i64::MAX - K, i64::MIN + K])
-}
-
-/// A side that is 0 to 6, most often 1 to 4.
-fn small_side(random: &mut Random) -> usize {
-    random.below(4) + random.below(4)
-}
-
-/// A small night with one cost or the number of costs damaged, seldom both.
-fn damaged_costs(random: &mut Random, n: &mut usize, costs: &mut Vec<i32>) {
-    match random.below(8) {
-        0 => *n = SIDES[random.below(SIDES.len())],
-        1 => *n = random.below(8),
-        2 => {
-            costs.pop();
-        }
-        3 => costs.push(far_cost(random)),
-        _ if !costs.is_empty() => {
-            let place = random.below(costs.len());
-            costs[place] = far_cost(random);
-        }
-        _ => {}
-    }
-}
-
-/// One damage to a checker's lists.
-fn damaged_lists(random: &mut Random, n: usize, lists: &mut Lists) {
-    let list = random.below(2);
-    let indices = if list == 0 { &mut lists.columns } else { &mut lists.rows };
-    let place = random.below(indices.len().max(1));
-    match random.below(10) {
-        0 if !indices.is_empty() => indices[place] = random.pick(&[n as i64, n as i64 + 1, u32::MAX.into()]) as u32,
-        1 | 2 if !indices.is_empty() => indices[place] = random.below(n.max(1)) as u32,
-        3 => indices.truncate(n.saturating_sub(1)),
-        4 if n >= 2 && lists.columns.len() >= n && lists.rows.len() >= n => {
-            // Another pairing under the same prices.
-            for (i, j) in random.permutation(n).into_iter().enumerate() {
-                lists.columns[i] = j as u32;
-                lists.rows[j] = i as u32;
-            }
-        }
-        _ => {
-            let prices = if list == 0 { &mut lists.row_prices } else { &mut lists.column_prices };
-            let place = random.below(prices.len().max(1));
-            match random.below(4) {
-                0 if !prices.is_empty() => prices[place] = far_price(random),
-                1 => prices.truncate(n.saturating_sub(1)),
-                _ if !prices.is_empty() => prices[place] = prices[place].saturating_add(random.between(-1, 1)),
-                _ => {}
-            }
-        }
-    }
-}
-
-/// One damage to a sheet.
-fn damaged_sheet(random: &mut Random, bytes: &mut Vec<u8>) {
-    let end = bytes.len();
-    match random.below(9) {
-        0 => bytes.truncate(random.below(end + 1)),
-        1 => bytes.splice(0..0, vec![7; 65_530]).for_each(drop),
-        2 if end >= 12 => bytes[end - 1 - random.below(4)] ^= 1 << random.below(8),
-        3 if end >= 12 => bytes[end - 5 - random.below(2)] = random.next() as u8,
-        4 if end >= 12 => bytes[end - 7 - random.below(2)] = random.pick(&[0, 1, 64, 65, 255]) as u8,
-        5 if end >= 12 => bytes[end - 9 - random.below(4)] = random.next() as u8,
-        6 => {
-            bytes.drain(0..random.below(end + 1));
-        }
-        7 if end > 12 => {
-            let place = random.below(end - 12);
-            bytes[place] = random.pick(&[0x7F, 0x80, 0xFF]) as u8;
-        }
-        _ if end > 0 => {
-            let place = random.below(end);
-            bytes[place] = random.next() as u8;
-        }
-        _ => {}
-    }
-}
-
-/// One input that is damaged in up to three ways, for one of the entries.
-pub fn damaged(random: &mut Random, met: &mut Met) -> Result<(), String> {
-    let mut n = small_side(random);
-    let mut costs = (FAMILIES[random.below(FAMILIES.len())].costs)(random, n);
-    let answer = rules::solve(n, &costs);
-    let side = n;
-    let times = random.below(4);
-    match random.below(4) {
-        0 => {
-            let mut lengths = [n, n, n, n, 4 * n, n].map(|length| length + random.below(3));
-            for _ in 0..times {
-                if random.below(2) == 0 {
-                    damaged_costs(random, &mut n, &mut costs);
-                } else {
-                    let list = random.below(6);
-                    lengths[list] = lengths[list].saturating_sub(1 + random.below(3));
-                }
-            }
-            met.note("solve", solve(random, n, &costs, lengths, None)?);
-        }
-        1 => {
-            let mut lists = longer(random, &answer);
-            for _ in 0..times {
-                if random.below(4) == 0 {
-                    damaged_costs(random, &mut n, &mut costs);
-                } else {
-                    damaged_lists(random, side, &mut lists);
-                }
-            }
-            met.note("check", check(n, &costs, &lists)?);
-        }
-        2 => {
-            let mut listed: Vec<u32> = (0..random.below(n + 2)).map(|_| random.below(n.max(1)) as u32).collect();
-            for _ in 0..times {
-                if random.below(2) == 0 {
-                    damaged_costs(random, &mut n, &mut costs);
-                } else if !listed.is_empty() {
-                    let place = random.below(listed.len());
-                    listed[place] = random.pick(&[side as i64, side as i64 + 1, u32::MAX.into()]) as u32;
-                }
-            }
-            met.note("cost", cost(n, &costs, &listed)?);
-        }
-        _ => {
-            let note: Vec<u8> = (0..random.below(9)).map(|_| random.next() as u8).collect();
-            let mut bytes = sheets::sheet(&note, n, &costs);
-            for _ in 0..times {
-                damaged_sheet(random, &mut bytes);
-            }
-            let room = (18 * n + 20 + random.below(4)).saturating_sub(if random.below(4) == 0 { 1 + random.below(30) } else { 0 });
-            met.note("sheet", sheet(random, &bytes, room)?);
-        }
     }
     Ok(())
 }
@@ -410,7 +280,11 @@ pub fn limits(random: &mut Random) -> Result<(), String> {
     for (n, code) in [(64, 0), (65, 13)] {
         let bytes = sheets::sheet(&[], n, &vec![-3; n * n]);
         limit("a sheet's side at its limit", sheet(random, &bytes, 18 * n + 20)?, code)?;
-        limit("a slip's room at its limit", sheet(random, &bytes, 18 * n + 19)?, if code == 0 { 16 } else { code })?;
+        limit(
+            "a slip's room at its limit",
+            sheet(random, &bytes, 18 * n + 19)?,
+            if code == 0 { 16 } else { code },
+        )?;
     }
     let costs = [1, 5, 6, 2];
     for (length, code) in [(65_536, 0), (65_537, 17)] {

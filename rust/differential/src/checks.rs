@@ -78,10 +78,7 @@ fn bounds(n: usize, answer: &Answer) -> Result<(), String> {
     hold("pass two makes F to F*n looks", looks(counts.left_after_one, counts.looks_two))?;
     hold("a pass leaves no more rows than it took", counts.left_after_one <= counts.free_rows)?;
     hold("a pass leaves no more rows than it took", counts.rows_left <= counts.left_after_one)?;
-    hold(
-        "each search scans at most n-1 columns",
-        counts.columns_scanned <= counts.rows_left * n.saturating_sub(1),
-    )
+    hold("each search scans at most n-1 columns", counts.columns_scanned <= counts.rows_left * n.saturating_sub(1))
 }
 
 /// The least total over all permutations.

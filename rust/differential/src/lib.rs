@@ -1,9 +1,11 @@
-//! The crate lapjv 0.3.0 on f64, document 01's rules over integers, and the nights on which they are
-//! compared.
+//! The crate lapjv 0.3.0 on f64, document 01's rules and refusals in plain Rust, and the nights on which they and
+//! the archive are compared.
 
 #[cfg(feature = "archive")]
 pub mod archive;
 pub mod checks;
+#[cfg(feature = "archive")]
+pub mod damage;
 pub mod nights;
 pub mod oracle;
 pub mod refusals;

@@ -9,10 +9,10 @@
 
 use std::process::ExitCode;
 
-#[cfg(feature = "archive")]
-use differential::archive;
 use differential::nights::{Every, Random, FAMILIES};
 use differential::rules::Answer;
+#[cfg(feature = "archive")]
+use differential::{archive, damage};
 use differential::{checks, oracle, K};
 
 /// What the command line sets.
@@ -59,9 +59,12 @@ impl Archive {
     fn damaged(&mut self, settings: &Settings) -> Result<(), String> {
         archive::limits(&mut self.random)?;
         for _ in 0..settings.count {
-            archive::damaged(&mut self.random, &mut self.met)?;
+            damage::one(&mut self.random, &mut self.met)?;
         }
-        println!("{} damaged inputs and the limits, seed {}: the archive and document 01", settings.count, settings.seed);
+        println!(
+            "{} damaged inputs and the limits, seed {}: the archive and document 01",
+            settings.count, settings.seed
+        );
         for line in self.met.lines()? {
             println!("  {line}");
         }

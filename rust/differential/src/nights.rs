@@ -92,9 +92,18 @@ pub const FAMILIES: [Family; 26] = [
     Family { name: "0..10^6", costs: |r, n| uniform(r, n, 0, 1_000_000) },
     Family { name: "-K..K", costs: |r, n| uniform(r, n, -K, K) },
     Family { name: "-K or K", costs: |r, n| each(n, |_, _| r.pick(&[-K, K])) },
-    Family { name: "near -K or K", costs: |r, n| each(n, |_, _| r.pick(&[-K, -K + 1, -K + 2, 0, K - 2, K - 1, K])) },
+    Family {
+        name: "near -K or K",
+        costs: |r, n| each(n, |_, _| r.pick(&[-K, -K + 1, -K + 2, 0, K - 2, K - 1, K])),
+    },
     Family { name: "near K", costs: |r, n| uniform(r, n, K - 5, K) },
-    Family { name: "all equal", costs: |r, n| { let c = r.pick(&[-K, -1, 0, 7, K]); each(n, |_, _| c) } },
+    Family {
+        name: "all equal",
+        costs: |r, n| {
+            let c = r.pick(&[-K, -1, 0, 7, K]);
+            each(n, |_, _| c)
+        },
+    },
     Family {
         name: "constant rows",
         costs: |r, n| {
@@ -112,7 +121,8 @@ pub const FAMILIES: [Family; 26] = [
     Family {
         name: "row plus column",
         costs: |r, n| {
-            let (rows, columns, rare) = (r.numbers(n, -K / 2, K / 2), r.numbers(n, -K / 2, K / 2), 1 + r.below(2 * n + 1));
+            let (rows, columns, rare) =
+                (r.numbers(n, -K / 2, K / 2), r.numbers(n, -K / 2, K / 2), 1 + r.below(2 * n + 1));
             each(n, |i, j| rows[i] + columns[j] + i64::from(r.below(rare) == 0))
         },
     },
@@ -169,10 +179,7 @@ pub const FAMILIES: [Family; 26] = [
             each(n, |i, j| (rows[i] - columns[j]).abs())
         },
     },
-    Family {
-        name: "powers of two",
-        costs: |r, n| each(n, |_, _| r.pick(&[-1, 1]) * (1 << r.below(30))),
-    },
+    Family { name: "powers of two", costs: |r, n| each(n, |_, _| r.pick(&[-1, 1]) * (1 << r.below(30))) },
 ];
 
 /// All nights of a side over a few values, in order.

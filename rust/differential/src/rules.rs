@@ -45,8 +45,7 @@ struct State<'a> {
 /// Pairs a night of side n; `costs` holds n*n numbers in row order.
 pub fn solve(n: usize, costs: &[i32]) -> Answer {
     assert_eq!(costs.len(), n * n);
-    let mut state =
-        State { n, costs, column_of: vec![None; n], row_of: vec![None; n], v: vec![0; n] };
+    let mut state = State { n, costs, column_of: vec![None; n], row_of: vec![None; n], v: vec![0; n] };
     let mut counts = Counts::default();
 
     let mut free = state.column_reduction_and_transfer();

@@ -101,7 +101,8 @@ pub unsafe extern "C" fn bristlefrost_check(
     let result = refusals::checker(n, costs, cols, rows, row_prices, col_prices);
     if cfg!(feature = "refusals-out-of-order") && matches!(result, Err((9, _))) {
         // A 10 on an earlier row hides the 9.
-        let tight = |i: usize| row_prices[i] + col_prices[cols[i] as usize] == i64::from(costs[i * n + cols[i] as usize]);
+        let tight =
+            |i: usize| row_prices[i] + col_prices[cols[i] as usize] == i64::from(costs[i * n + cols[i] as usize]);
         if let Some(row) = (0..n).find(|&i| !tight(i)) {
             return answer(Err((10, row as u64)));
         }
@@ -121,7 +122,8 @@ pub unsafe extern "C" fn bristlefrost_cost(
 ) -> Total {
     let (costs, listed) = (from_raw_parts(costs, costs_len), from_raw_parts(listed, listed_len));
     let result = refusals::cost(n, costs, listed);
-    if cfg!(feature = "cost-inside-only") && matches!(result, Err((5, place)) if place as usize >= n * listed_len) {
+    if cfg!(feature = "cost-inside-only") && matches!(result, Err((5, place)) if place as usize >= n * listed_len)
+    {
         return answer(Ok(0));
     }
     answer(result)

@@ -22,11 +22,7 @@ pub struct ArrayView1<'a, T> {
 impl<T> Array2<T> {
     /// The matrix with these entries in row order; `None` where their number does not fit.
     pub fn from_shape_vec(shape: (usize, usize), entries: Vec<T>) -> Option<Self> {
-        (entries.len() == shape.0 * shape.1).then_some(Array2 {
-            rows: shape.0,
-            columns: shape.1,
-            entries,
-        })
+        (entries.len() == shape.0 * shape.1).then_some(Array2 { rows: shape.0, columns: shape.1, entries })
     }
 
     pub fn dim(&self) -> (usize, usize) {
@@ -50,11 +46,7 @@ impl<T> Array2<T> {
             1 => (self.rows, self.columns, 1, self.columns),
             _ => panic!("axis out of range"),
         };
-        (0..lanes).map(move |lane| ArrayView1 {
-            entries: &self.entries[lane * apart..],
-            step,
-            length,
-        })
+        (0..lanes).map(move |lane| ArrayView1 { entries: &self.entries[lane * apart..], step, length })
     }
 }
 

@@ -123,13 +123,8 @@ impl Found {
 
 fn search() -> Found {
     let mut found = Found { best: vec![None; SLIPS.len()], nights: 0 };
-    let full: [(usize, &[i32]); 5] = [
-        (2, &[0, 1, 2, 3, 4, 5]),
-        (3, &[0, 1, 2, 3, 4]),
-        (3, &[0, 1, 5, 9]),
-        (4, &[0, 1]),
-        (4, &[0, 5]),
-    ];
+    let full: [(usize, &[i32]); 5] =
+        [(2, &[0, 1, 2, 3, 4, 5]), (3, &[0, 1, 2, 3, 4]), (3, &[0, 1, 5, 9]), (4, &[0, 1]), (4, &[0, 5])];
     for (n, values) in full {
         Every::new(n, values).for_each(|costs| found.try_night(n, &costs, Tried::ToldByNoSmallerSide));
     }
@@ -267,7 +262,8 @@ fn replay(file: &str) -> Result<(), String> {
             continue;
         }
         let slip = SLIPS.iter().find(|(_, letter, _)| cells.get(1) == Some(letter));
-        let (Some((slip, letter, what)), Some(costs)) = (slip, cells.get(3).and_then(|cell| costs_of(cell))) else {
+        let (Some((slip, letter, what)), Some(costs)) = (slip, cells.get(3).and_then(|cell| costs_of(cell)))
+        else {
             continue;
         };
         let n = costs.len().isqrt();

@@ -84,8 +84,7 @@ struct State<'a> {
 
 /// Pairs a night with one step done wrong; an error says where that came to no end.
 pub fn solve(slip: Option<Slip>, n: usize, costs: &[i32]) -> Result<Answer, &'static str> {
-    let mut state =
-        State { n, costs, column_of: vec![None; n], row_of: vec![None; n], v: vec![0; n], slip };
+    let mut state = State { n, costs, column_of: vec![None; n], row_of: vec![None; n], v: vec![0; n], slip };
     let mut counts = Counts::default();
 
     let mut free = state.column_reduction_and_transfer();
@@ -266,7 +265,8 @@ impl State<'_> {
             if let Some(displaced) = self.row_of[taken] {
                 self.column_of[displaced] = None;
                 let late = counter >= limit;
-                let back = (lowered && !self.slips(LoweredGoesToNext)) || (!late && self.slips(NotLoweredGoesBack));
+                let back =
+                    (lowered && !self.slips(LoweredGoesToNext)) || (!late && self.slips(NotLoweredGoesBack));
                 if back {
                     current -= 1;
                     free[current] = displaced;

@@ -1,0 +1,37 @@
+/* Document 01's night N8 and its sheet of side 1, through the header. Status 0 where every answer is right. */
+
+#include <bristlefrost.h>
+
+int main(void) {
+    const int32_t costs[9] = {3, 1, 0, 0, 0, 2, 4, 1, 0};
+    uint32_t cols[3], rows[3], indices[12];
+    int64_t row_prices[3], col_prices[3], numbers[3];
+    bristlefrost_solved night = bristlefrost_solve(
+        3, costs, 9, cols, 3, rows, 3, row_prices, 3, col_prices, 3, indices, 12, numbers, 3);
+    if (night.refusal != 0 || night.total != 1) return 1;
+    if (cols[0] != 2 || cols[1] != 0 || cols[2] != 1) return 2;
+    if (rows[0] != 1 || rows[1] != 2 || rows[2] != 0) return 3;
+    if (row_prices[0] != 1 || row_prices[1] != 0 || row_prices[2] != 1) return 4;
+    if (col_prices[0] != 0 || col_prices[1] != 0 || col_prices[2] != -1) return 5;
+    if (night.free_rows != 1 || night.looks_one != 1 || night.looks_two != 1) return 6;
+    if (night.rows_left != 1 || night.columns_scanned != 1) return 7;
+
+    bristlefrost_total checked =
+        bristlefrost_check(3, costs, 9, cols, 3, rows, 3, row_prices, 3, col_prices, 3);
+    if (checked.refusal != 0 || checked.total != 1) return 8;
+    const uint32_t other[3] = {0, 1, 2};
+    checked = bristlefrost_check(3, costs, 9, other, 3, other, 3, row_prices, 3, col_prices, 3);
+    if (checked.refusal != 10 || checked.total != 0) return 9;
+
+    bristlefrost_total summed = bristlefrost_cost(3, costs, 9, other, 2);
+    if (summed.refusal != 0 || summed.total != 3) return 10;
+    summed = bristlefrost_cost(2, costs, 4, other, 3);
+    if (summed.refusal != 3 + 256 * 1) return 11;
+
+    const uint8_t sheet[16] = {7, 0, 0, 0, 4, 0, 0, 0, 1, 0, 1, 0, 0x4D, 0x54, 0x43, 0x48};
+    uint8_t slip[38];
+    if (bristlefrost_sheet(sheet, 16, slip, 38) != 0) return 12;
+    if (slip[10] != 7 || slip[18] != 7 || slip[26] != 0x1A || slip[37] != 0x50) return 13;
+    if (bristlefrost_sheet(sheet, 16, slip, 37) != 16) return 14;
+    return 0;
+}

@@ -1,0 +1,191 @@
+//! Inputs for the archive that are damaged in up to three ways. What it must answer is what document 01's refusals
+//! give for the same input.
+
+use crate::archive::{self, Lists, Met};
+use crate::nights::{Random, FAMILIES};
+use crate::{rules, sheets, K};
+
+/// Sides that stand at or beyond a limit.
+const SIDES: [usize; 7] = [1024, 1025, 1026, 65_536, 1 << 32, usize::MAX / 2, usize::MAX];
+
+/// Costs outside -K..K, and at its ends.
+fn far_cost(random: &mut Random) -> i32 {
+    random.pick(&[K, -K, K + 1, -K - 1, i32::MAX.into(), i32::MIN.into()]) as i32
+}
+
+/// Prices outside -10K..10K, and at its ends.
+fn far_price(random: &mut Random) -> i64 {
+    random.pick(&[10 * K, -10 * K, 10 * K + 1, -10 * K - 1, i64::MAX, i64::MIN, i64::MAX - K, i64::MIN + K])
+}
+
+/// A side that is 0 to 6, most often 1 to 4.
+fn small_side(random: &mut Random) -> usize {
+    random.below(4) + random.below(4)
+}
+
+/// A small night with one cost or the number of costs damaged, seldom both.
+fn damaged_costs(random: &mut Random, n: &mut usize, costs: &mut Vec<i32>) {
+    match random.below(8) {
+        0 => *n = SIDES[random.below(SIDES.len())],
+        1 => *n = random.below(8),
+        2 => {
+            costs.pop();
+        }
+        3 => costs.push(far_cost(random)),
+        _ if !costs.is_empty() => {
+            let place = random.below(costs.len());
+            costs[place] = far_cost(random);
+        }
+        _ => {}
+    }
+}
+
+/// One damage to a checker's lists.
+fn damaged_lists(random: &mut Random, n: usize, lists: &mut Lists) {
+    let list = random.below(2);
+    let indices = if list == 0 { &mut lists.columns } else { &mut lists.rows };
+    let place = random.below(indices.len().max(1));
+    match random.below(10) {
+        0 if !indices.is_empty() => {
+            indices[place] = random.pick(&[n as i64, n as i64 + 1, u32::MAX.into()]) as u32
+        }
+        1 | 2 if !indices.is_empty() => indices[place] = random.below(n.max(1)) as u32,
+        3 => indices.truncate(n.saturating_sub(1)),
+        4 if n >= 2 && lists.columns.len() >= n && lists.rows.len() >= n => {
+            // Another pairing under the same prices.
+            for (i, j) in random.permutation(n).into_iter().enumerate() {
+                lists.columns[i] = j as u32;
+                lists.rows[j] = i as u32;
+            }
+        }
+        _ => {
+            let prices = if list == 0 { &mut lists.row_prices } else { &mut lists.column_prices };
+            let place = random.below(prices.len().max(1));
+            match random.below(4) {
+                0 if !prices.is_empty() => prices[place] = far_price(random),
+                1 => prices.truncate(n.saturating_sub(1)),
+                _ if !prices.is_empty() => prices[place] = prices[place].saturating_add(random.between(-1, 1)),
+                _ => {}
+            }
+        }
+    }
+}
+
+/// One damage to a sheet.
+fn damaged_sheet(random: &mut Random, bytes: &mut Vec<u8>) {
+    let end = bytes.len();
+    match random.below(9) {
+        0 => bytes.truncate(random.below(end + 1)),
+        1 => bytes.splice(0..0, vec![7; 65_530]).for_each(drop),
+        2 if end >= 12 => bytes[end - 1 - random.below(4)] ^= 1 << random.below(8),
+        3 if end >= 12 => bytes[end - 5 - random.below(2)] = random.next() as u8,
+        4 if end >= 12 => bytes[end - 7 - random.below(2)] = random.pick(&[0, 1, 64, 65, 255]) as u8,
+        5 if end >= 12 => bytes[end - 9 - random.below(4)] = random.next() as u8,
+        6 => {
+            bytes.drain(0..random.below(end + 1));
+        }
+        7 if end > 12 => {
+            let place = random.below(end - 12);
+            bytes[place] = random.pick(&[0x7F, 0x80, 0xFF]) as u8;
+        }
+        _ if end > 0 => {
+            let place = random.below(end);
+            bytes[place] = random.next() as u8;
+        }
+        _ => {}
+    }
+}
+
+/// A night before any damage.
+struct Night {
+    n: usize,
+    costs: Vec<i32>,
+}
+
+impl Night {
+    fn new(random: &mut Random) -> Self {
+        let n = small_side(random);
+        let costs = (FAMILIES[random.below(FAMILIES.len())].costs)(random, n);
+        Night { n, costs }
+    }
+
+    fn damage(&mut self, random: &mut Random) {
+        damaged_costs(random, &mut self.n, &mut self.costs);
+    }
+}
+
+fn solve(random: &mut Random, times: usize) -> Result<u64, String> {
+    let mut night = Night::new(random);
+    let n = night.n;
+    let mut lengths = [n, n, n, n, 4 * n, n].map(|length| length + random.below(3));
+    for _ in 0..times {
+        if random.below(2) == 0 {
+            night.damage(random);
+        } else {
+            let list = random.below(6);
+            lengths[list] = lengths[list].saturating_sub(1 + random.below(3));
+        }
+    }
+    archive::solve(random, night.n, &night.costs, lengths, None)
+        .map_err(|failure| format!("{failure}\nside {}, costs {:?}, lengths {lengths:?}", night.n, night.costs))
+}
+
+fn check(random: &mut Random, times: usize) -> Result<u64, String> {
+    let mut night = Night::new(random);
+    let side = night.n;
+    let mut lists = archive::longer(random, &rules::solve(side, &night.costs));
+    for _ in 0..times {
+        if random.below(4) == 0 {
+            night.damage(random);
+        } else {
+            damaged_lists(random, side, &mut lists);
+        }
+    }
+    archive::check(night.n, &night.costs, &lists)
+        .map_err(|failure| format!("{failure}\nside {}, costs {:?}, {lists:?}", night.n, night.costs))
+}
+
+fn cost(random: &mut Random, times: usize) -> Result<u64, String> {
+    let mut night = Night::new(random);
+    let side = night.n;
+    let listed = random.below(side + 2);
+    let mut listed: Vec<u32> = (0..listed).map(|_| random.below(side.max(1)) as u32).collect();
+    for _ in 0..times {
+        if random.below(2) == 0 {
+            night.damage(random);
+        } else if !listed.is_empty() {
+            let place = random.below(listed.len());
+            listed[place] = random.pick(&[side as i64, side as i64 + 1, u32::MAX.into()]) as u32;
+        }
+    }
+    archive::cost(night.n, &night.costs, &listed)
+        .map_err(|failure| format!("{failure}\nside {}, costs {:?}, listed {listed:?}", night.n, night.costs))
+}
+
+fn sheet(random: &mut Random, times: usize) -> Result<u64, String> {
+    let night = Night::new(random);
+    let note: Vec<u8> = (0..random.below(9)).map(|_| random.next() as u8).collect();
+    let mut bytes = sheets::sheet(&note, night.n, &night.costs);
+    for _ in 0..times {
+        damaged_sheet(random, &mut bytes);
+    }
+    let short = if random.below(4) == 0 { 1 + random.below(30) } else { 0 };
+    let room = (18 * night.n + 20 + random.below(4)).saturating_sub(short);
+    archive::sheet(random, &bytes, room).map_err(|failure| {
+        let last = &bytes[bytes.len().saturating_sub(160)..];
+        format!("{failure}\nslip room {room}, {} bytes that end with {last:?}", bytes.len())
+    })
+}
+
+/// One damaged input for one of the entries.
+pub fn one(random: &mut Random, met: &mut Met) -> Result<(), String> {
+    let (entry, damaged): (_, fn(&mut Random, usize) -> Result<u64, String>) = match random.below(4) {
+        0 => ("solve", solve),
+        1 => ("check", check),
+        2 => ("cost", cost),
+        _ => ("sheet", sheet),
+    };
+    let times = random.below(4);
+    met.note(entry, damaged(random, times)?);
+    Ok(())
+}
