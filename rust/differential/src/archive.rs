@@ -58,9 +58,9 @@ pub struct Lists {
 impl Lists {
     /// Lists of these lengths, full of random entries.
     fn new(random: &mut Random, lengths: [usize; 6]) -> Self {
-        let mut small = |length: usize| -> Vec<u32> { (0..length).map(|_| random.next() as u32).collect() };
+        let mut small = |length: usize| -> Vec<u32> { (0..length).map(|_| random.number() as u32).collect() };
         let (columns, rows, indices) = (small(lengths[0]), small(lengths[1]), small(lengths[4]));
-        let mut wide = |length: usize| -> Vec<i64> { (0..length).map(|_| random.next() as i64).collect() };
+        let mut wide = |length: usize| -> Vec<i64> { (0..length).map(|_| random.number() as i64).collect() };
         let (row_prices, column_prices, numbers) = (wide(lengths[2]), wide(lengths[3]), wide(lengths[5]));
         Lists { columns, rows, row_prices, column_prices, indices, numbers }
     }
@@ -92,7 +92,7 @@ impl Lists {
 /// Random entries behind a list.
 fn behind<T>(random: &mut Random, list: &mut Vec<T>, entry: fn(u64) -> T) {
     for _ in 0..random.below(4) {
-        list.push(entry(random.next()));
+        list.push(entry(random.number()));
     }
 }
 
@@ -172,7 +172,7 @@ pub fn cost(n: usize, costs: &[i32], listed: &[u32]) -> Result<u64, String> {
 
 /// Hands over a sheet and room for a slip, and compares the slip's room in full.
 pub fn sheet(random: &mut Random, bytes: &[u8], room: usize) -> Result<u64, String> {
-    let mut found: Vec<u8> = (0..room).map(|_| random.next() as u8).collect();
+    let mut found: Vec<u8> = (0..room).map(|_| random.number() as u8).collect();
     let mut right = found.clone();
     let code = match refusals::sheet(bytes, room) {
         Err(refused) => refusals::code(refused),
@@ -238,7 +238,7 @@ pub fn night(random: &mut Random, met: &mut Met, n: usize, costs: &[i32], answer
     met.note("cost", cost(n, costs, &listed)?);
 
     if n <= 64 {
-        let note: Vec<u8> = (0..random.below(40)).map(|_| random.next() as u8).collect();
+        let note: Vec<u8> = (0..random.below(40)).map(|_| random.number() as u8).collect();
         let room = 18 * n + 20 + random.below(4);
         met.note("sheet", sheet(random, &sheets::sheet(&note, n, costs), room)?);
     }

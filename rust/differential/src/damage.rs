@@ -78,9 +78,9 @@ fn damaged_sheet(random: &mut Random, bytes: &mut Vec<u8>) {
         0 => bytes.truncate(random.below(end + 1)),
         1 => bytes.splice(0..0, vec![7; 65_530]).for_each(drop),
         2 if end >= 12 => bytes[end - 1 - random.below(4)] ^= 1 << random.below(8),
-        3 if end >= 12 => bytes[end - 5 - random.below(2)] = random.next() as u8,
+        3 if end >= 12 => bytes[end - 5 - random.below(2)] = random.number() as u8,
         4 if end >= 12 => bytes[end - 7 - random.below(2)] = random.pick(&[0, 1, 64, 65, 255]) as u8,
-        5 if end >= 12 => bytes[end - 9 - random.below(4)] = random.next() as u8,
+        5 if end >= 12 => bytes[end - 9 - random.below(4)] = random.number() as u8,
         6 => {
             bytes.drain(0..random.below(end + 1));
         }
@@ -90,7 +90,7 @@ fn damaged_sheet(random: &mut Random, bytes: &mut Vec<u8>) {
         }
         _ if end > 0 => {
             let place = random.below(end);
-            bytes[place] = random.next() as u8;
+            bytes[place] = random.number() as u8;
         }
         _ => {}
     }
@@ -164,7 +164,7 @@ fn cost(random: &mut Random, times: usize) -> Result<u64, String> {
 
 fn sheet(random: &mut Random, times: usize) -> Result<u64, String> {
     let night = Night::new(random);
-    let note: Vec<u8> = (0..random.below(9)).map(|_| random.next() as u8).collect();
+    let note: Vec<u8> = (0..random.below(9)).map(|_| random.number() as u8).collect();
     let mut bytes = sheets::sheet(&note, night.n, &night.costs);
     for _ in 0..times {
         damaged_sheet(random, &mut bytes);
@@ -179,13 +179,13 @@ fn sheet(random: &mut Random, times: usize) -> Result<u64, String> {
 
 /// One damaged input for one of the entries.
 pub fn one(random: &mut Random, met: &mut Met) -> Result<(), String> {
-    let (entry, damaged): (_, fn(&mut Random, usize) -> Result<u64, String>) = match random.below(4) {
-        0 => ("solve", solve),
-        1 => ("check", check),
-        2 => ("cost", cost),
-        _ => ("sheet", sheet),
-    };
     let times = random.below(4);
-    met.note(entry, damaged(random, times)?);
+    let (entry, answered) = match random.below(4) {
+        0 => ("solve", solve(random, times)?),
+        1 => ("check", check(random, times)?),
+        2 => ("cost", cost(random, times)?),
+        _ => ("sheet", sheet(random, times)?),
+    };
+    met.note(entry, answered);
     Ok(())
 }

@@ -16,14 +16,14 @@ pub type Priced = (Vec<usize>, Vec<usize>, Vec<f64>, [usize; 5]);
 
 /// The crate's file as it stands.
 #[cfg(lapjv_source)]
-#[allow(dead_code)]
+#[allow(dead_code, clippy::all)]
 mod unchanged {
     include!(env!("LAPJV_FILE"));
 }
 
 /// The copy that also answers v and the counts.
 #[cfg(lapjv_source)]
-#[allow(dead_code)]
+#[allow(dead_code, clippy::all)]
 mod with_prices {
     include!(concat!(env!("OUT_DIR"), "/lapjv_with_prices.rs"));
 }
