@@ -1,14 +1,13 @@
 -- Rules 5 and 6 for one free row, from ANY state whose pairs agree and whose prices are fair: the row gets a column, prices stay fair, never
 -- rise, and fewer than n columns are scanned. Assumes nothing.
-use mathlib.Core.Path.{_≡_, refl, sym, ap, _∙_, subst}
+use mathlib.Core.Path.{_≡_, sym, ap, _∙_, subst}
 use mathlib.Core.Logic.{_≢_, _⊎_, inl, inr, ⊎-elim}
-use mathlib.Core.List.{List}
-use Prim.Native.Nat.{ℕ, suc, _+_, _-_, _*_, _≤_, _<_}
+use Prim.Native.Nat.{ℕ, _+_, _-_, _*_, _≤_, _<_}
 use native.Mathlib.Omega.{arith}
-use lib.IntN.{ℤ, pos, _+ℤ_}
+use lib.IntN.{ℤ}
 use lib.Signed.{_≤ℤ_}
 use lib.ListN.{length}
-use Rattle.ints.specs.Parts.{up, down, Within}
+use Rattle.ints.specs.Parts.{Within}
 use Rattle.ints.proofs.Ranges.{zarith}
 use Rattle.ints.proofs.Shapes.{zlin}
 use Rattle.lists.specs.Permutations.{at}
@@ -17,7 +16,7 @@ use Rattle.assignment.specs.Pairings.{price}
 use Rattle.rules.specs.Lowest.{reduced, lowest}
 use Rattle.rules.specs.Columns.{Pairs}
 use Rattle.rules.specs.Search.{Work, Found, search, newPrices}
-use Rattle.rules.specs.Augmentation.{Open, flips, flipped, State, augment}
+use Rattle.rules.specs.Augmentation.{State, augment}
 use Rattle.rules.proofs.Cases.{lt-or-le}
 use Rattle.rules.proofs.Lowest.{lowest-is}
 use Rattle.rules.proofs.Prices.{NotBelow, AtMinimum, Fair, fair-near}

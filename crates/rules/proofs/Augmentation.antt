@@ -1,7 +1,7 @@
 -- Rule 6: from any state with fair prices and a list of its free rows, every row gets a column; each search scans at most n - 1 columns. What one
 -- search keeps, all keep. Assumes nothing.
-use mathlib.Core.Path.{_≡_, refl, sym, ap, _∙_, subst}
-use mathlib.Core.Logic.{_≢_, _⊎_, inl, inr, ⊎-elim}
+use mathlib.Core.Path.{_≡_, sym, ap, _∙_, subst}
+use mathlib.Core.Logic.{inl, inr, ⊎-elim}
 use mathlib.Core.List.{List}
 use Prim.Native.Nat.{ℕ, suc, _+_, _-_, _*_, _≤_, _<_}
 use native.Mathlib.Decide.{ℕ-discrete}
@@ -9,14 +9,12 @@ use native.Mathlib.Nat.{suc-mul}
 use native.Mathlib.Omega.{arith}
 use lib.IntN.{ℤ}
 use lib.ListN.{length}
-use Rattle.lists.specs.Runs.{upward}
 use Rattle.lists.specs.Permutations.{at}
 use Rattle.lists.proofs.Runs.{upward-keeps}
 use Rattle.assignment.specs.Pairings.{price}
-use Rattle.rules.specs.Columns.{Pairs}
 use Rattle.rules.specs.Augmentation.{State, augment, augments}
 use Rattle.rules.proofs.Prices.{Fair}
-use Rattle.rules.proofs.Pairs.{Paired, Unpaired, Agree}
+use Rattle.rules.proofs.Pairs.{Paired, Agree}
 use Rattle.rules.proofs.Kept.{Listed}
 use Rattle.rules.proofs.Augment.{Can, Gain, augment-gain}
 

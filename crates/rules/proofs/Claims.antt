@@ -1,6 +1,6 @@
 -- Rule 3, first part: the column minima, and what the claims leave: each column that keeps its row is named back by it, and a row is marked
 -- exactly if a column holds it. Assumes nothing.
-use mathlib.Core.Path.{_≡_, refl, sym, ap, _∙_, subst}
+use mathlib.Core.Path.{_≡_, sym, ap, _∙_, subst}
 use mathlib.Core.Logic.{_≢_}
 use Prim.Native.Nat.{ℕ, suc, _≤_, _<_}
 use native.Mathlib.Omega.{arith}
@@ -12,7 +12,6 @@ use lib.ListN.{length, set, length-set}
 use lib.Seq.{getD-set-same, getD-set-other}
 use Rattle.ints.specs.Parts.{Within}
 use Rattle.ints.proofs.Shapes.{zlin}
-use Rattle.lists.specs.Runs.{downward}
 use Rattle.lists.specs.Permutations.{at}
 use Rattle.lists.proofs.Runs.{downward-keeps}
 use Rattle.lists.proofs.Tables.{length-table, getD-table}

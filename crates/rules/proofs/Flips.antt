@@ -1,21 +1,19 @@
 -- Rule 6, the flips: each goes back to a column that stands earlier in the list, so they end within n, and one row more is paired. Assumes nothing.
 use mathlib.Core.Path.{_≡_, refl, sym, ap, _∙_, subst}
 use mathlib.Core.Logic.{_≢_, _⊎_, inl, inr, ⊎-elim}
-use mathlib.Core.Bool.{cond}
 use mathlib.Core.List.{List}
 use Prim.Native.Nat.{ℕ, suc, _+_, _≤_, _<_}
-use native.Mathlib.Decide.{ℕ-discrete}
 use native.Mathlib.Omega.{arith}
 use borrow.Author.Tests.{eqb-true, eqb-false}
 use lib.Dec.{eqb}
 use lib.ListN.{length, length-set}
-use Rattle.lists.specs.Runs.{Turn, on, left, until}
+use Rattle.lists.specs.Runs.{Turn, on, left}
 use Rattle.lists.specs.Permutations.{at}
 use Rattle.rules.specs.Columns.{Pairs}
 use Rattle.rules.specs.Rows.{takeColumn}
 use Rattle.rules.specs.Augmentation.{Open, flip, flips, flipped}
 use Rattle.rules.proofs.Cases.{cond-cases, here-or-elsewhere, Either, goes-on, is-left, until-keeps, until-longer}
-use Rattle.rules.proofs.Pairs.{Paired, Unpaired, Agree, took-col, kept-col, took-row, kept-row, taken-paired, taken-below}
+use Rattle.rules.proofs.Pairs.{Paired, Unpaired, Agree, took-col, kept-col, took-row, kept-row, taken-below}
 
 -- From row s, along predecessors that came of pairs p₀. `Tree` are the columns that can be gone back to, `rank` the place of each.
 module _ (n s : ℕ) (ls : s < n) (predecessors : List ℕ) (p₀ : Pairs) (Tree : ℕ → Type 0) (rank : ℕ → ℕ) where

@@ -1,14 +1,14 @@
 -- Rule 4, one look: what is chosen lowers a price as a step may, and the free rows stay listed when a row takes a column. Assumes nothing.
-use mathlib.Core.Path.{_≡_, refl, sym, ap, _∙_, subst}
+use mathlib.Core.Path.{_≡_, refl, sym, ap, _∙_}
 use mathlib.Core.Logic.{_≢_, _⊎_, inl, inr, ⊎-elim}
 use mathlib.Core.Bool.{Bool, true, false, cond, true≢false}
 use mathlib.Core.List.{List}
-use Prim.Native.Nat.{ℕ, suc, _≤_, _<_}
+use Prim.Native.Nat.{ℕ, _≤_, _<_}
 use native.Mathlib.Decide.{ℕ-discrete}
 use native.Mathlib.Omega.{arith}
 use lib.Dec.{ltb}
-use lib.IntN.{ℤ, pos, _-ℤ_}
-use lib.Signed.{_≤ℤ_, ltZ, ≤ℤ-refl}
+use lib.IntN.{ℤ, _-ℤ_}
+use lib.Signed.{ltZ, ≤ℤ-refl}
 use lib.ListN.{length, set}
 use lib.Seq.{getD-set-same, getD-set-other}
 use Rattle.ints.proofs.Sums.{dif}
@@ -24,7 +24,7 @@ use Rattle.rules.specs.Columns.{Pairs}
 use Rattle.rules.specs.Rows.{keepPrice, lowerPrice, choose, takeColumn}
 use Rattle.rules.proofs.Cases.{cond-cases, here-or-elsewhere}
 use Rattle.rules.proofs.Lowest.{AreLowest, RightTwo}
-use Rattle.rules.proofs.Pairs.{Agree, Paired, Unpaired, took-col, kept-col, took-row, kept-row, taken-paired}
+use Rattle.rules.proofs.Pairs.{Agree, Paired, Unpaired, kept-col, took-row, kept-row, taken-paired}
 use Rattle.rules.proofs.Lowering.{Lowers}
 use Rattle.rules.proofs.Kept.{Listed}
 

@@ -1,6 +1,6 @@
 -- The rules make every line of the table of nights, by computation. Assumes nothing.
 use mathlib.Core.Path.{_≡_, refl}
-use mathlib.Core.List.{List, map}
+use mathlib.Core.List.{map}
 use Rattle.lists.specs.Runs.{turns, upward, downward, until}
 use Rattle.lists.specs.Permutations.{table}
 use Rattle.lists.specs.Sums.{sum}

@@ -1,34 +1,31 @@
 -- Rule 4: every look of a pass keeps what every stage keeps; a pass over F rows makes F to F * n looks, and more turns change nothing.
 -- Assumes nothing.
-use mathlib.Core.Path.{_≡_, refl, sym, ap, _∙_, subst}
-use mathlib.Core.Logic.{_≢_, _⊎_, inl, inr, ⊎-elim}
-use mathlib.Core.Bool.{Bool, true, false, cond}
-use mathlib.Core.List.{List}
-use Prim.Native.Nat.{ℕ, zero, suc, _+_, _-_, _*_, _≤_, _<_}
+use mathlib.Core.Path.{_≡_, refl, ap, _∙_}
+use mathlib.Core.Logic.{_⊎_, inl, inr, ⊎-elim}
+use mathlib.Core.Bool.{Bool, true, cond}
+use Prim.Native.Nat.{ℕ, zero, suc, _+_, _*_, _≤_, _<_}
 use native.Mathlib.Nat.{mul-le-mul-right, add-zero, add-suc}
 use native.Mathlib.Numerals.{add-one}
 use native.Mathlib.Omega.{arith}
 use borrow.Author.Tests.{ltb-true, ltb-false, lt-ltb, le-ltb}
 use lib.Dec.{ltb}
-use lib.IntN.{ℤ, pos}
+use lib.IntN.{ℤ}
 use lib.ListN.{length, set, length-set}
 use Rattle.ints.specs.Parts.{Within}
-use Rattle.lists.specs.Runs.{upward}
 use Rattle.lists.specs.Permutations.{at}
 use Rattle.lists.proofs.Runs.{upward-none, upward-last}
 use Rattle.assignment.specs.Pairings.{price}
 use Rattle.rules.specs.declared.Choice.{Choice}
 use Rattle.rules.specs.declared.Pass.{Pass}
 use Rattle.rules.specs.Lowest.{reduced, twoLowest}
-use Rattle.rules.specs.Columns.{Pairs, Stage}
-use Rattle.rules.specs.Rows.{takeColumn, Passing, choose, Placed, passAt, displace, settle, isEarly, look, looks, passStart, passEnd, rowReduction}
-use Rattle.rules.proofs.Cases.{cond-cases, lt-or-le}
+use Rattle.rules.specs.Columns.{Pairs}
+use Rattle.rules.specs.Rows.{takeColumn, Passing, choose, Placed, passAt, displace, settle, isEarly, look, looks}
+use Rattle.rules.proofs.Cases.{cond-cases}
 use Rattle.rules.proofs.Lowest.{twoLowest-is}
 use Rattle.rules.proofs.Pairs.{took-row, kept-row, take-agree, free-column}
 use Rattle.rules.proofs.Lowering.{Lowers}
 use Rattle.rules.proofs.Kept.{Listed, Kept, step, free-low}
 use Rattle.rules.proofs.Claims.{first, first-low}
-use Rattle.rules.proofs.Transfers.{Good}
 use Rattle.rules.proofs.Looks.{choose-fits, listed-free, listed-displaced}
 
 -- ---- one turn: the state after m turns is `looks n cost F m x`

@@ -1,11 +1,10 @@
 -- The price change at the end of a search: prices stay fair and never rise, free columns keep theirs, and each row that leads back sits at its
 -- minimum on the column that it leads to. Assumes nothing.
 use mathlib.Core.Path.{_≡_, refl, sym, ap, _∙_, subst}
-use mathlib.Core.Logic.{_≢_, _⊎_, inl, inr, ⊎-elim}
+use mathlib.Core.Logic.{_≢_, inl, inr, ⊎-elim}
 use mathlib.Core.Bool.{cond}
 use mathlib.Core.List.{List}
-use Prim.Native.Nat.{ℕ, suc, _+_, _≤_, _<_}
-use native.Mathlib.Decide.{ℕ-discrete}
+use Prim.Native.Nat.{ℕ, suc, _≤_, _<_}
 use native.Mathlib.Omega.{arith}
 use lib.IntN.{ℤ, pos, _+ℤ_, _-ℤ_}
 use lib.Signed.{_≤ℤ_, leZ, ≤ℤ-refl}
@@ -23,7 +22,7 @@ use Rattle.rules.specs.Search.{Work, Found, raise, newPrices}
 use Rattle.rules.proofs.Cases.{cond-cases, lt-or-le, below-suc}
 use Rattle.rules.proofs.Prices.{AtMinimum, Fair}
 use Rattle.rules.proofs.Potentials.{Settled, lowered, still-fair, start-minimum, step-minimum}
-use Rattle.rules.proofs.Scan.{place, far, FromStart, FromColumn, Root}
+use Rattle.rules.proofs.Scan.{place, far, FromColumn}
 use Rattle.rules.proofs.Search.{Ended}
 
 -- ---- the lesser of two

@@ -1,11 +1,9 @@
 -- Fair prices: each paired row sits at its minimum. How far fair prices can lie below a column's price, and what a row pays. Assumes nothing.
-use mathlib.Core.Path.{_≡_}
 use Prim.Native.Nat.{ℕ, _+_, _*_, _≤_, _<_}
 use native.Mathlib.Omega.{arith}
-use lib.IntN.{ℤ, pos, _+ℤ_, _-ℤ_}
+use lib.IntN.{ℤ, pos, _+ℤ_}
 use lib.Signed.{_≤ℤ_}
 use Rattle.ints.specs.Parts.{up, down, Within}
-use Rattle.ints.proofs.Sums.{dif}
 use Rattle.ints.proofs.Shapes.{zlin}
 use Rattle.rules.specs.Lowest.{reduced}
 use Rattle.rules.proofs.Cases.{lt-or-le}

@@ -1,15 +1,15 @@
 -- The whole run, at any side up to the free mark: its columns and rows name each other, its prices are feasible, tight and within their bounds, and so
 -- its pairing is least; its counts lie where they must. Assumes nothing.
-use mathlib.Core.Path.{_≡_, refl, sym, ap, _∙_, subst}
-use mathlib.Core.Logic.{_≢_, _⊎_, inl, inr}
+use mathlib.Core.Path.{_≡_, refl, sym, ap, subst}
+use mathlib.Core.Logic.{_≢_}
 use mathlib.Core.List.{List, [], _∷_}
-use Prim.Native.Nat.{ℕ, zero, suc, _+_, _-_, _*_, _≤_, _<_}
+use Prim.Native.Nat.{ℕ, zero, suc, _+_, _*_, _≤_, _<_}
 use native.Mathlib.Decide.{ℕ-discrete}
 use native.Mathlib.Omega.{arith}
 use lib.IntN.{ℤ, pos, _-ℤ_, +ℤ-idl}
 use lib.Signed.{_≤ℤ_}
 use lib.ListN.{length}
-use Rattle.ints.specs.Parts.{up, down, Within}
+use Rattle.ints.specs.Parts.{Within}
 use Rattle.ints.proofs.Shapes.{zlin}
 use Rattle.lists.specs.Runs.{turns, upward, downward, until}
 use Rattle.lists.specs.Sums.{sum}
@@ -24,12 +24,11 @@ use Rattle.rules.specs.Rows.{looks, rowReduction}
 use Rattle.rules.specs.Augmentation.{augments, augmentation}
 use Rattle.rules.specs.Run.{stages, Answer, rowPrices, run}
 use Rattle.rules.specs.Nights.{five}
-use Rattle.rules.proofs.Cases.{here-or-elsewhere}
 use Rattle.rules.proofs.Prices.{NotBelow, Between, AtMinimum, Fair, minimum-pays}
 use Rattle.rules.proofs.Pairs.{Paired, Agree}
 use Rattle.rules.proofs.Lowering.{bounds-low}
 use Rattle.rules.proofs.Kept.{Kept}
-use Rattle.rules.proofs.Claims.{best, best-below, first, first-cost, first-least, first-low}
+use Rattle.rules.proofs.Claims.{best, first, first-cost, first-least, first-low}
 use Rattle.rules.proofs.Stages.{CountsRight, StagesRight, stages-right}
 
 -- ---- any state in which every row is paired and sits at its minimum

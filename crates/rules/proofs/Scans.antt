@@ -1,9 +1,9 @@
 -- Rule 5, a whole scan: it goes on with every column of the block scanned, or is left at a free column that lies at the block's minimum; it
 -- counts each column whose row is used. Assumes nothing.
-use mathlib.Core.Path.{_≡_, refl, sym, ap, _∙_, subst}
-use mathlib.Core.Logic.{_≢_, _⊎_, inl, inr, ⊎-elim}
+use mathlib.Core.Path.{_≡_, refl, sym, subst}
+use mathlib.Core.Logic.{inl, inr, ⊎-elim}
 use mathlib.Core.Bool.{cond}
-use Prim.Native.Nat.{ℕ, suc, _+_, _-_, _≤_, _<_}
+use Prim.Native.Nat.{ℕ, suc, _+_, _≤_, _<_}
 use native.Mathlib.Omega.{arith}
 use borrow.Author.Tests.{ltb-true, ltb-false}
 use lib.IntN.{ℤ, _+ℤ_, _-ℤ_}
@@ -11,11 +11,10 @@ use lib.Signed.{_≤ℤ_}
 use lib.Dec.{ltb}
 use Rattle.ints.proofs.Sums.{sum}
 use Rattle.ints.proofs.Ranges.{zarith}
-use Rattle.lists.specs.Runs.{Turn, on, left, until}
-use Rattle.lists.specs.Permutations.{at}
+use Rattle.lists.specs.Runs.{on, until}
 use Rattle.lists.proofs.Injections.{reached}
 use Rattle.rules.specs.Search.{Work, Hit, countOne, scanColumn, scanRow, scan}
-use Rattle.rules.proofs.Cases.{cond-cases, here-or-elsewhere, Either, goes-on, is-left, either-map, until-keeps}
+use Rattle.rules.proofs.Cases.{cond-cases, here-or-elsewhere, Either, goes-on, either-map, until-keeps}
 use Rattle.rules.proofs.Prices.{Fair}
 use Rattle.rules.proofs.Scan.{place, far, R, FromColumn, Relaxed, Scanning, Seeing, Reaches, scanColumn-ok}
 

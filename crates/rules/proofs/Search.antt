@@ -1,31 +1,30 @@
 -- Rule 5, the search: from a row with fair prices, and while a column is free, it is left within n blocks, at a free column, with all that the
 -- price change and the flips need, and fewer columns scanned than there are. Assumes nothing.
 use mathlib.Core.Path.{_≡_, refl, sym, ap, _∙_, subst}
-use mathlib.Core.Logic.{_≢_, _⊎_, inl, inr, ⊎-elim}
+use mathlib.Core.Logic.{inl, inr, ⊎-elim}
 use mathlib.Core.Bool.{cond}
 use mathlib.Core.List.{List}
-use Prim.Native.Nat.{ℕ, suc, _+_, _-_, _≤_, _<_}
+use Prim.Native.Nat.{ℕ, suc, _≤_, _<_}
 use native.Mathlib.Omega.{arith}
 use borrow.Author.Tests.{ltb-true, ltb-false}
-use lib.IntN.{ℤ, pos, _+ℤ_}
+use lib.IntN.{ℤ, pos}
 use lib.Signed.{_≤ℤ_}
 use lib.Dec.{ltb}
 use Rattle.ints.proofs.Ranges.{zarith}
-use Rattle.lists.specs.Runs.{Turn, on, left, until}
-use Rattle.lists.specs.Permutations.{at, table}
+use Rattle.lists.specs.Runs.{Turn, on, left}
+use Rattle.lists.specs.Permutations.{at}
 use Rattle.lists.proofs.Runs.{upward-keeps}
 use Rattle.lists.proofs.Injections.{reached}
 use Rattle.lists.proofs.Tables.{length-table, getD-table}
-use Rattle.rules.specs.declared.Cursor.{Cursor}
 use Rattle.rules.specs.declared.LastFree.{LastFree}
 use Rattle.rules.specs.declared.LastFree.the-variants.{NoneYet, At}
 use Rattle.rules.specs.Lowest.{reduced}
 use Rattle.rules.specs.Block.{Block, block}
 use Rattle.rules.specs.Search.{Work, Hit, Found, scan, lastFree, freshBlock, found, afterScan, afterBlock, searchBlock, searchBlocks, searchStart, foundAt, search}
-use Rattle.rules.proofs.Cases.{cond-cases, lt-or-le, here-or-elsewhere, below-suc, Either, goes-on, is-left, either-map, until-keeps, until-longer}
+use Rattle.rules.proofs.Cases.{cond-cases, lt-or-le, below-suc, Either, goes-on, is-left, either-map, until-keeps, until-longer}
 use Rattle.rules.proofs.Prices.{Fair}
 use Rattle.rules.proofs.Block.{IsBlock, block-ok}
-use Rattle.rules.proofs.Scan.{place, far, R, FromStart, FromColumn, Root, Relaxed, Sound, Scanning}
+use Rattle.rules.proofs.Scan.{place, far, R, FromColumn, Root, Relaxed, Sound}
 use Rattle.rules.proofs.Scans.{Counted, LeftAt, scan-ok}
 
 -- ---- the last free column of a block

@@ -1,31 +1,28 @@
 -- The stages of a run at side 1 or more: each ends as it must, the last with every row paired and all that every stage keeps; the five counts
 -- lie where they must. Assumes nothing.
-use mathlib.Core.Path.{_≡_, refl, sym, ap, _∙_, subst}
-use mathlib.Core.Logic.{_⊎_, inl, inr, ⊎-elim}
-use mathlib.Core.List.{List}
-use Prim.Native.Nat.{ℕ, suc, _+_, _-_, _*_, _≤_, _<_}
+use mathlib.Core.Path.{_≡_, ap, _∙_, subst}
+use mathlib.Core.Logic.{inl, inr, ⊎-elim}
+use Prim.Native.Nat.{ℕ, _-_, _*_, _≤_, _<_}
 use native.Mathlib.Nat.{zero-mul}
 use native.Mathlib.Omega.{arith}
-use lib.IntN.{ℤ, pos}
-use lib.Signed.{_≤ℤ_}
-use lib.ListN.{length}
+use lib.IntN.{ℤ}
 use Rattle.ints.specs.Parts.{Within}
 use Rattle.ints.proofs.Shapes.{zlin}
 use Rattle.lists.specs.Permutations.{at}
 use Rattle.assignment.specs.Pairings.{price}
 use Rattle.rules.specs.declared.Counts.{Counts}
-use Rattle.rules.specs.Columns.{free, Pairs, Stage, columnReduction}
-use Rattle.rules.specs.Rows.{Passing, looks, passStart, passEnd, rowReduction}
+use Rattle.rules.specs.Columns.{free, Stage, columnReduction}
+use Rattle.rules.specs.Rows.{looks, passStart, passEnd, rowReduction}
 use Rattle.rules.specs.Augmentation.{State, augment, augments, augmentation}
 use Rattle.rules.specs.Run.{Stages, stages, countsOf}
-use Rattle.rules.proofs.Prices.{NotBelow, all-near}
+use Rattle.rules.proofs.Prices.{all-near}
 use Rattle.rules.proofs.Pairs.{Paired}
-use Rattle.rules.proofs.Kept.{Listed, Kept}
+use Rattle.rules.proofs.Kept.{Kept}
 use Rattle.rules.proofs.Claims.{first, first-low}
 use Rattle.rules.proofs.Transfers.{Good, columnReduction-good}
 use Rattle.rules.proofs.Passes.{looks-none}
 use Rattle.rules.proofs.RowReduction.{PassOf, rowReduction-ok}
-use Rattle.rules.proofs.Augment.{Can, Gain}
+use Rattle.rules.proofs.Augment.{Gain}
 use Rattle.rules.proofs.Augmentation.{Augmented, augments-ok, augmented-paired}
 
 -- A pass over no rows changes nothing, and makes no look.

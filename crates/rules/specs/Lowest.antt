@@ -19,8 +19,7 @@ reduced cost v i j = cost i j -ℤ v j
 abbrev pub low : ℤ → ℕ → Low
 low x j = record { value = x; place = j }
 
--- ---- rule 1
--- "Start with column 0 as lowest, no second. From column 1 on, a value h counts only if below the second. If h >= lowest it becomes
+-- Rule 1: "Start with column 0 as lowest, no second. From column 1 on, a value h counts only if below the second. If h >= lowest it becomes
 -- second; otherwise the old lowest becomes second and h lowest. Only side 1 has no second; no row look occurs there."
 
 -- A value that counts becomes second; or the old lowest becomes second and it lowest.
@@ -36,9 +35,7 @@ twoStep (Two lowest second) h = cond (ltZ (h .value) (second .value)) (beside lo
 unfoldable pub twoLowest : ℕ → (ℕ → ℤ) → TwoLowest
 twoLowest n f = upward 1 n (λ j found. twoStep found (low (f j) j)) (One (low (f 0) 0))
 
--- ---- for rule 3
-
--- A value below the lowest takes its place.
+-- For rule 3: a value below the lowest takes its place.
 abbrev pub lower : Low → Low → Low
 lower lowest h = cond (ltZ (h .value) (lowest .value)) h lowest
 

@@ -4,7 +4,7 @@ use Prim.Native.Nat.{ℕ, _*_}
 use lib.IntN.{ℤ, pos, negℤ}
 use Rattle.lists.specs.Permutations.{table}
 use Rattle.rules.specs.declared.Counts.{Counts}
-use Rattle.rules.specs.Run.{Answer, run}
+use Rattle.rules.specs.Run.{run}
 
 -- "Columns by row; v; row prices; total; counts."
 pub record Line : Type 0 where
@@ -16,23 +16,11 @@ pub record Line : Type 0 where
   pub total : ℤ
   pub counts : Counts
 
--- The line that a run makes.
-abbrev pub lineOf : ℕ → List ℤ → Answer → Line
-lineOf n costs a = record {
-  side = n;
-  costs = costs;
-  cols = a .cols;
-  v = a .columnPrices;
-  rowPrices = a .rowPrices;
-  total = a .total;
-  counts = a .counts;
-}
-
--- What the rules make of a line's costs.
+-- The line that the rules make of a line's costs.
 abbrev pub computed : Line → Line
-computed l = lineOf (l .side) (l .costs) (run (l .side) (l .costs))
-
--- ---- how a line is written
+computed l =
+    let a = run (l .side) (l .costs) in
+    record { side = l .side; costs = l .costs; cols = a .cols; v = a .columnPrices; rowPrices = a .rowPrices; total = a .total; counts = a .counts }
 
 -- Numbers that are not negative.
 abbrev pub nats : List ℕ → List ℤ
@@ -54,28 +42,33 @@ five a b c d e = record { «free_rows» = a; «looks_one» = b; «looks_two» = 
 abbrev pub line : ℕ → List ℤ → List ℕ → List ℤ → List ℤ → ℤ → Counts → Line
 line n costs cols v rows total counts = record { side = n; costs = costs; cols = cols; v = v; rowPrices = rows; total = total; counts = counts }
 
--- ---- the table
-
+-- The table: document 01's, and then a night for each slip.
 abbrev pub nights : List Line
 nights =
-    -- N0
+    -- N0 to N8.
     line 0 [] [] [] [] (pos 0) (five 0 0 0 0 0)
-    -- N1
     ∷ line 1 (nats (7 ∷ [])) (0 ∷ []) (nats (7 ∷ [])) (nats (0 ∷ [])) (pos 7) (five 0 0 0 0 0)
-    -- N2
     ∷ line 2 (nats (1 ∷ 2 ∷ 3 ∷ 4 ∷ [])) (1 ∷ 0 ∷ []) (nats (1 ∷ 2 ∷ [])) (nats (0 ∷ 2 ∷ [])) (pos 5) (five 1 1 0 0 0)
-    -- N3
-    ∷ line 3 (table 9 (λ k. pos 0)) (2 ∷ 0 ∷ 1 ∷ []) (nats (0 ∷ 0 ∷ 0 ∷ [])) (nats (0 ∷ 0 ∷ 0 ∷ [])) (pos 0) (five 2 2 0 0 0)
-    -- N4
+    ∷ line 3 (nats (table 9 (λ k. 0))) (2 ∷ 0 ∷ 1 ∷ []) (nats (0 ∷ 0 ∷ 0 ∷ [])) (nats (0 ∷ 0 ∷ 0 ∷ [])) (pos 0) (five 2 2 0 0 0)
     ∷ line 2 (nats (1 ∷ 5 ∷ 6 ∷ 2 ∷ [])) (0 ∷ 1 ∷ []) (minus 2 ∷ minus 6 ∷ []) (nats (3 ∷ 8 ∷ [])) (pos 3) (five 0 0 0 0 0)
-    -- N5
     ∷ line 2 (minus K ∷ pos K ∷ pos K ∷ minus K ∷ []) (0 ∷ 1 ∷ []) (minus (3 * K) ∷ minus (5 * K) ∷ []) (pos (2 * K) ∷ pos (4 * K) ∷ []) (minus (2 * K)) (five 0 0 0 0 0)
-    -- N6
     ∷ line 2 (nats (1 ∷ 2 ∷ 1 ∷ 5 ∷ [])) (1 ∷ 0 ∷ []) (minus 2 ∷ pos 2 ∷ []) (nats (0 ∷ 3 ∷ [])) (pos 3) (five 1 1 0 0 0)
-    -- N7
     ∷ line 3 (nats (3 ∷ 1 ∷ 0 ∷ 0 ∷ 0 ∷ 2 ∷ 9 ∷ 9 ∷ 0 ∷ [])) (1 ∷ 0 ∷ 2 ∷ []) (pos 0 ∷ minus 2 ∷ minus 9 ∷ []) (nats (3 ∷ 0 ∷ 9 ∷ [])) (pos 1) (five 1 3 0 0 0)
-    -- N8
     ∷ line 3 (nats (3 ∷ 1 ∷ 0 ∷ 0 ∷ 0 ∷ 2 ∷ 4 ∷ 1 ∷ 0 ∷ [])) (2 ∷ 0 ∷ 1 ∷ []) (pos 0 ∷ pos 0 ∷ minus 1 ∷ []) (nats (1 ∷ 0 ∷ 1 ∷ [])) (pos 1) (five 1 1 1 1 1)
-    -- goback
-    ∷ line 3 (nats (0 ∷ 1 ∷ 0 ∷ 3 ∷ 1 ∷ 0 ∷ 5 ∷ 1 ∷ 3 ∷ [])) (0 ∷ 2 ∷ 1 ∷ []) (minus 3 ∷ minus 2 ∷ minus 3 ∷ []) (nats (3 ∷ 3 ∷ 3 ∷ [])) (pos 1) (five 2 4 0 0 0)
+    -- A fresh block with two free columns: the last is taken. And free rows in list order; an equal distance joins the block.
+    ∷ line 5 (nats (1 ∷ 1 ∷ 1 ∷ 0 ∷ 0 ∷ 1 ∷ 1 ∷ 1 ∷ 0 ∷ 0 ∷ 1 ∷ 1 ∷ 1 ∷ 0 ∷ 0 ∷ 1 ∷ 1 ∷ 1 ∷ 0 ∷ 0 ∷ 1 ∷ 1 ∷ 1 ∷ 0 ∷ 0 ∷ [])) (4 ∷ 0 ∷ 2 ∷ 1 ∷ 3 ∷ []) (nats (1 ∷ 1 ∷ 1 ∷ 0 ∷ 0 ∷ [])) (nats (0 ∷ 0 ∷ 0 ∷ 0 ∷ 0 ∷ [])) (pos 3) (five 4 4 2 2 0)
+    -- A hit in a scan: lo keeps its value, so v[2] and v[3] fall by 1 and not by 2. And a predecessor changes only on a lower distance.
+    ∷ line 5 (nats (1 ∷ 2 ∷ 0 ∷ 0 ∷ 1 ∷ 0 ∷ 0 ∷ 0 ∷ 0 ∷ 0 ∷ 1 ∷ 2 ∷ 0 ∷ 0 ∷ 1 ∷ 2 ∷ 2 ∷ 0 ∷ 0 ∷ 1 ∷ 0 ∷ 1 ∷ 1 ∷ 1 ∷ 1 ∷ [])) (3 ∷ 1 ∷ 2 ∷ 4 ∷ 0 ∷ []) (minus 1 ∷ pos 0 ∷ minus 1 ∷ minus 1 ∷ pos 0 ∷ []) (nats (1 ∷ 0 ∷ 1 ∷ 1 ∷ 1 ∷ [])) (pos 1) (five 3 3 1 1 3)
+    -- A go-back compared with n, not current*n, would end the pass a look earlier.
+    ∷ line 3 (nats (0 ∷ 0 ∷ 0 ∷ 0 ∷ 0 ∷ 0 ∷ 1 ∷ 1 ∷ 0 ∷ [])) (1 ∷ 0 ∷ 2 ∷ []) (pos 0 ∷ pos 0 ∷ minus 1 ∷ []) (nats (0 ∷ 0 ∷ 1 ∷ [])) (pos 0) (five 2 3 0 0 0)
+    -- In the late branch there is no swap to j2.
+    ∷ line 4 (nats (3 ∷ 1 ∷ 0 ∷ 3 ∷ 3 ∷ 0 ∷ 0 ∷ 2 ∷ 0 ∷ 0 ∷ 0 ∷ 0 ∷ 2 ∷ 0 ∷ 1 ∷ 2 ∷ [])) (2 ∷ 1 ∷ 3 ∷ 0 ∷ []) (pos 0 ∷ minus 2 ∷ minus 3 ∷ pos 0 ∷ []) (nats (3 ∷ 2 ∷ 0 ∷ 2 ∷ [])) (pos 2) (five 1 4 1 0 0)
+    -- In the late branch v stays.
+    ∷ line 2 (nats (0 ∷ 0 ∷ 1 ∷ 0 ∷ [])) (0 ∷ 1 ∷ []) (pos 0 ∷ minus 1 ∷ []) (nats (0 ∷ 1 ∷ [])) (pos 0) (five 1 2 0 0 0)
+    -- The transfer uses prices already lowered.
+    ∷ line 2 (nats (0 ∷ 1 ∷ 0 ∷ 0 ∷ [])) (0 ∷ 1 ∷ []) (minus 1 ∷ minus 1 ∷ []) (nats (1 ∷ 1 ∷ [])) (pos 0) (five 0 0 0 0 0)
+    -- A scan is left only at a free column that lies at the block's minimum.
+    ∷ line 4 (nats (0 ∷ 0 ∷ 0 ∷ 0 ∷ 0 ∷ 1 ∷ 0 ∷ 0 ∷ 0 ∷ 1 ∷ 0 ∷ 0 ∷ 0 ∷ 2 ∷ 0 ∷ 0 ∷ [])) (1 ∷ 0 ∷ 2 ∷ 3 ∷ []) (nats (0 ∷ 0 ∷ 0 ∷ 0 ∷ [])) (nats (0 ∷ 0 ∷ 0 ∷ 0 ∷ [])) (pos 0) (five 3 3 1 1 3)
+    -- A column that a scan lowers to the minimum joins the block.
+    ∷ line 5 (nats (0 ∷ 1 ∷ 2 ∷ 2 ∷ 1 ∷ 0 ∷ 0 ∷ 0 ∷ 0 ∷ 1 ∷ 0 ∷ 2 ∷ 2 ∷ 2 ∷ 1 ∷ 0 ∷ 1 ∷ 1 ∷ 0 ∷ 0 ∷ 0 ∷ 0 ∷ 0 ∷ 0 ∷ 0 ∷ [])) (1 ∷ 3 ∷ 0 ∷ 4 ∷ 2 ∷ []) (minus 1 ∷ pos 0 ∷ pos 0 ∷ pos 0 ∷ pos 0 ∷ []) (nats (1 ∷ 0 ∷ 1 ∷ 0 ∷ 0 ∷ [])) (pos 1) (five 2 2 1 1 3)
     ∷ []

@@ -3,10 +3,10 @@ use mathlib.Core.List.{List}
 use Prim.Native.Nat.{ℕ}
 use lib.IntN.{ℤ}
 use Rattle.lists.specs.Permutations.{at, table}
-use Rattle.assignment.specs.Pairings.{Night, square, price, total}
+use Rattle.assignment.specs.Pairings.{square, price, total}
 use Rattle.rules.specs.declared.Counts.{Counts}
 use Rattle.rules.specs.Lowest.{reduced}
-use Rattle.rules.specs.Columns.{Pairs, Stage, columnReduction}
+use Rattle.rules.specs.Columns.{Stage, columnReduction}
 use Rattle.rules.specs.Rows.{Passing, rowReduction, passEnd}
 use Rattle.rules.specs.Augmentation.{State, augmentation}
 

@@ -13,7 +13,7 @@ use Rattle.rules.specs.declared.Cursor.{Cursor}
 use Rattle.rules.specs.declared.LastFree.{LastFree}
 use Rattle.rules.specs.declared.LastFree.the-variants.{NoneYet, At}
 use Rattle.rules.specs.Lowest.{reduced}
-use Rattle.rules.specs.Block.{Block, block}
+use Rattle.rules.specs.Block.{block}
 
 -- A search under way: where the block ends, the column list, the distances, the row that leads to each column, and the columns scanned.
 pub record Work : Type 0 where
@@ -22,6 +22,11 @@ pub record Work : Type 0 where
   pub distances : List ℤ
   pub predecessors : List ℕ
   pub scanned : ℕ
+
+-- A search with these.
+abbrev pub workOf : ℕ → List ℕ → List ℤ → List ℕ → ℕ → Work
+workOf hi list distances predecessors scanned =
+    record { hi = hi; list = list; distances = distances; predecessors = predecessors; scanned = scanned }
 
 -- A scan is left: the free column that was reached, and the work as it stands then.
 pub record Hit : Type 0 where
@@ -44,27 +49,15 @@ same x y = cond (leZ x y) (leZ y x) false
 
 -- Row i leads to column j, at distance x.
 abbrev pub reachBy : Work → ℕ → ℕ → ℤ → Work
-reachBy w i j x = record {
-  hi = w .hi;
-  list = w .list;
-  distances = set (w .distances) j x;
-  predecessors = set (w .predecessors) j i;
-  scanned = w .scanned;
-}
+reachBy w i j x = workOf (w .hi) (w .list) (set (w .distances) j x) (set (w .predecessors) j i) (w .scanned)
 
 -- The column at place k is swapped to the block's end.
 abbrev pub join : Work → ℕ → Work
-join w k = record {
-  hi = w .hi + 1;
-  list = exchange (w .list) k (w .hi);
-  distances = w .distances;
-  predecessors = w .predecessors;
-  scanned = w .scanned;
-}
+join w k = workOf (w .hi + 1) (exchange (w .list) k (w .hi)) (w .distances) (w .predecessors) (w .scanned)
 
--- The row of the column at place k is used in a scan.
+-- One more column's row is used in a scan.
 abbrev pub countOne : Work → Work
-countOne w = record { hi = w .hi; list = w .list; distances = w .distances; predecessors = w .predecessors; scanned = w .scanned + 1 }
+countOne w = workOf (w .hi) (w .list) (w .distances) (w .predecessors) (w .scanned + 1)
 
 module _ (n : ℕ) (cost : ℕ → ℕ → ℤ) (v : ℕ → ℤ) (row : ℕ → ℕ) where
   -- Column j, at place k, has been lowered to x: at the block's minimum it ends the search if it is free, and else joins the block.
@@ -99,9 +92,7 @@ module _ (n : ℕ) (cost : ℕ → ℕ → ℤ) (v : ℕ → ℤ) (row : ℕ →
 
   -- The work with its block of minima from lo on.
   abbrev pub freshBlock : ℕ → Work → Work
-  freshBlock lo w =
-      let b = block n (w .distances) lo (w .list) in
-      record { hi = b .hi; list = b .list; distances = w .distances; predecessors = w .predecessors; scanned = w .scanned }
+  freshBlock lo w = let b = block n (w .distances) lo (w .list) in workOf (b .hi) (b .list) (w .distances) (w .predecessors) (w .scanned)
 
   -- What is found from a block that starts at lo.
   abbrev pub found : ℕ → Cursor → ℕ → Work → Found
@@ -128,7 +119,7 @@ module _ (n : ℕ) (cost : ℕ → ℕ → ℤ) (v : ℕ → ℤ) (row : ℕ →
 
   -- Before the first block: the columns in their order, each as far as row s makes it.
   abbrev pub searchStart : ℕ → Work
-  searchStart s = record { hi = 0; list = table n (λ j. j); distances = table n (reduced cost v s); predecessors = table n (λ j. s); scanned = 0 }
+  searchStart s = workOf 0 (table n (λ j. j)) (table n (reduced cost v s)) (table n (λ j. s)) 0
 
   -- What was found. (That a search is left within n blocks is a law.)
   abbrev pub foundAt : Turn Work Found → Found
