@@ -1,3 +1,4 @@
+pub mod AllNights
 pub mod Cases
 pub mod Lowest
 pub mod Prices
@@ -20,4 +21,3 @@ pub mod Augment
 pub mod Augmentation
 pub mod Stages
 pub mod Run
-pub mod Nights
