@@ -33,7 +33,7 @@ far w j = price (w .distances) j
 
 -- A search from row s; `floor` is at most each reduced cost of row s.
 module _ (n : ℕ) (cost : ℕ → ℕ → ℤ) (v : ℕ → ℤ) (row : ℕ → ℕ) (s : ℕ) (floor : ℤ) where
-  abbrev pub R : ℕ → ℕ → ℤ
+  abbrev R : ℕ → ℕ → ℤ
   R i j = reduced cost v i j
 
   -- Column y is as far as the start row makes it.
@@ -243,7 +243,7 @@ module _ (n : ℕ) (cost : ℕ → ℕ → ℤ) (v : ℕ → ℤ) (row : ℕ →
     pub scanColumn-ok : (k : ℕ) (w : Work) → Seeing ready k₀ μ j₀ c k w → k < n
         → Either (Seeing ready k₀ μ j₀ c (suc k)) (Reaches ready k₀ μ c) (scanColumn n cost v row μ (R i₀ j₀ -ℤ μ) i₀ k w)
     scanColumn-ok k w M l =
-        cond-cases (ltZ x (far w j)) G (afterLowering n cost v row μ k j x q) (on w)
+        cond-cases (ltZ x (far w j)) G (afterLowering n row μ k j x q) (on w)
         (λ a. cond-cases (same x μ) G (cond (ltb (row j) n) (on (join q k)) (left (record { column = j; work = q }))) (on q)
         (λ b. cond-cases (ltb (row j) n) G (on (join q k)) (left (record { column = j; work = q }))
         (λ d. goes-on (joins k q (low a) (M .to .0) l (ltb-true (row j) n d) (fs ∙ same-true x μ b)))

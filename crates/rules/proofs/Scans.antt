@@ -13,10 +13,11 @@ use Rattle.ints.proofs.Sums.{sum}
 use Rattle.ints.proofs.Ranges.{zarith}
 use Rattle.lists.specs.Runs.{on, until}
 use Rattle.lists.proofs.Injections.{reached}
+use Rattle.rules.specs.Lowest.{reduced}
 use Rattle.rules.specs.Search.{Work, Hit, countOne, scanColumn, scanRow, scan}
 use Rattle.rules.proofs.Cases.{cond-cases, here-or-elsewhere, Either, goes-on, either-map, until-keeps}
 use Rattle.rules.proofs.Prices.{Fair}
-use Rattle.rules.proofs.Scan.{place, far, R, FromColumn, Relaxed, Scanning, Seeing, Reaches, scanColumn-ok}
+use Rattle.rules.proofs.Scan.{place, far, FromColumn, Relaxed, Scanning, Seeing, Reaches, scanColumn-ok}
 
 module _ (n : ℕ) (cost : ℕ → ℕ → ℤ) (v : ℕ → ℤ) (row : ℕ → ℕ) (s : ℕ) (floor : ℤ) (ready : ℕ) (μ : ℤ) where
   -- The columns before place k have been scanned, and no more than those were counted.
@@ -42,7 +43,7 @@ module _ (n : ℕ) (cost : ℕ → ℕ → ℤ) (v : ℕ → ℤ) (row : ℕ →
   L = LeftAt n cost v row s floor ready μ
 
   -- Before the columns after the block are seen.
-  see-start : (k : ℕ) (w : Work) → On k w → k < w .hi → Seeing n cost v row s floor ready k μ (place w k) (w .scanned + 1) (w .hi) (countOne w)
+  pub see-start : (k : ℕ) (w : Work) → On k w → k < w .hi → Seeing n cost v row s floor ready k μ (place w k) (w .scanned + 1) (w .hi) (countOne w)
   see-start k w I l =
       let S = I .sound in
       let j = place w k in
@@ -69,8 +70,8 @@ module _ (n : ℕ) (cost : ℕ → ℕ → ℤ) (v : ℕ → ℤ) (row : ℕ →
         in-block = l;
         to = omega (arith, I .order);
         seen = λ t m.
-            let a = R n cost v row s floor (row j) j in
-            let b = R n cost v row s floor (row j) (place w t) in
+            let a = reduced cost v (row j) j in
+            let b = reduced cost v (row j) (place w t) in
             let no-less : a ≤ℤ b =
             F .paired-at-minimum j (S .permutation .injective .below k (omega (arith, I .order))) (I .paired k l) .no-less (place w t)
             (S .permutation .injective .below t (omega (arith, I .order))) in
@@ -79,7 +80,7 @@ module _ (n : ℕ) (cost : ℕ → ℕ → ℤ) (v : ℕ → ℤ) (row : ℕ →
       }
 
   -- All have been seen: one more column of the block is done.
-  see-end : (k j c : ℕ) (w : Work) → Seeing n cost v row s floor ready k μ j c n w → On (suc k) w
+  pub see-end : (k j c : ℕ) (w : Work) → Seeing n cost v row s floor ready k μ j c n w → On (suc k) w
   see-end k j c w M =
       let I = M .scanning in
       record {
@@ -98,10 +99,10 @@ module _ (n : ℕ) (cost : ℕ → ℕ → ℤ) (v : ℕ → ℤ) (row : ℕ →
       here y m =
           let r = reached (M .scanning .sound .permutation .injective) y m in
           let e : far w (place w k) ≡ μ = M .scanning .level k (M .scanning .order .0) (M .in-block) in
-          let p : (far w y +ℤ R n cost v row s floor (row j) j) ≤ℤ (μ +ℤ R n cost v row s floor (row j) y) =
-          subst (λ (x : ℕ). (far w x +ℤ R n cost v row s floor (row j) j) ≤ℤ (μ +ℤ R n cost v row s floor (row j) x)) (r .2) (M .seen (r .0) (r .1)) in
-          subst (λ (z : ℤ). (far w y +ℤ R n cost v row s floor (row (place w k)) (place w k)) ≤ℤ (z +ℤ R n cost v row s floor (row (place w k)) y)) (sym e)
-          (subst (λ (x : ℕ). (far w y +ℤ R n cost v row s floor (row x) x) ≤ℤ (μ +ℤ R n cost v row s floor (row x) y)) (sym (M .here)) p)
+          let p : (far w y +ℤ reduced cost v (row j) j) ≤ℤ (μ +ℤ reduced cost v (row j) y) =
+          subst (λ (x : ℕ). (far w x +ℤ reduced cost v (row j) j) ≤ℤ (μ +ℤ reduced cost v (row j) x)) (r .2) (M .seen (r .0) (r .1)) in
+          subst (λ (z : ℤ). (far w y +ℤ reduced cost v (row (place w k)) (place w k)) ≤ℤ (z +ℤ reduced cost v (row (place w k)) y)) (sym e)
+          (subst (λ (x : ℕ). (far w y +ℤ reduced cost v (row x) x) ≤ℤ (μ +ℤ reduced cost v (row x) y)) (sym (M .here)) p)
 
   -- The row of the column at place k sees the columns after the block.
   pub scanRow-ok : (k : ℕ) (w : Work) → C k w → k < w .hi → Either (C (suc k)) L (scanRow n cost v row k w)
@@ -112,11 +113,11 @@ module _ (n : ℕ) (cost : ℕ → ℕ → ℤ) (v : ℕ → ℤ) (row : ℕ →
       let e : far w j ≡ μ = I .level k (I .order .0) l in
       let P : ℕ → Work → Type 0 = Seeing n cost v row s floor ready k μ j c in
       let Q : Hit → Type 0 = Reaches n cost v row s floor ready k μ c in
-      let run : Either (P n) Q (until (w .hi) n (scanColumn n cost v row μ (R n cost v row s floor (row j) j -ℤ μ) (row j)) (countOne w)) =
-      until-keeps P Q (w .hi) n (scanColumn n cost v row μ (R n cost v row s floor (row j) j -ℤ μ) (row j)) (countOne w) (I .order .2) (see-start k w I l)
+      let run : Either (P n) Q (until (w .hi) n (scanColumn n cost v row μ (reduced cost v (row j) j -ℤ μ) (row j)) (countOne w)) =
+      until-keeps P Q (w .hi) n (scanColumn n cost v row μ (reduced cost v (row j) j -ℤ μ) (row j)) (countOne w) (I .order .2) (see-start k w I l)
       (λ t x a m M. scanColumn-ok n cost v row s floor F ready k μ j c t x M m) in
       either-map
-      (subst (λ (y : ℤ). Either (P n) Q (until (w .hi) n (scanColumn n cost v row y (R n cost v row s floor (row j) j -ℤ y) (row j)) (countOne w))) (sym e) run)
+      (subst (λ (y : ℤ). Either (P n) Q (until (w .hi) n (scanColumn n cost v row y (reduced cost v (row j) j -ℤ y) (row j)) (countOne w))) (sym e) run)
       (λ x M. record {
         scanning = see-end k j c x M;
         counted-few = omega (arith, M .counted, D .counted-few);

@@ -24,14 +24,14 @@ use Rattle.rules.specs.Search.{Work, Hit, Found, scan, lastFree, freshBl
 use Rattle.rules.proofs.Cases.{cond-cases, lt-or-le, below-suc, Either, goes-on, is-left, either-map, until-keeps, until-longer}
 use Rattle.rules.proofs.Prices.{Fair}
 use Rattle.rules.proofs.Block.{IsBlock, block-ok}
-use Rattle.rules.proofs.Scan.{place, far, R, FromColumn, Root, Relaxed, Sound}
+use Rattle.rules.proofs.Scan.{place, far, FromColumn, Root, Relaxed, Sound}
 use Rattle.rules.proofs.Scans.{Counted, LeftAt, scan-ok}
 
 -- ---- the last free column of a block
 
 module _ (n : ℕ) (row : ℕ → ℕ) (list : List ℕ) (lo : ℕ) where
   -- Among the places from lo up to k: none is free, or a free one.
-  abbrev Sought : ℕ → LastFree → Type 0
+  abbrev pub Sought : ℕ → LastFree → Type 0
   Sought k NoneYet = (t : ℕ) → lo ≤ t → t < k → row (at list t) < n
   Sought k (At j) = (t : ℕ) × (lo ≤ t) × (t < k) × (at list t ≡ j) × (n ≤ row j)
 
@@ -39,9 +39,9 @@ module _ (n : ℕ) (row : ℕ → ℕ) (list : List ℕ) (lo : ℕ) where
   more-sought k NoneYet h S = λ t a m. below-suc (λ t. lo ≤ t → row (at list t) < n) (λ t l b. S t b l) (λ b. h) t m a
   more-sought k (At j) h S = (S .0, S .1, omega (arith, S .2), S .3, S .4)
 
-  lastFree-ok : (cost : ℕ → ℕ → ℤ) (v : ℕ → ℤ) (hi : ℕ) → lo ≤ hi → Sought hi (lastFree n cost v row list lo hi)
+  pub lastFree-ok : (hi : ℕ) → lo ≤ hi → Sought hi (lastFree n row list lo hi)
   unfolding lastFree
-  lastFree-ok cost v hi h =
+  lastFree-ok hi h =
       upward-keeps Sought lo hi (λ k found. cond (ltb (row (at list k)) n) found (At (at list k))) NoneYet h (λ t a m. absurd (omega arith))
       (λ k o a m S. cond-cases (ltb (row (at list k)) n) (Sought (suc k)) o (At (at list k))
       (λ e. more-sought k o (ltb-true (row (at list k)) n e) S)
@@ -87,7 +87,7 @@ module _ (n : ℕ) (cost : ℕ → ℕ → ℤ) (v : ℕ → ℤ) (row : ℕ →
     b = block n (w .distances) lo (w .list)
 
     abbrev q : Work
-    q = freshBlock n cost v row lo w
+    q = freshBlock n lo w
 
     isB : IsBlock n (w .distances) lo (w .list) n b
     isB = block-ok n (w .distances) lo (w .list) (H .sound .permutation) l
@@ -154,7 +154,7 @@ module _ (n : ℕ) (cost : ℕ → ℕ → ℤ) (v : ℕ → ℤ) (row : ℕ →
     }
 
     -- A column of the block is free: the search ends.
-    to-end : (t : ℕ) → lo ≤ t → t < q .hi → n ≤ row (place q t) → Ended (found n cost v row lo (record { lo = lo; hi = q .hi }) (place q t) q) (b .minimum)
+    pub to-end : (t : ℕ) → lo ≤ t → t < q .hi → n ≤ row (place q t) → Ended (found lo (record { lo = lo; hi = q .hi }) (place q t) q) (b .minimum)
     to-end t a m f = record {
       sound = sound-b;
       ready-below = l;
@@ -175,8 +175,8 @@ module _ (n : ℕ) (cost : ℕ → ℕ → ℤ) (v : ℕ → ℤ) (row : ℕ →
 
   -- ---- after a scan
 
-  hit-end : (ready hi : ℕ) (μ : ℤ) (h : Hit) → LeftAt n cost v row s floor ready μ h
-      → Ended (found n cost v row ready (record { lo = ready; hi = hi }) (h .column) (h .work)) μ
+  pub hit-end : (ready hi : ℕ) (μ : ℤ) (h : Hit) → LeftAt n cost v row s floor ready μ h
+      → Ended (found ready (record { lo = ready; hi = hi }) (h .column) (h .work)) μ
   hit-end ready hi μ h X =
       let I = X .reaches .scanning in
       let w = h .work in
@@ -223,20 +223,20 @@ module _ (n : ℕ) (cost : ℕ → ℕ → ℤ) (v : ℕ → ℤ) (row : ℕ →
 
     -- One block: at least one column more is settled, or the search is left.
     pub searchBlock-ok : (w : Work) → Head w → Either (λ x. Head x × (w .hi < x .hi)) Good (searchBlock n cost v row w)
-    searchBlock-ok w H = by (lastFree n cost v row (q w H l .list) (w .hi) (q w H l .hi)) (lastFree-ok n row (q w H l .list) (w .hi) cost v (q w H l .hi) (lo-hi w H l))
+    searchBlock-ok w H = by (lastFree n row (q w H l .list) (w .hi) (q w H l .hi)) (lastFree-ok n row (q w H l .list) (w .hi) (q w H l .hi) (lo-hi w H l))
       where
         l : w .hi < n
         l = head-open w H
 
         after : (t : Turn Work Hit) → Either (Counted n cost v row s floor (w .hi) (b w H l .minimum) n) (LeftAt n cost v row s floor (w .hi) (b w H l .minimum)) t
-            → Either (λ x. Head x × (w .hi < x .hi)) Good (afterScan n cost v row (w .hi) (q w H l .hi) t)
+            → Either (λ x. Head x × (w .hi < x .hi)) Good (afterScan (w .hi) (q w H l .hi) t)
         after (on x) (goes-on C) = goes-on (scanned-head (w .hi) (b w H l .minimum) x C, C .scanning .order .1)
         after (left h) (is-left X) = is-left (b w H l .minimum, hit-end (w .hi) (q w H l .hi) (b w H l .minimum) h X)
 
         by : (o : LastFree) → Sought n row (q w H l .list) (w .hi) (q w H l .hi) o → Either (λ x. Head x × (w .hi < x .hi)) Good (afterBlock n cost v row (w .hi) (q w H l) o)
         by (At j) S = is-left (
           b w H l .minimum,
-          subst (λ (x : ℕ). Ended (found n cost v row (w .hi) (record { lo = w .hi; hi = q w H l .hi }) x (q w H l)) (b w H l .minimum)) (S .3)
+          subst (λ (x : ℕ). Ended (found (w .hi) (record { lo = w .hi; hi = q w H l .hi }) x (q w H l)) (b w H l .minimum)) (S .3)
               (to-end w H l (S .0) (S .1) (S .2) (subst (λ (x : ℕ). n ≤ row x) (sym (S .3)) (S .4))),
         )
         by NoneYet S = after (scan n cost v row (w .hi) (q w H l)) (scan-ok n cost v row s floor F (w .hi) (b w H l .minimum) (w .hi) (q w H l) (omega (arith, l)) (to-scan w H l S))
@@ -257,7 +257,7 @@ module _ (n : ℕ) (cost : ℕ → ℕ → ℤ) (v : ℕ → ℤ) (row : ℕ →
         by (left f) (is-left G) = (f, refl, G)
 
   -- Before the first block.
-  pub start-head : ((k : ℕ) → k < n → floor ≤ℤ R n cost v row s floor s k) → Head (searchStart n cost v row s)
+  pub start-head : ((k : ℕ) → k < n → floor ≤ℤ reduced cost v s k) → Head (searchStart n cost v row s)
   start-head under =
       record {
         sound = record {
@@ -284,21 +284,21 @@ module _ (n : ℕ) (cost : ℕ → ℕ → ℤ) (v : ℕ → ℤ) (row : ℕ →
       at-own : (i : ℕ) → i < n → place w i ≡ i
       at-own i l = getD-table n (λ j. j) 0 i l
 
-      far-is : (k : ℕ) → k < n → far w k ≡ R n cost v row s floor s k
+      far-is : (k : ℕ) → k < n → far w k ≡ reduced cost v s k
       far-is k l = getD-table n (reduced cost v s) (pos 0) k l
 
   -- THE SEARCH is left within n blocks, and with more blocks allowed the same is found.
-  module _ (F : Fair n cost v row) (y : ℕ) (ly : y < n) (fy : n ≤ row y) (under : (k : ℕ) → k < n → floor ≤ℤ R n cost v row s floor s k) where
+  module _ (F : Fair n cost v row) (y : ℕ) (ly : y < n) (fy : n ≤ row y) (under : (k : ℕ) → k < n → floor ≤ℤ reduced cost v s k) where
     is-left-at : (f : Found) × (searchBlocks n cost v row n (searchStart n cost v row s) ≡ left f) × Good f
     is-left-at = blocks-end F y ly fy (searchStart n cost v row s) (start-head under)
 
     pub search-left : searchBlocks n cost v row n (searchStart n cost v row s) ≡ left (search n cost v row s)
     unfolding search
-    search-left = let r = is-left-at in r .1 ∙ ap (λ (t : Turn Work Found). left (foundAt n cost v row t)) (sym (r .1))
+    search-left = let r = is-left-at in r .1 ∙ ap (λ (t : Turn Work Found). left (foundAt t)) (sym (r .1))
 
     pub search-ok : Good (search n cost v row s)
     unfolding search
-    search-ok = let r = is-left-at in subst (λ (t : Turn Work Found). Good (foundAt n cost v row t)) (sym (r .1)) (r .2)
+    search-ok = let r = is-left-at in subst (λ (t : Turn Work Found). Good (foundAt t)) (sym (r .1)) (r .2)
 
     pub search-enough : (m : ℕ) → n ≤ m → searchBlocks n cost v row m (searchStart n cost v row s) ≡ left (search n cost v row s)
     unfolding searchBlocks

@@ -59,18 +59,18 @@ join w k = workOf (w .hi + 1) (exchange (w .list) k (w .hi)) (w .distances) (w .
 abbrev pub countOne : Work → Work
 countOne w = workOf (w .hi) (w .list) (w .distances) (w .predecessors) (w .scanned + 1)
 
-module _ (n : ℕ) (cost : ℕ → ℕ → ℤ) (v : ℕ → ℤ) (row : ℕ → ℕ) where
-  -- Column j, at place k, has been lowered to x: at the block's minimum it ends the search if it is free, and else joins the block.
-  abbrev pub afterLowering : ℤ → ℕ → ℕ → ℤ → Work → Turn Work Hit
-  afterLowering minimum k j x w =
-      cond (same x minimum) (cond (ltb (row j) n) (on (join w k)) (left (record { column = j; work = w }))) (on w)
+-- Column j, at place k, has been lowered to x: at the block's minimum it ends the search if it is free, and else joins the block.
+abbrev pub afterLowering : ℕ → (ℕ → ℕ) → ℤ → ℕ → ℕ → ℤ → Work → Turn Work Hit
+afterLowering n row minimum k j x w =
+    cond (same x minimum) (cond (ltb (row j) n) (on (join w k)) (left (record { column = j; work = w }))) (on w)
 
+module _ (n : ℕ) (cost : ℕ → ℕ → ℤ) (v : ℕ → ℤ) (row : ℕ → ℕ) where
   -- The column at place k, as row i sees it: h is what the reduced cost of the scanned column is above the minimum.
   abbrev pub scanColumn : ℤ → ℤ → ℕ → ℕ → Work → Turn Work Hit
   scanColumn minimum h i k w =
       let j = at (w .list) k in
       let x = reduced cost v i j -ℤ h in
-      cond (ltZ x (price (w .distances) j)) (afterLowering minimum k j x (reachBy w i j x)) (on w)
+      cond (ltZ x (price (w .distances) j)) (afterLowering n row minimum k j x (reachBy w i j x)) (on w)
 
   -- The row of the column at place k sees all columns after the block.
   abbrev pub scanRow : ℕ → Work → Turn Work Hit
@@ -83,35 +83,41 @@ module _ (n : ℕ) (cost : ℕ → ℕ → ℤ) (v : ℕ → ℤ) (row : ℕ →
   unfoldable pub scan : ℕ → Work → Turn Work Hit
   scan lo w = until lo n (λ k x. cond (ltb k (x .hi)) (scanRow k x) (on x)) w
 
-  -- ---- "The search ends by handing out the free column it reached. Among free columns of a fresh block the last in the list is taken;
-  -- the source has no early exit. [..] lo and hi then keep their values from before that scan."
+-- ---- "The search ends by handing out the free column it reached. Among free columns of a fresh block the last in the list is taken; the
+-- source has no early exit. [..] lo and hi then keep their values from before that scan."
 
-  -- The last free column of the places from lo up to hi.
-  unfoldable pub lastFree : List ℕ → ℕ → ℕ → LastFree
-  lastFree list lo hi = upward lo hi (λ k found. cond (ltb (row (at list k)) n) found (At (at list k))) NoneYet
+-- The last free column of the places from lo up to hi.
+unfoldable pub lastFree : ℕ → (ℕ → ℕ) → List ℕ → ℕ → ℕ → LastFree
+lastFree n row list lo hi = upward lo hi (λ k found. cond (ltb (row (at list k)) n) found (At (at list k))) NoneYet
 
-  -- The work with its block of minima from lo on.
-  abbrev pub freshBlock : ℕ → Work → Work
-  freshBlock lo w = let b = block n (w .distances) lo (w .list) in workOf (b .hi) (b .list) (w .distances) (w .predecessors) (w .scanned)
+-- The work with its block of minima from lo on.
+abbrev pub freshBlock : ℕ → ℕ → Work → Work
+freshBlock n lo w = let b = block n (w .distances) lo (w .list) in workOf (b .hi) (b .list) (w .distances) (w .predecessors) (w .scanned)
 
-  -- What is found from a block that starts at lo.
-  abbrev pub found : ℕ → Cursor → ℕ → Work → Found
-  found lo cursor j w = record { column = j; ready = lo; cursor = cursor; work = w }
+-- What is found from a block that starts at lo.
+abbrev pub found : ℕ → Cursor → ℕ → Work → Found
+found lo cursor j w = record { column = j; ready = lo; cursor = cursor; work = w }
 
-  -- After the scan of the block from lo to hi: the next block starts where this one ended; or a free column was reached, and lo and hi
-  -- keep their values.
-  abbrev pub afterScan : ℕ → ℕ → Turn Work Hit → Turn Work Found
-  afterScan lo hi (on w) = on w
-  afterScan lo hi (left hit) = left (found lo (record { lo = lo; hi = hi }) (hit .column) (hit .work))
+-- After the scan of the block from lo to hi: the next block starts where this one ended; or a free column was reached, and lo and hi keep
+-- their values.
+abbrev pub afterScan : ℕ → ℕ → Turn Work Hit → Turn Work Found
+afterScan lo hi (on w) = on w
+afterScan lo hi (left hit) = left (found lo (record { lo = lo; hi = hi }) (hit .column) (hit .work))
 
+-- What was found. (That a search is left within n blocks is a law.)
+abbrev pub foundAt : Turn Work Found → Found
+foundAt (left f) = f
+foundAt (on w) = found 0 (record { lo = 0; hi = 0 }) 0 w
+
+module _ (n : ℕ) (cost : ℕ → ℕ → ℤ) (v : ℕ → ℤ) (row : ℕ → ℕ) where
   -- A fresh block, from lo on: it has a free column, or it is scanned.
   abbrev pub afterBlock : ℕ → Work → LastFree → Turn Work Found
   afterBlock lo w (At j) = left (found lo (record { lo = lo; hi = w .hi }) j w)
-  afterBlock lo w NoneYet = afterScan lo (w .hi) (scan lo w)
+  afterBlock lo w NoneYet = afterScan lo (w .hi) (scan n cost v row lo w)
 
   -- One block. Between two blocks lo and hi are the same.
   abbrev pub searchBlock : Work → Turn Work Found
-  searchBlock w = let lo = w .hi in let b = freshBlock lo w in afterBlock lo b (lastFree (b .list) lo (b .hi))
+  searchBlock w = let lo = w .hi in let b = freshBlock n lo w in afterBlock lo b (lastFree n row (b .list) lo (b .hi))
 
   -- At most m blocks.
   unfoldable pub searchBlocks : ℕ → Work → Turn Work Found
@@ -120,11 +126,6 @@ module _ (n : ℕ) (cost : ℕ → ℕ → ℤ) (v : ℕ → ℤ) (row : ℕ →
   -- Before the first block: the columns in their order, each as far as row s makes it.
   abbrev pub searchStart : ℕ → Work
   searchStart s = workOf 0 (table n (λ j. j)) (table n (reduced cost v s)) (table n (λ j. s)) 0
-
-  -- What was found. (That a search is left within n blocks is a law.)
-  abbrev pub foundAt : Turn Work Found → Found
-  foundAt (left f) = f
-  foundAt (on w) = found 0 (record { lo = 0; hi = 0 }) 0 w
 
   -- The search from row s.
   unfoldable pub search : ℕ → Found
