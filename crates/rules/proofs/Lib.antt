@@ -2,6 +2,7 @@ pub mod AllNights
 pub mod Cases
 pub mod Lowest
 pub mod Prices
+pub mod Sizes
 pub mod Pairs
 pub mod Lowering
 pub mod Kept

@@ -25,6 +25,7 @@ use Rattle.rules.specs.Augmentation.{augments, augmentation}
 use Rattle.rules.specs.Run.{stages, Answer, rowPrices, run}
 use Rattle.rules.specs.Nights.{five}
 use Rattle.rules.proofs.Prices.{NotBelow, Between, AtMinimum, Fair, minimum-pays}
+use Rattle.rules.proofs.Sizes.{total-within}
 use Rattle.rules.proofs.Pairs.{Paired, Agree}
 use Rattle.rules.proofs.Lowering.{bounds-low}
 use Rattle.rules.proofs.Kept.{Kept}
@@ -112,6 +113,7 @@ pub record Right (n : ℕ) (costs : List ℤ) (K : ℕ) (a : Answer) : Type 0 wh
   pub column-prices-between : (k : ℕ) → k < n → Between (5 * K) K (price (a .columnPrices) k)
   pub row-prices-between : (i : ℕ) → i < n → Between 0 (4 * K) (price (a .rowPrices) i)
   pub total-is : a .total ≡ total (square n costs) (a .cols)
+  pub total-near : Within (n * K) (a .total)
 
 module _ (n : ℕ) (costs : List ℤ) (K : ℕ) (within : (k : ℕ) → Within K (price costs k)) where
   abbrev cost′ : ℕ → ℕ → ℤ
@@ -152,6 +154,7 @@ module _ (n : ℕ) (costs : List ℤ) (K : ℕ) (within : (k : ℕ) → Within K
               (row-price-between n cost′ one K (λ i j. within (i * n + j)) p v κ i (at (p .cols) i) l (κ .agree .cols-below i l)
               (paired-minimum n costs p v (κ .agree) (κ .fair) (L .all-paired) i l));
           total-is = refl;
+          total-near = total-within n costs K within (p .cols);
         }
 
 -- ---- sides 0 and 1
@@ -185,6 +188,7 @@ nothing-right costs K =
       column-prices-between = λ k l. absurd (omega arith);
       row-prices-between = λ i l. absurd (omega arith);
       total-is = refl;
+      total-near = record { low = omega arith; high = omega arith };
     }
 
 -- Side 1: "v is the cost and the row price 0"; no look.
@@ -215,3 +219,8 @@ side-one c = record {
 pub run-right : (n : ℕ) (costs : List ℤ) (K : ℕ) → ((k : ℕ) → Within K (price costs k)) → n ≤ free → Right n costs K (run n costs)
 run-right zero costs K within room = subst (Right 0 costs K) (sym (side-zero costs)) (nothing-right costs K)
 run-right (suc n) costs K within room = one-right (suc n) costs K within (omega arith) room
+
+-- All prices lie within 10K, as the checker asks.
+pub right-within-ten : (n : ℕ) (costs : List ℤ) (K : ℕ) (a : Answer) → Right n costs K a
+    → ((i : ℕ) → i < n → Within (10 * K) (price (a .rowPrices) i)) × ((j : ℕ) → j < n → Within (10 * K) (price (a .columnPrices) j))
+right-within-ten n costs K a R = (λ i l. omega (arith, R .row-prices-between i l), λ j l. omega (arith, R .column-prices-between j l))
