@@ -9,6 +9,7 @@ use lib.IntN.{ℤ}
 use Rattle.ints.specs.Parts.{Within}
 use Rattle.ints.proofs.Shapes.{zlin}
 use Rattle.lists.specs.Permutations.{at}
+use Rattle.lists.proofs.Runs.{upward-none}
 use Rattle.assignment.specs.Pairings.{price}
 use Rattle.rules.specs.declared.Counts.{Counts}
 use Rattle.rules.specs.Columns.{free, Stage, columnReduction}
@@ -17,13 +18,13 @@ use Rattle.rules.specs.Augmentation.{State, augment, augments, augmentat
 use Rattle.rules.specs.Run.{Stages, stages, countsOf}
 use Rattle.rules.proofs.Prices.{all-near}
 use Rattle.rules.proofs.Pairs.{Paired}
-use Rattle.rules.proofs.Kept.{Kept}
-use Rattle.rules.proofs.Claims.{first, first-low}
+use Rattle.rules.proofs.Kept.{Kept, within-five}
+use Rattle.rules.proofs.Claims.{first, first-low, first-within}
 use Rattle.rules.proofs.Transfers.{Good, columnReduction-good}
 use Rattle.rules.proofs.Passes.{looks-none}
 use Rattle.rules.proofs.RowReduction.{PassOf, rowReduction-ok}
-use Rattle.rules.proofs.Augment.{Gain}
-use Rattle.rules.proofs.Augmentation.{Augmented, augments-ok, augmented-paired}
+use Rattle.rules.proofs.Augment.{Can, Gain}
+use Rattle.rules.proofs.Augmentation.{Augmented, augmented-can, augments-ok, augmented-paired}
 
 -- A pass over no rows changes nothing, and makes no look.
 pub no-rows-no-pass : (n : ℕ) (cost : ℕ → ℕ → ℤ) (s : Stage) → s .count ≡ 0 → rowReduction n cost s ≡ passStart s
@@ -31,6 +32,13 @@ unfolding rowReduction
 no-rows-no-pass n cost s e =
     let z : s .count * n ≡ 0 = ap (λ (k : ℕ). k * n) e ∙ zero-mul n in
     ap (λ (m : ℕ). looks n cost (s .count) m (passStart s)) z ∙ looks-none n cost (s .count) (passStart s)
+
+-- Without free rows there is no search.
+pub no-rows-no-search : (n : ℕ) (cost : ℕ → ℕ → ℤ) (s : Stage) → s .count ≡ 0
+    → augmentation n cost s ≡ record { pairs = s .pairs; prices = s .prices; scanned = 0 }
+unfolding augmentation augments
+no-rows-no-search n cost s e =
+    upward-none 0 (s .count) (λ k y. augment n cost y (at (s .frees) k)) (record { pairs = s .pairs; prices = s .prices; scanned = 0 }) (omega arith)
 
 module _ (n : ℕ) (cost : ℕ → ℕ → ℤ) (one : 1 ≤ n) (K : ℕ) (costs : (i j : ℕ) → Within K (cost i j)) where
   abbrev v₀ : ℕ → ℤ
@@ -84,6 +92,22 @@ module _ (n : ℕ) (cost : ℕ → ℕ → ℤ) (one : 1 ≤ n) (K : ℕ) (costs
     augments-kept =
         augments-ok n cost (s .frees) (s .count) (λ x. Kept n cost K costs v₀ (x .pairs) (x .prices))
         (λ x r κ C g. gain-kept x r (augment n cost x r) κ g) x₀ start-augmented (G .kept)
+
+    -- What search m finds: a state from which its row can get a column, and prices within 5K.
+    pub record SearchReady (m : ℕ) (x : State) : Type 0 where
+      pub can : Can n cost x (at (s .frees) m)
+      pub prices-within : (k : ℕ) → Within (5 * K) (price (x .prices) k)
+      pub scanned-few : x .scanned ≤ m * (n - 1)
+
+    pub search-ready : (m : ℕ) → m < s .count → SearchReady m (augments n cost (s .frees) m x₀)
+    search-ready m l =
+        let x = augments n cost (s .frees) m x₀ in
+        let A = augments-kept m (omega arith) in
+        record {
+          can = augmented-can n cost (s .frees) (s .count) x₀ m x l (A .0);
+          prices-within = within-five n cost K costs v₀ (first-low n cost one K costs) (x .pairs) (x .prices) (A .1) (first-within n cost one K costs);
+          scanned-few = omega (arith, A .0 .scanned-few);
+        }
 
     -- All rows paired, all kept, and at most n - 1 columns scanned for each row left.
     pub record Last (x : State) : Type 0 where

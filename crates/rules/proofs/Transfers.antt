@@ -3,7 +3,7 @@ use mathlib.Core.Path.{_≡_, refl, sym, ap, _∙_}
 use mathlib.Core.Logic.{_≢_, inl, inr}
 use mathlib.Core.Bool.{cond}
 use mathlib.Core.List.{List}
-use Prim.Native.Nat.{ℕ, suc, _+_, _≤_, _<_}
+use Prim.Native.Nat.{ℕ, suc, _+_, _*_, _≤_, _<_}
 use native.Mathlib.Decide.{ℕ-discrete}
 use native.Mathlib.Omega.{arith}
 use borrow.Author.Tests.{eqb-true, eqb-false}
@@ -27,8 +27,8 @@ use Rattle.rules.proofs.Cases.{cond-cases, here-or-elsewhere}
 use Rattle.rules.proofs.Lowest.{RightBut, leastBut-is}
 use Rattle.rules.proofs.Pairs.{Agree}
 use Rattle.rules.proofs.Lowering.{Lowers}
-use Rattle.rules.proofs.Kept.{Listed, Kept, step}
-use Rattle.rules.proofs.Claims.{first, first-cost, first-least, first-low, Claimed, claims-ok}
+use Rattle.rules.proofs.Kept.{Listed, Kept, within-five, step}
+use Rattle.rules.proofs.Claims.{first, first-cost, first-least, first-low, first-within, Claimed, claims-ok}
 
 -- A price at its cost, less the least of the other reduced costs.
 less-lowers : (n : ℕ) (cost : ℕ → ℕ → ℤ) (v : ℕ → ℤ) (i j : ℕ) → j < n → v j ≡ cost i j → ((k : ℕ) → k < n → v k ≤ℤ cost i k)
@@ -195,6 +195,11 @@ module _ (n : ℕ) (cost : ℕ → ℕ → ℤ) (one : 1 ≤ n) (K : ℕ) (costs
     pub transfers-ok : Transferred n (transfers n cost s)
     unfolding transfers
     transfers-ok = upward-keeps Transferred 0 n (transfer n cost s) (untransferred n cost) (omega arith) untransferred-ok (λ k x a l T. transfer-ok k l x T)
+
+    -- At each row the prices lie within 5K.
+    pub transferred-within : (m : ℕ) (x : Transfer) → Transferred m x → (k : ℕ) → Within (5 * K) (price (x .prices) k)
+    transferred-within m x T =
+        within-five n cost K costs v₀ (first-low n cost one K costs) pairs (x .prices) (T .kept) (first-within n cost one K costs)
 
     -- The unclaimed rows are those with no column.
     transferred-listed : (x : Transfer) → Transferred n x → Listed n pairs (x .frees) (λ t. t < x .count)
