@@ -18,6 +18,7 @@ pub mod Search
 pub mod Potentials
 pub mod PriceChange
 pub mod Flips
+pub mod Turns
 pub mod Augment
 pub mod Augmentation
 pub mod Stages

@@ -1,10 +1,8 @@
 -- How large the numbers are that the code forms, for costs within K and prices within B: each sum stays within a small multiple of K + B, far within
 -- 64 bits. Assumes nothing.
-use mathlib.Core.Path.{_≡_}
 use mathlib.Core.List.{List}
-use Prim.Native.Nat.{ℕ, _+_, _*_, _^_, _≤_, _<_}
-use native.Mathlib.Omega.{arith}
-use lib.IntN.{ℤ, pos, _+ℤ_, _-ℤ_}
+use Prim.Native.Nat.{ℕ, _+_, _*_, _^_, _<_}
+use lib.IntN.{ℤ, _+ℤ_, _-ℤ_}
 use mir.Syntax.{w64}
 use mir.Val.{SFits}
 use Rattle.ints.specs.Parts.{Within}
