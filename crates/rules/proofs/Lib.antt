@@ -14,6 +14,7 @@ pub mod RowReduction
 pub mod Block
 pub mod Scan
 pub mod Scans
+pub mod FreeColumns
 pub mod Search
 pub mod Potentials
 pub mod PriceChange

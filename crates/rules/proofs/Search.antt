@@ -2,18 +2,12 @@
 -- price change and the flips need, and fewer columns scanned than there are. Assumes nothing.
 use mathlib.Core.Path.{_≡_, refl, sym, ap, _∙_, subst}
 use mathlib.Core.Logic.{inl, inr, ⊎-elim}
-use mathlib.Core.Bool.{cond}
-use mathlib.Core.List.{List}
-use Prim.Native.Nat.{ℕ, suc, _≤_, _<_}
+use Prim.Native.Nat.{ℕ, _≤_, _<_}
 use native.Mathlib.Omega.{arith}
-use borrow.Author.Tests.{ltb-true, ltb-false}
 use lib.IntN.{ℤ, pos}
 use lib.Signed.{_≤ℤ_}
-use lib.Dec.{ltb}
 use Rattle.ints.proofs.Ranges.{zarith}
 use Rattle.lists.specs.Runs.{Turn, on, left}
-use Rattle.lists.specs.Permutations.{at}
-use Rattle.lists.proofs.Runs.{upward-keeps}
 use Rattle.lists.proofs.Injections.{reached}
 use Rattle.lists.proofs.Tables.{length-table, getD-table}
 use Rattle.rules.specs.declared.LastFree.{LastFree}
@@ -21,31 +15,12 @@ use Rattle.rules.specs.declared.LastFree.the-variants.{NoneYet, At}
 use Rattle.rules.specs.Lowest.{reduced}
 use Rattle.rules.specs.Block.{Block, block}
 use Rattle.rules.specs.Search.{Work, Hit, Found, scan, lastFree, freshBlock, found, afterScan, afterBlock, searchBlock, searchBlocks, searchStart, foundAt, search}
-use Rattle.rules.proofs.Cases.{cond-cases, lt-or-le, below-suc, Either, goes-on, is-left, either-map, until-keeps, until-longer}
+use Rattle.rules.proofs.Cases.{lt-or-le, Either, goes-on, is-left, either-map, until-keeps, until-longer}
 use Rattle.rules.proofs.Prices.{Fair}
 use Rattle.rules.proofs.Block.{IsBlock, block-ok}
+use Rattle.rules.proofs.FreeColumns.{Sought, lastFree-ok}
 use Rattle.rules.proofs.Scan.{place, far, FromColumn, Root, Relaxed, Sound}
 use Rattle.rules.proofs.Scans.{Counted, LeftAt, scan-ok}
-
--- ---- the last free column of a block
-
-module _ (n : ℕ) (row : ℕ → ℕ) (list : List ℕ) (lo : ℕ) where
-  -- Among the places from lo up to k: none is free, or a free one.
-  abbrev pub Sought : ℕ → LastFree → Type 0
-  Sought k NoneYet = (t : ℕ) → lo ≤ t → t < k → row (at list t) < n
-  Sought k (At j) = (t : ℕ) × (lo ≤ t) × (t < k) × (at list t ≡ j) × (n ≤ row j)
-
-  more-sought : (k : ℕ) (o : LastFree) → row (at list k) < n → Sought k o → Sought (suc k) o
-  more-sought k NoneYet h S = λ t a m. below-suc (λ t. lo ≤ t → row (at list t) < n) (λ t l b. S t b l) (λ b. h) t m a
-  more-sought k (At j) h S = (S .0, S .1, omega (arith, S .2), S .3, S .4)
-
-  pub lastFree-ok : (hi : ℕ) → lo ≤ hi → Sought hi (lastFree n row list lo hi)
-  unfolding lastFree
-  lastFree-ok hi h =
-      upward-keeps Sought lo hi (λ k found. cond (ltb (row (at list k)) n) found (At (at list k))) NoneYet h (λ t a m. absurd (omega arith))
-      (λ k o a m S. cond-cases (ltb (row (at list k)) n) (Sought (suc k)) o (At (at list k))
-      (λ e. more-sought k o (ltb-true (row (at list k)) n e) S)
-      (λ e. (k, a, omega arith, refl, ltb-false (row (at list k)) n e)))
 
 module _ (n : ℕ) (cost : ℕ → ℕ → ℤ) (v : ℕ → ℤ) (row : ℕ → ℕ) (s : ℕ) (floor : ℤ) where
   -- Between two blocks: the columns before hi are settled.
