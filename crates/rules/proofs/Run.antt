@@ -114,6 +114,8 @@ pub record Right (n : ℕ) (costs : List ℤ) (K : ℕ) (a : Answer) : Type 0 wh
   pub row-prices-between : (i : ℕ) → i < n → Between 0 (4 * K) (price (a .rowPrices) i)
   pub total-is : a .total ≡ total (square n costs) (a .cols)
   pub total-near : Within (n * K) (a .total)
+  pub left-after-one : ℕ
+  pub counts-right : CountsRight n left-after-one (a .counts)
 
 module _ (n : ℕ) (costs : List ℤ) (K : ℕ) (within : (k : ℕ) → Within K (price costs k)) where
   abbrev cost′ : ℕ → ℕ → ℤ
@@ -122,11 +124,6 @@ module _ (n : ℕ) (costs : List ℤ) (K : ℕ) (within : (k : ℕ) → Within K
   module _ (one : 1 ≤ n) (room : n ≤ free) where
     stages-are : StagesRight n cost′ one K (λ i j. within (i * n + j)) (stages n cost′)
     stages-are = stages-right n cost′ one K (λ i j. within (i * n + j)) room
-
-    -- "A pass over F rows makes F to F*n looks; each search scans at most n-1 columns."
-    pub run-counts : CountsRight n cost′ one K (λ i j. within (i * n + j)) (stages n cost′ .passOne .pass .left) (run n costs .counts)
-    unfolding run
-    run-counts = stages-are .counts
 
     one-right : Right n costs K (run n costs)
     unfolding run
@@ -155,6 +152,8 @@ module _ (n : ℕ) (costs : List ℤ) (K : ℕ) (within : (k : ℕ) → Within K
               (paired-minimum n costs p v (κ .agree) (κ .fair) (L .all-paired) i l));
           total-is = refl;
           total-near = total-within n costs K within (p .cols);
+          left-after-one = stages n cost′ .passOne .pass .left;
+          counts-right = stages-are .counts;
         }
 
 -- ---- sides 0 and 1
@@ -189,6 +188,17 @@ nothing-right costs K =
       row-prices-between = λ i l. absurd (omega arith);
       total-is = refl;
       total-near = record { low = omega arith; high = omega arith };
+      left-after-one = 0;
+      counts-right = record {
+        free-few = omega arith;
+        one-least = omega arith;
+        one-most = omega arith;
+        left-one-few = omega arith;
+        two-least = omega arith;
+        two-most = omega arith;
+        left-few = omega arith;
+        scanned-few = omega arith;
+      };
     }
 
 -- Side 1: "v is the cost and the row price 0"; no look.

@@ -26,6 +26,17 @@ use Rattle.rules.proofs.RowReduction.{PassOf, rowReduction-ok}
 use Rattle.rules.proofs.Augment.{Can, Gain}
 use Rattle.rules.proofs.Augmentation.{Augmented, augmented-can, augments-ok, augmented-paired}
 
+-- "A pass over F rows makes F to F*n looks; each search scans at most n-1 columns." `left-one` rows are left after pass one.
+pub record CountsRight (n left-one : ℕ) (c : Counts) : Type 0 where
+  pub free-few : c .«free_rows» ≤ n
+  pub one-least : c .«free_rows» ≤ c .«looks_one»
+  pub one-most : c .«looks_one» ≤ c .«free_rows» * n
+  pub left-one-few : left-one ≤ c .«free_rows»
+  pub two-least : left-one ≤ c .«looks_two»
+  pub two-most : c .«looks_two» ≤ left-one * n
+  pub left-few : c .«rows_left» ≤ left-one
+  pub scanned-few : c .«columns_scanned» ≤ c .«rows_left» * (n - 1)
+
 -- A pass over no rows changes nothing, and makes no look.
 pub no-rows-no-pass : (n : ℕ) (cost : ℕ → ℕ → ℤ) (s : Stage) → s .count ≡ 0 → rowReduction n cost s ≡ passStart s
 unfolding rowReduction
@@ -124,23 +135,12 @@ module _ (n : ℕ) (cost : ℕ → ℕ → ℤ) (one : 1 ≤ n) (K : ℕ) (costs
 
   -- ---- the run
 
-  -- "A pass over F rows makes F to F*n looks; each search scans at most n-1 columns."
-  pub record CountsRight (left-one : ℕ) (c : Counts) : Type 0 where
-    pub free-few : c .«free_rows» ≤ n
-    pub one-least : c .«free_rows» ≤ c .«looks_one»
-    pub one-most : c .«looks_one» ≤ c .«free_rows» * n
-    pub left-one-few : left-one ≤ c .«free_rows»
-    pub two-least : left-one ≤ c .«looks_two»
-    pub two-most : c .«looks_two» ≤ left-one * n
-    pub left-few : c .«rows_left» ≤ left-one
-    pub scanned-few : c .«columns_scanned» ≤ c .«rows_left» * (n - 1)
-
   pub record StagesRight (r : Stages) : Type 0 where
     pub columns-good : Good n cost one K costs (r .columns)
     pub pass-one : PassOf n cost one K costs (r .columns) (r .passOne)
     pub pass-two : PassOf n cost one K costs (passEnd (r .passOne)) (r .passTwo)
     pub last : Last (passEnd (r .passTwo)) (pass-two .good) (r .last)
-    pub counts : CountsRight (r .passOne .pass .left) (countsOf r)
+    pub counts : CountsRight n (r .passOne .pass .left) (countsOf r)
 
   pub stages-right : n ≤ free → StagesRight (stages n cost)
   unfolding stages

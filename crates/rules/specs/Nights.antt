@@ -59,7 +59,7 @@ nights =
     ∷ line 5 (nats (1 ∷ 1 ∷ 1 ∷ 0 ∷ 0 ∷ 1 ∷ 1 ∷ 1 ∷ 0 ∷ 0 ∷ 1 ∷ 1 ∷ 1 ∷ 0 ∷ 0 ∷ 1 ∷ 1 ∷ 1 ∷ 0 ∷ 0 ∷ 1 ∷ 1 ∷ 1 ∷ 0 ∷ 0 ∷ [])) (4 ∷ 0 ∷ 2 ∷ 1 ∷ 3 ∷ []) (nats (1 ∷ 1 ∷ 1 ∷ 0 ∷ 0 ∷ [])) (nats (0 ∷ 0 ∷ 0 ∷ 0 ∷ 0 ∷ [])) (pos 3) (five 4 4 2 2 0)
     -- A hit in a scan: lo keeps its value, so v[2] and v[3] fall by 1 and not by 2. And a predecessor changes only on a lower distance.
     ∷ line 5 (nats (1 ∷ 2 ∷ 0 ∷ 0 ∷ 1 ∷ 0 ∷ 0 ∷ 0 ∷ 0 ∷ 0 ∷ 1 ∷ 2 ∷ 0 ∷ 0 ∷ 1 ∷ 2 ∷ 2 ∷ 0 ∷ 0 ∷ 1 ∷ 0 ∷ 1 ∷ 1 ∷ 1 ∷ 1 ∷ [])) (3 ∷ 1 ∷ 2 ∷ 4 ∷ 0 ∷ []) (minus 1 ∷ pos 0 ∷ minus 1 ∷ minus 1 ∷ pos 0 ∷ []) (nats (1 ∷ 0 ∷ 1 ∷ 1 ∷ 1 ∷ [])) (pos 1) (five 3 3 1 1 3)
-    -- A go-back compared with n, not current*n, would end the pass a look earlier.
+    -- A go-back compared with n, not current*n, would send the last displaced row to a second pass.
     ∷ line 3 (nats (0 ∷ 0 ∷ 0 ∷ 0 ∷ 0 ∷ 0 ∷ 1 ∷ 1 ∷ 0 ∷ [])) (1 ∷ 0 ∷ 2 ∷ []) (pos 0 ∷ pos 0 ∷ minus 1 ∷ []) (nats (0 ∷ 0 ∷ 1 ∷ [])) (pos 0) (five 2 3 0 0 0)
     -- In the late branch there is no swap to j2.
     ∷ line 4 (nats (3 ∷ 1 ∷ 0 ∷ 3 ∷ 3 ∷ 0 ∷ 0 ∷ 2 ∷ 0 ∷ 0 ∷ 0 ∷ 0 ∷ 2 ∷ 0 ∷ 1 ∷ 2 ∷ [])) (2 ∷ 1 ∷ 3 ∷ 0 ∷ []) (pos 0 ∷ minus 2 ∷ minus 3 ∷ pos 0 ∷ []) (nats (3 ∷ 2 ∷ 0 ∷ 2 ∷ [])) (pos 2) (five 1 4 1 0 0)
