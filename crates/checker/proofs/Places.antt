@@ -1,0 +1,83 @@
+-- The prices of one place: their sum does not wrap, and what the tests of that place read. Assumes nothing.
+use mathlib.Core.Path.{_≡_, refl, sym, ap, ap₂, _∙_}
+use mathlib.Core.Bool.{Bool, true, false, not, _||_, or-true, true≢false}
+use mathlib.Core.Logic.{⊎-elim}
+use mathlib.Core.List.{List}
+use Prim.Native.Nat.{ℕ, _*_, _≤_, _<_}
+use borrow.Author.Tests.{eqb-true, eqb-false}
+use lib.Dec.{eqb}
+use lib.IntN.{ℤ, pos, _+ℤ_}
+use lib.ListN.{length}
+use lib.Signed.{ltZ, _≤ℤ_, _<ℤ_}
+use mir.Syntax.{Width, w64}
+use mir.Val.{SFits, toZ, ofZ}
+use mir.Facts.{toZ-ofZ}
+use Rattle.ints.specs.Parts.{Within}
+use Rattle.ints.proofs.Ranges.{zarith}
+use Rattle.ints.proofs.Shapes.{zlin}
+use Rattle.ints.proofs.Tests.{lt-ltZ, le-ltZ, le-or-lt}
+use Rattle.ints.proofs.Bits.{bits-injective}
+use Rattle.lists.specs.Runs.{first}
+use Rattle.lists.specs.Parts.{part}
+use Rattle.assignment.specs.Pairings.{price}
+use Rattle.matrix.specs.Limits.{K}
+use Rattle.matrix.specs.Refusals.{outside}
+use Rattle.matrix.proofs.Limits.{K-small}
+use Rattle.matrix.proofs.First.{first-cong, nowhere}
+use Rattle.matrix.proofs.Ranges.{inside-within}
+use Rattle.matrix.proofs.Rows.{row-length, row-at}
+use Rattle.checker.specs.Check.{over, overAt, differ}
+use Rattle.checker.specs.Fair.{PricesWithin}
+
+module _ (row column : ℤ) (f : SFits w64 row) (g : SFits w64 column) (near : Within (10 * K) row) (close : Within (10 * K) column) where
+  pub sum-fits : SFits w64 (row +ℤ column)
+  sum-fits = omega (zlin, K-small)
+
+  pub sum-read : toZ w64 (ofZ w64 row) +ℤ toZ w64 (ofZ w64 column) ≡ row +ℤ column
+  sum-read = ap₂ _+ℤ_ (toZ-ofZ f) (toZ-ofZ g)
+
+  pub read-fits : SFits w64 (toZ w64 (ofZ w64 row) +ℤ toZ w64 (ofZ w64 column))
+  read-fits = rw sum-read sum-fits
+
+-- ---- prices in their range, once no price outside it was found
+
+pub prices-within : (n : ℕ) (prices : List ℤ) → n ≤ first n (λ i. outside (pos (10 * K)) (price prices i)) → PricesWithin n prices
+prices-within n prices h i l =
+    inside-within (10 * K) (price prices i) (nowhere (λ i. outside (pos (10 * K)) (price prices i)) n h i l)
+
+-- ---- one number is not another
+
+pub differ-same : (a b : ℤ) → a ≡ b → differ a b ≡ false
+differ-same a b e = rw (le-ltZ a b (omega zarith), le-ltZ b a (omega zarith))
+
+pub differ-apart : (a b : ℤ) → (a ≡ b → ⊥) → differ a b ≡ true
+differ-apart a b apart =
+    ⊎-elim (λ h. rw (lt-ltZ b a (strict h)) (or-true (ltZ a b))) (λ l. rw (lt-ltZ a b l)) (le-or-lt b a)
+  where
+    strict : b ≤ℤ a → b <ℤ a
+    strict h = ⊎-elim (λ k. absurd (apart (omega zarith))) (λ l. l) (le-or-lt a b)
+
+pub differ-false : (a b : ℤ) → differ a b ≡ false → a ≡ b
+differ-false a b = by (ltZ a b) (ltZ b a) refl refl
+  where
+    by : (s t : Bool) → ltZ a b ≡ s → ltZ b a ≡ t → (s || t) ≡ false → a ≡ b
+    by false false below above e = omega zarith
+    by false true below above e = absurd (true≢false e)
+    by true t below above e = absurd (true≢false e)
+
+-- The same, as two signed locals are compared: by their bits.
+pub differ-bits : {w : Width} (a b : ℤ) → SFits w a → SFits w b → not (eqb (ofZ w a) (ofZ w b)) ≡ differ a b
+differ-bits {w} a b f g = by (eqb (ofZ w a) (ofZ w b)) refl
+  where
+    by : (t : Bool) → eqb (ofZ w a) (ofZ w b) ≡ t → not (eqb (ofZ w a) (ofZ w b)) ≡ differ a b
+    by true e = ap not e ∙ sym (differ-same a b (bits-injective f g (eqb-true _ _ e)))
+    by false e = ap not e ∙ sym (differ-apart a b (λ same. eqb-false _ _ e (ap (ofZ w) same)))
+
+-- ---- one row of the costs
+
+-- What is looked for in the part that holds row i is what is looked for in row i of the night.
+pub row-first : (n : ℕ) (costs us vs : List ℤ) (i : ℕ) → i < n → length costs ≡ n * n → (row : List ℤ) → row ≡ part (i * n) n costs → (u : ℤ) → u ≡ price us i
+    → first (length row) (overAt row u vs) ≡ first n (over n costs us vs i)
+row-first n costs us vs i l e row same u at =
+    ap (λ (m : ℕ). first m (overAt row u vs)) (ap length same ∙ row-length n costs i l e)
+    ∙ first-cong n (overAt row u vs) (over n costs us vs i) (λ j k. ap₂ ltZ (ap (λ (p : List ℤ). price p j) same ∙ row-at n costs i j k) (ap (λ (z : ℤ). z +ℤ price vs j) at))
