@@ -24,10 +24,10 @@ use Rattle.matrix.specs.Limits.{K}
 use Rattle.matrix.specs.Refusals.{outside}
 use Rattle.matrix.proofs.Limits.{K-small}
 use Rattle.matrix.proofs.First.{first-cong, nowhere}
-use Rattle.matrix.proofs.Ranges.{inside-within}
+use Rattle.matrix.proofs.Bounds.{outside-within}
 use Rattle.matrix.proofs.Rows.{row-length, row-at}
-use Rattle.checker.specs.Check.{over, overAt, differ}
-use Rattle.checker.specs.Fair.{PricesWithin}
+use Rattle.checker.specs.Check.{over, differ}
+use Rattle.checker.specs.Fair.{Prices}
 
 module _ (row column : ℤ) (f : SFits w64 row) (g : SFits w64 column) (near : Within (10 * K) row) (close : Within (10 * K) column) where
   pub sum-fits : SFits w64 (row +ℤ column)
@@ -41,9 +41,12 @@ module _ (row column : ℤ) (f : SFits w64 row) (g : SFits w64 column) (near : W
 
 -- ---- prices in their range, once no price outside it was found
 
-pub prices-within : (n : ℕ) (prices : List ℤ) → n ≤ first n (λ i. outside (pos (10 * K)) (price prices i)) → PricesWithin n prices
-prices-within n prices h i l =
-    inside-within (10 * K) (price prices i) (nowhere (λ i. outside (pos (10 * K)) (price prices i)) n h i l)
+pub prices-kept : (n : ℕ) (prices : List ℤ) → n ≤ length prices → n ≤ first n (λ i. outside (pos (10 * K)) (price prices i)) → Prices n prices
+prices-kept n prices enough h =
+    record {
+      enough = enough;
+      within = λ i l. outside-within (10 * K) (price prices i) .0 (nowhere (λ i. outside (pos (10 * K)) (price prices i)) n h i l);
+    }
 
 -- ---- one number is not another
 
@@ -74,6 +77,10 @@ differ-bits {w} a b f g = by (eqb (ofZ w a) (ofZ w b)) refl
     by false e = ap not e ∙ sym (differ-apart a b (λ same. eqb-false _ _ e (ap (ofZ w) same)))
 
 -- ---- one row of the costs
+
+-- The prices are over the cost in one row of costs with its price, at column j.
+abbrev pub overAt : List ℤ → ℤ → List ℤ → ℕ → Bool
+overAt row u vs j = ltZ (price row j) (u +ℤ price vs j)
 
 -- What is looked for in the part that holds row i is what is looked for in row i of the night.
 pub row-first : (n : ℕ) (costs us vs : List ℤ) (i : ℕ) → i < n → length costs ≡ n * n → (row : List ℤ) → row ≡ part (i * n) n costs → (u : ℤ) → u ≡ price us i

@@ -1,18 +1,18 @@
 -- The checker: what it answers for every costs, lists and prices.
 -- "Checker: 1, 2, 3, 5, 6, 7, 8, 9, 10; its lists need at least n entries and only the first n are read; it accepts with the total."
 use mathlib.Core.Bool.{Bool, not, _||_}
-use mathlib.Core.List.{List}
+use mathlib.Core.List.{List, [], _∷_}
 use Prim.Native.Nat.{ℕ, _+_, _*_}
 use lib.Dec.{leb, ltb, eqb}
-use lib.IntN.{ℤ, pos, _+ℤ_}
+use lib.IntN.{ℤ, pos}
 use lib.ListN.{length}
 use lib.Signed.{ltZ}
 use Rattle.lists.specs.Runs.{first}
 use Rattle.lists.specs.Permutations.{at}
-use Rattle.assignment.specs.Pairings.{Night, square, total, price}
+use Rattle.assignment.specs.Pairings.{square, total, price}
 use Rattle.assignment.specs.Prices.{priced}
 use Rattle.matrix.specs.Limits.{side, K}
-use Rattle.matrix.specs.Refusals.{refuseIf, refuseAt, outside}
+use Rattle.matrix.specs.Refusals.{refuseIf, refuseAt, short, outside}
 use Rattle.matrix.specs.declared.Refusal.the-variants.{SideOver, CostsNotSquare, ListLength, CostOutside, ColumnOutside, RowNotNamed, PriceOutside, PricesOverCost, PricesNotCost}
 use Rattle.matrix.specs.declared.Answer.{Answer}
 use Rattle.matrix.specs.declared.Answer.the-variants.{Total, Refused}
@@ -20,10 +20,6 @@ use Rattle.matrix.specs.declared.Answer.the-variants.{Total, Refused}
 -- "row price + column price over the cost", at place (i, j).
 abbrev pub over : ℕ → List ℤ → List ℤ → List ℤ → ℕ → ℕ → Bool
 over n costs us vs i j = ltZ (square n costs .cost i j) (priced us vs i j)
-
--- The same of one row of costs and its price, at column j.
-abbrev pub overAt : List ℤ → ℤ → List ℤ → ℕ → Bool
-overAt row u vs j = ltZ (price row j) (u +ℤ price vs j)
 
 -- Whether row i has such a place.
 abbrev pub overIn : ℕ → List ℤ → List ℤ → List ℤ → ℕ → Bool
@@ -47,22 +43,15 @@ checkPrices n costs cols us vs =
     (refuseAt n (loose n costs cols us vs) (λ i. Refused (PricesNotCost i))
     (Total (total (square n costs) cols)))))
 
--- 6, "a listed column is not below n"; 7, "the column of a row does not name that row back".
-unfoldable pub checkNames : ℕ → List ℤ → List ℕ → List ℕ → List ℤ → List ℤ → Answer
-checkNames n costs cols rows us vs =
-    refuseAt n (λ i. leb n (at cols i)) (λ i. Refused (ColumnOutside i))
-    (refuseAt n (λ i. not (eqb (at rows (at cols i)) i)) (λ i. Refused (RowNotNamed i))
-    (checkPrices n costs cols us vs))
-
--- 1, "side over its limit"; 2, "cost slice is not exactly n*n long"; 3, "list shorter than n", "first such": 1 column of each row,
--- 2 row of each column, 3 row prices, 4 column prices; 5, "a cost outside -K..K".
+-- 1, "side over its limit"; 2, "cost slice is not exactly n*n long"; 3, "list shorter than n", "first such, by its number": 1 column of
+-- each row, 2 row of each column, 3 row prices, 4 column prices; 5, "a cost outside -K..K"; 6, "a listed column is not below n"; 7, "the
+-- column of a row does not name that row back"; then the prices.
 unfoldable pub check : ℕ → List ℤ → List ℕ → List ℕ → List ℤ → List ℤ → Answer
 check n costs cols rows us vs =
     refuseIf (ltb side n) (Refused SideOver)
     (refuseIf (not (eqb (length costs) (n * n))) (Refused CostsNotSquare)
-    (refuseIf (ltb (length cols) n) (Refused (ListLength 1))
-    (refuseIf (ltb (length rows) n) (Refused (ListLength 2))
-    (refuseIf (ltb (length us) n) (Refused (ListLength 3))
-    (refuseIf (ltb (length vs) n) (Refused (ListLength 4))
+    (refuseAt 4 (short n (length cols ∷ length rows ∷ length us ∷ length vs ∷ [])) (λ k. Refused (ListLength (k + 1)))
     (refuseAt (length costs) (λ k. outside (pos K) (price costs k)) (λ k. Refused (CostOutside k))
-    (checkNames n costs cols rows us vs)))))))
+    (refuseAt n (λ i. leb n (at cols i)) (λ i. Refused (ColumnOutside i))
+    (refuseAt n (λ i. not (eqb (at rows (at cols i)) i)) (λ i. Refused (RowNotNamed i))
+    (checkPrices n costs cols us vs))))))

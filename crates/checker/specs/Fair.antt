@@ -9,34 +9,24 @@ use Rattle.assignment.specs.Pairings.{square, Named, price}
 use Rattle.assignment.specs.Prices.{Feasible, Tight}
 use Rattle.matrix.specs.Limits.{side, K}
 
--- Sizes: the side within its limit, n * n costs, and at least n entries in each list.
-pub record Sizes (n : ℕ) (costs : List ℤ) (cols rows : List ℕ) (us vs : List ℤ) : Type 0 where
+-- Sizes: the side within its limit, n * n costs, at least n columns and at least n rows listed.
+pub record Sizes (n : ℕ) (costs : List ℤ) (cols rows : List ℕ) : Type 0 where
   pub small : n ≤ side
   pub squared : length costs ≡ n * n
   pub columns-listed : n ≤ length cols
   pub rows-listed : n ≤ length rows
-  pub row-prices-listed : n ≤ length us
-  pub column-prices-listed : n ≤ length vs
 
--- Costs in -K..K.
-abbrev pub CostsWithin : List ℤ → Type 0
-CostsWithin costs = (k : ℕ) → k < length costs → Within K (price costs k)
-
--- The first n prices in -10K..10K.
-abbrev pub PricesWithin : ℕ → List ℤ → Type 0
-PricesWithin n prices = (i : ℕ) → i < n → Within (10 * K) (price prices i)
-
--- A list with n prices in -10K..10K.
+-- At least n prices, the first n of them in -10K..10K.
 pub record Prices (n : ℕ) (prices : List ℤ) : Type 0 where
   pub enough : n ≤ length prices
-  pub within : PricesWithin n prices
+  pub within : (i : ℕ) → i < n → Within (10 * K) (price prices i)
 
 -- Sizes, ranges, names, and prices that are fair: feasible, and tight on the pairing.
 pub record Fair (n : ℕ) (costs : List ℤ) (cols rows : List ℕ) (us vs : List ℤ) : Type 0 where
-  pub sizes : Sizes n costs cols rows us vs
-  pub costs-within : CostsWithin costs
+  pub sizes : Sizes n costs cols rows
+  pub within : (k : ℕ) → k < length costs → Within K (price costs k)
   pub named : Named (square n costs) cols rows
-  pub row-prices-within : PricesWithin n us
-  pub column-prices-within : PricesWithin n vs
+  pub row-prices : Prices n us
+  pub column-prices : Prices n vs
   pub feasible : Feasible (square n costs) us vs
   pub tight : Tight (square n costs) us vs cols

@@ -2,8 +2,8 @@
 ghost use mathlib.Core.Path.{_≡_};
 ghost use mathlib.Core.Bool.{not};
 ghost use Prim.Native.Nat.{ℕ, _*_, _≤_, _<_};
-ghost use lib.Dec.{ltb, eqb};
-ghost use lib.IntN.{pos, _+ℤ_};
+ghost use lib.Dec.{eqb};
+ghost use lib.IntN.{_+ℤ_};
 ghost use lib.Signed.{ltZ};
 ghost use lib.ListN.{length};
 ghost use Rattle.ints.specs.Parts.{Within};
@@ -11,10 +11,9 @@ ghost use Rattle.lists.specs.Runs.{first};
 ghost use Rattle.lists.specs.Permutations.{at};
 ghost use Rattle.assignment.specs.Pairings.{price};
 ghost use Rattle.matrix.specs.Limits.{K};
-ghost use Rattle.matrix.specs.Refusals.{outside};
 ghost use Rattle.matrix.specs.Cost.{Listed};
-ghost use Rattle.checker.specs.Check.{over, overAt, overIn, differ, loose, checkPrices, checkNames, check};
-ghost use Rattle.checker.specs.Fair.{Sizes, Prices, PricesWithin};
+ghost use Rattle.checker.specs.Check.{overIn, differ, loose, checkPrices, check};
+ghost use Rattle.checker.specs.Fair.{Prices};
 use matrix::Answer;
 use matrix::Refusal;
 
@@ -34,52 +33,30 @@ fn first_row_not_named(n: usize, cols: &[u32], rows: &[u32]) -> usize
     i
 }
 
-// 10K.
-fn price_bound() -> i64
-    ensures { λ r. ⌜ r ≡ pos (10 * K) ⌝ }
-{
-    10 * matrix::bound()
-}
-
-// Refusal 8: the first of n prices outside -10K..10K, or n.
-fn first_price_outside(n: usize, prices: &[i64]) -> usize
-    requires { ⌜ n ≤ length (now prices) ⌝ }
-    ensures { λ r. ⌜ r ≡ first n (λ i. outside (pos (10 * K)) (price (now (prices .entry)) i)) ⌝ }
-{
-    let mut i = 0;
-    while i < n {
-        if matrix::outside(prices[i], price_bound()) {
-            return i;
-        }
-        i += 1;
-    }
-    i
-}
-
 // The test of one place for refusal 9: row price + column price over the cost.
-fn over_cost(cost: i32, row: i64, column: i64) -> bool
-    requires { ⌜ Within (10 * K) row × Within (10 * K) column ⌝ }
-    ensures { λ r. ⌜ r ≡ ltZ cost (row +ℤ column) ⌝ }
+fn over_cost(cost: i32, u: i64, v: i64) -> bool
+    requires { ⌜ Within (10 * K) u × Within (10 * K) v ⌝ }
+    ensures { λ r. ⌜ r ≡ ltZ cost (u +ℤ v) ⌝ }
 {
-    (cost as i64) < row + column
+    (cost as i64) < u + v
 }
 
 // The test of one place for refusal 10: row price + column price is not the cost.
-fn not_cost(cost: i32, row: i64, column: i64) -> bool
-    requires { ⌜ Within (10 * K) row × Within (10 * K) column ⌝ }
-    ensures { λ r. ⌜ r ≡ differ (row +ℤ column) cost ⌝ }
+fn not_cost(cost: i32, u: i64, v: i64) -> bool
+    requires { ⌜ Within (10 * K) u × Within (10 * K) v ⌝ }
+    ensures { λ r. ⌜ r ≡ differ (u +ℤ v) cost ⌝ }
 {
-    row + column != cost as i64
+    u + v != cost as i64
 }
 
 // Refusal 9 in one row: the first column at which the prices are over the cost, or the row's length.
-fn first_column_over(row: &[i32], price: i64, prices: &[i64]) -> usize
-    requires { ⌜ (length (now row) ≤ length (now prices)) × Within (10 * K) price × PricesWithin (length (now row)) (now prices) ⌝ }
-    ensures { λ r. ⌜ r ≡ first (length (now (row .entry))) (overAt (now (row .entry)) price (now (prices .entry))) ⌝ }
+fn first_column_over(row: &[i32], u: i64, vs: &[i64]) -> usize
+    requires { ⌜ Within (10 * K) u × Prices (length (now row)) (now vs) ⌝ }
+    ensures { λ r. ⌜ r ≡ first (length (now (row .entry))) (λ j. ltZ (price (now (row .entry)) j) (u +ℤ price (now (vs .entry)) j)) ⌝ }
 {
     let mut j = 0;
     while j < row.len() {
-        if over_cost(row[j], price, prices[j]) {
+        if over_cost(row[j], u, vs[j]) {
             return j;
         }
         j += 1;
@@ -88,14 +65,14 @@ fn first_column_over(row: &[i32], price: i64, prices: &[i64]) -> usize
 }
 
 // Refusal 9: the first row that has a place at which the prices are over the cost, or n.
-fn first_row_over(n: usize, costs: &[i32], row_prices: &[i64], col_prices: &[i64]) -> usize
-    requires { ⌜ (length (now costs) ≡ n * n) × Prices n (now «row_prices») × Prices n (now «col_prices») ⌝ }
-    ensures { λ r. ⌜ r ≡ first n (overIn n (now (costs .entry)) (now («row_prices» .entry)) (now («col_prices» .entry))) ⌝ }
+fn first_row_over(n: usize, costs: &[i32], us: &[i64], vs: &[i64]) -> usize
+    requires { ⌜ (length (now costs) ≡ n * n) × Prices n (now us) × Prices n (now vs) ⌝ }
+    ensures { λ r. ⌜ r ≡ first n (overIn n (now (costs .entry)) (now (us .entry)) (now (vs .entry))) ⌝ }
 {
     let mut i = 0;
     while i < n {
         let row = matrix::row(costs, n, i);
-        if first_column_over(row, row_prices[i], col_prices) < n {
+        if first_column_over(row, us[i], vs) < n {
             return i;
         }
         i += 1;
@@ -104,22 +81,16 @@ fn first_row_over(n: usize, costs: &[i32], row_prices: &[i64], col_prices: &[i64
 }
 
 // Refusal 10: the first row whose paired place has prices that are not the cost, or n.
-fn first_row_loose(
-    n: usize,
-    costs: &[i32],
-    cols: &[u32],
-    row_prices: &[i64],
-    col_prices: &[i64],
-) -> usize
-    requires { ⌜ Listed n (now costs) n (now cols) × Prices n (now «row_prices») × Prices n (now «col_prices») ⌝ }
-    ensures { λ r. ⌜ r ≡ first n (loose n (now (costs .entry)) (now (cols .entry)) (now («row_prices» .entry)) (now («col_prices» .entry))) ⌝ }
+fn first_row_loose(n: usize, costs: &[i32], cols: &[u32], us: &[i64], vs: &[i64]) -> usize
+    requires { ⌜ Listed n (now costs) n (now cols) × Prices n (now us) × Prices n (now vs) ⌝ }
+    ensures { λ r. ⌜ r ≡ first n (loose n (now (costs .entry)) (now (cols .entry)) (now (us .entry)) (now (vs .entry))) ⌝ }
 {
     let mut start = 0;
     let mut i = 0;
     while i < n {
         let j = cols[i] as usize;
         let at = start + j;
-        if not_cost(costs[at], row_prices[i], col_prices[j]) {
+        if not_cost(costs[at], us[i], vs[j]) {
             return i;
         }
         start += n;
@@ -129,49 +100,49 @@ fn first_row_loose(
 }
 
 // Refusals 8, 9 and 10, and the total.
-fn check_prices(
-    n: usize,
-    costs: &[i32],
-    cols: &[u32],
-    row_prices: &[i64],
-    col_prices: &[i64],
-) -> Answer
-    requires { ⌜ Listed n (now costs) n (now cols) × (n ≤ length (now «row_prices»)) × (n ≤ length (now «col_prices»)) ⌝ }
-    ensures { λ r. ⌜ r ≡ checkPrices n (now (costs .entry)) (now (cols .entry)) (now («row_prices» .entry)) (now («col_prices» .entry)) ⌝ }
+fn check_prices(n: usize, costs: &[i32], cols: &[u32], us: &[i64], vs: &[i64]) -> Answer
+    requires { ⌜ Listed n (now costs) n (now cols) × (n ≤ length (now us)) × (n ≤ length (now vs)) ⌝ }
+    ensures { λ r. ⌜ r ≡ checkPrices n (now (costs .entry)) (now (cols .entry)) (now (us .entry)) (now (vs .entry)) ⌝ }
 {
-    let dear_row = first_price_outside(n, row_prices);
+    let dear_row = matrix::first_price_outside(n, us);
     if dear_row < n {
         return Answer::Refused(Refusal::PriceOutside(dear_row));
     }
-    let dear_column = first_price_outside(n, col_prices);
+    let dear_column = matrix::first_price_outside(n, vs);
     if dear_column < n {
         return Answer::Refused(Refusal::PriceOutside(n + dear_column));
     }
-    let i = first_row_over(n, costs, row_prices, col_prices);
+    let i = first_row_over(n, costs, us, vs);
     if i < n {
         let row = matrix::row(costs, n, i);
-        let j = first_column_over(row, row_prices[i], col_prices);
+        let j = first_column_over(row, us[i], vs);
         return Answer::Refused(Refusal::PricesOverCost(i * n + j));
     }
-    let unmet = first_row_loose(n, costs, cols, row_prices, col_prices);
+    let unmet = first_row_loose(n, costs, cols, us, vs);
     if unmet < n {
         return Answer::Refused(Refusal::PricesNotCost(unmet));
     }
     Answer::Total(matrix::total(n, costs, n, cols))
 }
 
-// Refusals 6 and 7, and the rest.
-fn check_names(
-    n: usize,
-    costs: &[i32],
-    cols: &[u32],
-    rows: &[u32],
-    row_prices: &[i64],
-    col_prices: &[i64],
-) -> Answer
-    requires { ⌜ Sizes n (now costs) (now cols) (now rows) (now «row_prices») (now «col_prices») ⌝ }
-    ensures { λ r. ⌜ r ≡ checkNames n (now (costs .entry)) (now (cols .entry)) (now (rows .entry)) (now («row_prices» .entry)) (now («col_prices» .entry)) ⌝ }
+// The checker, given row prices us and column prices vs: it accepts with the total, or refuses.
+pub fn check(n: usize, costs: &[i32], cols: &[u32], rows: &[u32], us: &[i64], vs: &[i64]) -> Answer
+    ensures { λ r. ⌜ r ≡ check n (now (costs .entry)) (now (cols .entry)) (now (rows .entry)) (now (us .entry)) (now (vs .entry)) ⌝ }
 {
+    if matrix::side_over(n) {
+        return Answer::Refused(Refusal::SideOver);
+    }
+    if matrix::not_square(n, costs) {
+        return Answer::Refused(Refusal::CostsNotSquare);
+    }
+    let list = matrix::first_list_short(n, cols.len(), rows.len(), us.len(), vs.len());
+    if list < 4 {
+        return Answer::Refused(Refusal::ListLength(list + 1));
+    }
+    let k = matrix::first_cost_outside(costs);
+    if k < costs.len() {
+        return Answer::Refused(Refusal::CostOutside(k));
+    }
     let wide = matrix::first_column_outside(n, cols, n);
     if wide < n {
         return Answer::Refused(Refusal::ColumnOutside(wide));
@@ -180,41 +151,5 @@ fn check_names(
     if unnamed < n {
         return Answer::Refused(Refusal::RowNotNamed(unnamed));
     }
-    check_prices(n, costs, cols, row_prices, col_prices)
-}
-
-// The checker: accepts with the total, or refuses.
-pub fn check(
-    n: usize,
-    costs: &[i32],
-    cols: &[u32],
-    rows: &[u32],
-    row_prices: &[i64],
-    col_prices: &[i64],
-) -> Answer
-    ensures { λ r. ⌜ r ≡ check n (now (costs .entry)) (now (cols .entry)) (now (rows .entry)) (now («row_prices» .entry)) (now («col_prices» .entry)) ⌝ }
-{
-    if matrix::side_over(n) {
-        return Answer::Refused(Refusal::SideOver);
-    }
-    if matrix::not_square(n, costs) {
-        return Answer::Refused(Refusal::CostsNotSquare);
-    }
-    if cols.len() < n {
-        return Answer::Refused(Refusal::ListLength(1));
-    }
-    if rows.len() < n {
-        return Answer::Refused(Refusal::ListLength(2));
-    }
-    if row_prices.len() < n {
-        return Answer::Refused(Refusal::ListLength(3));
-    }
-    if col_prices.len() < n {
-        return Answer::Refused(Refusal::ListLength(4));
-    }
-    let k = matrix::first_cost_outside(costs);
-    if k < costs.len() {
-        return Answer::Refused(Refusal::CostOutside(k));
-    }
-    check_names(n, costs, cols, rows, row_prices, col_prices)
+    check_prices(n, costs, cols, us, vs)
 }

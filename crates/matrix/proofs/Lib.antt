@@ -1,8 +1,8 @@
 pub mod Limits
 pub mod First
-pub mod Ranges
 pub mod Refusals
 pub mod Places
 pub mod Bounds
 pub mod Codes
 pub mod Rows
+pub mod Lengths

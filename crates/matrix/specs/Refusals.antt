@@ -1,10 +1,12 @@
 -- The paper's refusals: number and place of each, and how a chain of tests answers with the first that applies.
 use mathlib.Core.Bool.{Bool, cond, _||_}
+use mathlib.Core.List.{List}
 use Prim.Native.Nat.{ℕ, _+_, _*_}
 use lib.Dec.{ltb}
 use lib.IntN.{ℤ, negℤ}
 use lib.Signed.{ltZ}
 use Rattle.lists.specs.Runs.{first}
+use Rattle.lists.specs.Permutations.{at}
 use Rattle.matrix.specs.declared.Refusal.{Refusal}
 use Rattle.matrix.specs.declared.Refusal.the-variants.{SideOver, CostsNotSquare, ListLength, RoomShort, CostOutside, ColumnOutside, RowNotNamed, PriceOutside, PricesOverCost, PricesNotCost, NoMark, EditionNotOne, SheetSideOver, DistanceNotCosts, DistancePastBytes, SlipRoomShort, SheetOver}
 
@@ -60,6 +62,10 @@ refuseIf test refusal rest = cond test refusal rest
 -- Refused at the first of n places at which the test holds; where there is none, the rest.
 unfoldable pub refuseAt : {A : Type 0} → ℕ → (ℕ → Bool) → (ℕ → A) → A → A
 refuseAt n test refusal rest = refuseIf (ltb (first n test) n) (refusal (first n test)) rest
+
+-- "output or list shorter than n": of some lists with these lengths, whether list k is, counted from 0.
+abbrev pub short : ℕ → List ℕ → ℕ → Bool
+short n lengths k = ltb (at lengths k) n
 
 -- "outside -K..K": below -limit or above limit.
 abbrev pub outside : ℤ → ℤ → Bool

@@ -2,6 +2,7 @@
 // What is promised is said in specs/.
 ghost use mathlib.Core.Path.{_≡_};
 ghost use mathlib.Core.Bool.{not};
+ghost use mathlib.Core.List.{[], _∷_};
 ghost use Prim.Native.Nat.{ℕ, _+_, _*_, _^_, _<_, _≤_};
 ghost use lib.Dec.{leb, ltb, eqb};
 ghost use lib.IntN.{pos, _+ℤ_, _-ℤ_};
@@ -11,7 +12,7 @@ ghost use Rattle.lists.specs.Runs.{first};
 ghost use Rattle.lists.specs.Permutations.{at};
 ghost use Rattle.assignment.specs.Pairings.{price};
 ghost use Rattle.matrix.specs.Limits.{side, K, near};
-ghost use Rattle.matrix.specs.Refusals.{numberOf, placeOf, codeOf, outside};
+ghost use Rattle.matrix.specs.Refusals.{numberOf, placeOf, codeOf, short, outside};
 ghost use Rattle.matrix.specs.Cost.{totalOf, cost, Listed};
 
 // The paper's refusals 1 to 17 in its order, each with its place where the paper names one.
@@ -136,6 +137,25 @@ pub fn not_square(n: usize, costs: &[i32]) -> bool
     costs.len() != n * n
 }
 
+// Refusal 3: which of four lists, whose lengths are given in the paper's order, is the first with fewer than n entries; 4 where none is.
+pub fn first_list_short(n: usize, cols: usize, rows: usize, us: usize, vs: usize) -> usize
+    ensures { λ r. ⌜ r ≡ first 4 (short n (cols ∷ rows ∷ us ∷ vs ∷ [])) ⌝ }
+{
+    if cols < n {
+        return 0;
+    }
+    if rows < n {
+        return 1;
+    }
+    if us < n {
+        return 2;
+    }
+    if vs < n {
+        return 3;
+    }
+    4
+}
+
 // Refusal 5: the first cost outside -K..K, in row order, or their number where there is none.
 pub fn first_cost_outside(costs: &[i32]) -> usize
     ensures { λ r. ⌜ r ≡ first (length (now (costs .entry))) (λ k. outside (pos K) (price (now (costs .entry)) k)) ⌝ }
@@ -158,6 +178,28 @@ pub fn first_column_outside(n: usize, cols: &[u32], count: usize) -> usize
     let mut i = 0;
     while i < count {
         if n <= cols[i] as usize {
+            return i;
+        }
+        i += 1;
+    }
+    i
+}
+
+// 10K.
+fn price_bound() -> i64
+    ensures { λ r. ⌜ r ≡ pos (10 * K) ⌝ }
+{
+    10 * bound()
+}
+
+// Refusal 8: the first of n prices outside -10K..10K, or n where there is none.
+pub fn first_price_outside(n: usize, prices: &[i64]) -> usize
+    requires { ⌜ n ≤ length (now prices) ⌝ }
+    ensures { λ r. ⌜ r ≡ first n (λ i. outside (pos (10 * K)) (price (now (prices .entry)) i)) ⌝ }
+{
+    let mut i = 0;
+    while i < n {
+        if outside(prices[i], price_bound()) {
             return i;
         }
         i += 1;

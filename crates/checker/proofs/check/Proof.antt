@@ -1,18 +1,23 @@
--- `check` answers what its definition says: refusals 1, 2, 3 and 5, then the names. Assumes nothing.
-use mathlib.Core.Path.{_≡_, sym, _∙_}
+-- `check` answers what its definition says: refusals 1, 2, 3, 5, 6 and 7, then the prices. Assumes nothing.
+use mathlib.Core.Path.{_≡_, sym, _∙_, subst}
 use mathlib.Core.Bool.{not, false}
-use Prim.Native.Nat.{_*_}
+use Prim.Native.Nat.{ℕ, _*_, _≤_, _<_}
+use native.Mathlib.Nat.{le-refl}
+use native.Mathlib.Omega.{arith}
 use borrow.Author.Needs.{needs}
-use borrow.Author.Tests.{lt-ltb, le-ltb, ltb-false, eqb-true, not-false}
-use lib.Dec.{ltb, eqb}
+use borrow.Author.Tests.{ltb-false, leb-false, eqb-true, not-false}
+use lib.Dec.{ltb, leb, eqb}
 use lib.ListN.{length}
+use Rattle.lists.specs.Permutations.{at}
 use Rattle.matrix.specs.Limits.{side}
+use Rattle.matrix.proofs.First.{nowhere}
+use Rattle.matrix.proofs.Lengths.{Long, lists-long}
 use Rattle.matrix.proofs.Refusals.{refused, passed, refused-at, passed-at}
 use Rattle.checker.specs.Check.{check}
-use Rattle.checker.specs.Fair.{Sizes}
-use Rattle.checker.proofs.Sizes.{sizes-passed}
 use Rattle.checker.proofs.check.Statement.{statement}
 use Rattle.checker.proofs.check.Tie as tie
+
+-- ---- what each test that was passed has shown
 
 side-kept : (c : tie.Else1) → ltb side (c .before .before .before .before .args .n) ≡ false
 side-kept c = sym (c .before .side-over .ensures) ∙ c .if1 .left
@@ -20,17 +25,17 @@ side-kept c = sym (c .before .side-over .ensures) ∙ c .if1 .left
 square-kept : (c : tie.Else2) → not (eqb (length (c .before .before .before .before .before .before .args .costs .now)) (c .before .before .before .before .before .before .args .n * c .before .before .before .before .before .before .args .n)) ≡ false
 square-kept c = sym (c .before .not-square .ensures) ∙ c .if2 .left
 
-sizes : (c : tie.Else6)
-    → Sizes (c .before .before .before .before .before .before .before .before .before .before .args .n) (c .before .before .before .before .before .before .before .before .before .before .args .costs .now) (c .before .before .before .before .before .before .before .before .before .before .args .cols .now) (c .before .before .before .before .before .before .before .before .before .before .args .rows .now) (c .before .before .before .before .before .before .before .before .before .before .args .row-prices .now) (c .before .before .before .before .before .before .before .before .before .before .args .col-prices .now)
-sizes c =
-    record {
-      small = ltb-false _ _ (side-kept (c .before .before .before .before .before .before));
-      squared = eqb-true _ _ (not-false _ (square-kept (c .before .before .before .before)));
-      columns-listed = c .before .before .before .if3 .left;
-      rows-listed = c .before .before .if4 .left;
-      row-prices-listed = c .before .if5 .left;
-      column-prices-listed = c .if6 .left;
-    }
+lists-kept : (c : tie.Else3)
+    → Long (c .before .before .before .before .before .before .before .before .args .n) (length (c .before .before .before .before .before .before .before .before .args .cols .now)) (length (c .before .before .before .before .before .before .before .before .args .rows .now)) (length (c .before .before .before .before .before .before .before .before .args .us .now)) (length (c .before .before .before .before .before .before .before .before .args .vs .now))
+lists-kept c = lists-long _ _ _ _ _ (subst (λ (k : ℕ). 4 ≤ k) (c .before .first-list-short .ensures) (c .if3 .left))
+
+columns-kept : (c : tie.Else5) (i : ℕ) → i < c .before .before .before .before .before .before .before .before .before .before .before .before .args .n
+    → at (c .before .before .before .before .before .before .before .before .before .before .before .before .args .cols .now) i < c .before .before .before .before .before .before .before .before .before .before .before .before .args .n
+columns-kept c i l =
+    let u = c .before .before .before .before .before .before .before .before .before .before .before .before .args in
+    leb-false (u .n) (at (u .cols .now) i) (nowhere (λ i. leb (u .n) (at (u .cols .now) i)) (u .n) (subst (λ (k : ℕ). u .n ≤ k) (c .before .first-column-outside .ensures) (c .if5 .left)) i l)
+
+-- ---- the needs
 
 side-over-requires : tie.Need-side-over-requires
 side-over-requires c κs = search needs
@@ -46,55 +51,92 @@ returns-2 : tie.Need-returns-2
 unfolding check
 returns-2 c = passed _ _ _ (side-kept (c .before .before)) (refused _ _ _ (sym (c .before .not-square .ensures) ∙ c .if2 .taken))
 
+first-list-short-requires : tie.Need-first-list-short-requires
+first-list-short-requires c κs = search needs
+
+add-t20 : tie.Need-add-t20
+add-t20 c = search needs
+
 returns-3 : tie.Need-returns-3
 unfolding check
 returns-3 c =
-    passed _ _ _ (side-kept (c .before .before .before))
-    (passed _ _ _ (square-kept (c .before))
-    (refused _ _ _ (lt-ltb _ _ (c .if3 .taken))))
-
-returns-4 : tie.Need-returns-4
-unfolding check
-returns-4 c =
     passed _ _ _ (side-kept (c .before .before .before .before))
     (passed _ _ _ (square-kept (c .before .before))
-    (passed _ _ _ (le-ltb _ _ (c .before .if3 .left))
-    (refused _ _ _ (lt-ltb _ _ (c .if4 .taken)))))
-
-returns-5 : tie.Need-returns-5
-unfolding check
-returns-5 c =
-    passed _ _ _ (side-kept (c .before .before .before .before .before))
-    (passed _ _ _ (square-kept (c .before .before .before))
-    (passed _ _ _ (le-ltb _ _ (c .before .before .if3 .left))
-    (passed _ _ _ (le-ltb _ _ (c .before .if4 .left))
-    (refused _ _ _ (lt-ltb _ _ (c .if5 .taken))))))
-
-returns-6 : tie.Need-returns-6
-unfolding check
-returns-6 c =
-    passed _ _ _ (side-kept (c .before .before .before .before .before .before))
-    (passed _ _ _ (square-kept (c .before .before .before .before))
-    (passed _ _ _ (le-ltb _ _ (c .before .before .before .if3 .left))
-    (passed _ _ _ (le-ltb _ _ (c .before .before .if4 .left))
-    (passed _ _ _ (le-ltb _ _ (c .before .if5 .left))
-    (refused _ _ _ (lt-ltb _ _ (c .if6 .taken)))))))
+    (refused-at _ _ _ _ (c .before .first-list-short .ensures) (c .if3 .taken)))
 
 first-cost-outside-requires : tie.Need-first-cost-outside-requires
 first-cost-outside-requires c κs = search needs
 
+returns-4 : tie.Need-returns-4
+unfolding check
+returns-4 c =
+    let d = c .before .before in
+    passed _ _ _ (side-kept (d .before .before .before .before))
+    (passed _ _ _ (square-kept (d .before .before))
+    (passed-at _ _ _ _ (d .before .first-list-short .ensures) (d .if3 .left)
+    (refused-at _ _ _ _ (c .before .first-cost-outside .ensures) (c .if4 .taken))))
+
+first-column-outside-requires : tie.Need-first-column-outside-requires
+first-column-outside-requires c κs = lists-kept (c .before .before) .first-long
+
+returns-5 : tie.Need-returns-5
+unfolding check
+returns-5 c =
+    let e = c .before .before in
+    let d = e .before .before in
+    passed _ _ _ (side-kept (d .before .before .before .before))
+    (passed _ _ _ (square-kept (d .before .before))
+    (passed-at _ _ _ _ (d .before .first-list-short .ensures) (d .if3 .left)
+    (passed-at _ _ _ _ (e .before .first-cost-outside .ensures) (e .if4 .left)
+    (refused-at _ _ _ _ (c .before .first-column-outside .ensures) (c .if5 .taken)))))
+
+first-row-not-named-requires : tie.Need-first-row-not-named-requires
+first-row-not-named-requires c κs =
+    let long = lists-kept (c .before .before .before .before) in
+    (long .first-long, long .second-long, columns-kept c)
+
+returns-6 : tie.Need-returns-6
+unfolding check
+returns-6 c =
+    let f = c .before .before in
+    let e = f .before .before in
+    let d = e .before .before in
+    passed _ _ _ (side-kept (d .before .before .before .before))
+    (passed _ _ _ (square-kept (d .before .before))
+    (passed-at _ _ _ _ (d .before .first-list-short .ensures) (d .if3 .left)
+    (passed-at _ _ _ _ (e .before .first-cost-outside .ensures) (e .if4 .left)
+    (passed-at _ _ _ _ (f .before .first-column-outside .ensures) (f .if5 .left)
+    (refused-at _ _ _ _ (c .before .first-row-not-named .ensures) (c .if6 .taken))))))
+
+check-prices-requires : tie.Need-check-prices-requires
+check-prices-requires c κs =
+    let d = c .before .before .before .before .before .before in
+    let long = lists-kept d in (
+      record {
+        small = ltb-false _ _ (side-kept (d .before .before .before .before));
+        squared = eqb-true _ _ (not-false _ (square-kept (d .before .before)));
+        rows = le-refl _;
+        listed = long .first-long;
+        inside = columns-kept (c .before .before);
+      },
+      long .third-long,
+      long .fourth-long,
+    )
+
 returns-7 : tie.Need-returns-7
+unfolding check
 returns-7 c =
-    sizes-passed _ _ _ _ _ _ (sizes (c .before .before)) (refused-at _ _ _ _ (c .before .first-cost-outside .ensures) (c .if7 .taken))
-
-check-names-requires : tie.Need-check-names-requires
-check-names-requires c κs = sizes (c .before .before)
-
-returns-8 : tie.Need-returns-8
-returns-8 c =
-    let d = c .before in
-    sizes-passed _ _ _ _ _ _ (sizes (d .before .before))
-    (passed-at _ _ _ _ (d .before .first-cost-outside .ensures) (d .if7 .left) (c .check-names .ensures))
+    let g = c .before in
+    let f = g .before .before in
+    let e = f .before .before in
+    let d = e .before .before in
+    passed _ _ _ (side-kept (d .before .before .before .before))
+    (passed _ _ _ (square-kept (d .before .before))
+    (passed-at _ _ _ _ (d .before .first-list-short .ensures) (d .if3 .left)
+    (passed-at _ _ _ _ (e .before .first-cost-outside .ensures) (e .if4 .left)
+    (passed-at _ _ _ _ (f .before .first-column-outside .ensures) (f .if5 .left)
+    (passed-at _ _ _ _ (g .before .first-row-not-named .ensures) (g .if6 .left)
+    (c .check-prices .ensures))))))
 
 pub check-spec : {M : Type 1} → statement M
 check-spec =
@@ -104,11 +146,14 @@ check-spec =
     returns
     not-square-requires
     returns-2
+    first-list-short-requires
+    add-t20
     returns-3
-    returns-4
-    returns-5
-    returns-6
     first-cost-outside-requires
-    returns-7
-    check-names-requires
-    returns-8)
+    returns-4
+    first-column-outside-requires
+    returns-5
+    first-row-not-named-requires
+    returns-6
+    check-prices-requires
+    returns-7)

@@ -18,7 +18,7 @@ use Rattle.matrix.proofs.Refusals.{refused-at, passed-at}
 use Rattle.matrix.proofs.Rows.{row-length}
 use Rattle.checker.specs.Check.{over, checkPrices}
 use Rattle.checker.specs.Fair.{Prices}
-use Rattle.checker.proofs.Places.{prices-within, row-first}
+use Rattle.checker.proofs.Places.{prices-kept, row-first}
 use Rattle.checker.proofs.check_prices.Statement.{statement}
 use Rattle.checker.proofs.check_prices.Tie as tie
 
@@ -41,21 +41,15 @@ returns-2 c =
     passed-at _ _ _ _ (c .before .before .before .first-price-outside .ensures) (c .before .before .if1 .left)
     (refused-at _ _ _ _ (c .before .first-price-outside2 .ensures) (c .if2 .taken))
 
-row-prices : (c : tie.Else1) → Prices (c .before .before .before .args .n) (c .before .before .before .args .row-prices .now)
+row-prices : (c : tie.Else1) → Prices (c .before .before .before .args .n) (c .before .before .before .args .us .now)
 row-prices c =
     let s = c .before .before .before in
-    record {
-      enough = s .pre .1;
-      within = prices-within (s .args .n) (s .args .row-prices .now) (subst (λ (k : ℕ). s .args .n ≤ k) (c .before .first-price-outside .ensures) (c .if1 .left));
-    }
+    prices-kept (s .args .n) (s .args .us .now) (s .pre .1) (subst (λ (k : ℕ). s .args .n ≤ k) (c .before .first-price-outside .ensures) (c .if1 .left))
 
-column-prices : (c : tie.Else2) → Prices (c .before .before .before .before .before .args .n) (c .before .before .before .before .before .args .col-prices .now)
+column-prices : (c : tie.Else2) → Prices (c .before .before .before .before .before .args .n) (c .before .before .before .before .before .args .vs .now)
 column-prices c =
     let s = c .before .before .before .before .before in
-    record {
-      enough = s .pre .2;
-      within = prices-within (s .args .n) (s .args .col-prices .now) (subst (λ (k : ℕ). s .args .n ≤ k) (c .before .first-price-outside2 .ensures) (c .if2 .left));
-    }
+    prices-kept (s .args .n) (s .args .vs .now) (s .pre .2) (subst (λ (k : ℕ). s .args .n ≤ k) (c .before .first-price-outside2 .ensures) (c .if2 .left))
 
 first-row-over-requires : tie.Need-first-row-over-requires
 first-row-over-requires c κs =
@@ -83,21 +77,20 @@ first-column-over-requires c κs =
     let us = row-prices (c .before .before .before .before .before .before) in
     let vs = column-prices (c .before .before .before .before) in
     let size = row-size (c .before) in (
-      omega (arith, vs .enough),
-      rw (read-back w64 (price (s .args .row-prices .now) i) (c .first-column-over-arg .given)) (us .within i (c .before .before .if3 .taken)),
-      λ j l. vs .within j (omega arith),
+      rw (read-back w64 (price (s .args .us .now) i) (c .first-column-over-arg .given)) (us .within i (c .before .before .if3 .taken)),
+      record { enough = omega (arith, vs .enough); within = λ j l. vs .within j (omega arith) },
     )
 
 -- what is found in row i is its first such column
 found-column : (c : tie.After-first-column-over)
-    → c .first-column-over .result ≡ first (c .before .before .before .before .before .before .before .before .before .before .args .n) (over (c .before .before .before .before .before .before .before .before .before .before .args .n) (c .before .before .before .before .before .before .before .before .before .before .args .costs .now) (c .before .before .before .before .before .before .before .before .before .before .args .row-prices .now) (c .before .before .before .before .before .before .before .before .before .before .args .col-prices .now) (c .before .before .before .before .first-row-over .result))
+    → c .first-column-over .result ≡ first (c .before .before .before .before .before .before .before .before .before .before .args .n) (over (c .before .before .before .before .before .before .before .before .before .before .args .n) (c .before .before .before .before .before .before .before .before .before .before .args .costs .now) (c .before .before .before .before .before .before .before .before .before .before .args .us .now) (c .before .before .before .before .before .before .before .before .before .before .args .vs .now) (c .before .before .before .before .first-row-over .result))
 found-column c =
     let s = c .before .before .before .before .before .before .before .before .before .before in
     let u = s .args in
     let i = c .before .before .before .before .first-row-over .result in
     let part = c .before .before .row in
     c .first-column-over .ensures
-    ∙ row-first (u .n) (u .costs .now) (u .row-prices .now) (u .col-prices .now) i (c .before .before .before .if3 .taken) (s .pre .0 .squared) (part .result .now) (part .ensures) _ (read-back w64 (price (u .row-prices .now) i) (c .before .first-column-over-arg .given))
+    ∙ row-first (u .n) (u .costs .now) (u .us .now) (u .vs .now) i (c .before .before .before .if3 .taken) (s .pre .0 .squared) (part .result .now) (part .ensures) _ (read-back w64 (price (u .us .now) i) (c .before .first-column-over-arg .given))
 
 -- a place fits: both its row and what is found in it are at most n, and n is small
 place-small : (c : tie.After-first-column-over)
@@ -107,7 +100,7 @@ place-small c =
     let e = found-column c in
     let i : c .before .before .before .before .first-row-over .result ≤ 2 ^ 16 = omega (arith, c .before .before .before .if3 .taken, s .pre .0 .small, side-small) in
     let n : s .args .n ≤ 2 ^ 16 = omega (arith, s .pre .0 .small, side-small) in
-    omega (arith, mul-le-mul i n, first-le (over (s .args .n) (s .args .costs .now) (s .args .row-prices .now) (s .args .col-prices .now) (c .before .before .before .before .first-row-over .result)) (s .args .n))
+    omega (arith, mul-le-mul i n, first-le (over (s .args .n) (s .args .costs .now) (s .args .us .now) (s .args .vs .now) (c .before .before .before .before .first-row-over .result)) (s .args .n))
 
 mul-t16 : tie.Need-mul-t16
 mul-t16 c = omega (arith, place-small c)

@@ -11,25 +11,25 @@ use mir.Val.{toZ, ofZ}
 use mir.Facts.{toZ-ofZ}
 use Rattle.ints.proofs.Bits.{read-back}
 use Rattle.lists.specs.Runs.{first}
-use Rattle.assignment.specs.Pairings as pairings
+use Rattle.assignment.specs.Pairings.{price}
 use Rattle.matrix.proofs.First.{Clear, clear-start, clear-more, found, ended}
-use Rattle.checker.specs.Check.{overAt}
+use Rattle.checker.proofs.Places.{overAt}
 use Rattle.checker.proofs.first_column_over.Statement.{statement}
 use Rattle.checker.proofs.first_column_over.Tie as tie
 
 abbrev Inv-loop : tie.InvT-loop
-Inv-loop row price prices j₀ j = (j ≤ length row) × Clear (overAt row (toZ w64 price) prices) j
+Inv-loop row u vs j₀ j = (j ≤ length row) × Clear (overAt row (toZ w64 u) vs) j
 
 abbrev μ-loop : tie.MeasureT-loop
-μ-loop row price prices j₀ j = length row - j
+μ-loop row u vs j₀ j = length row - j
 
 -- the row's price, as the code holds it, and what is found with it
 abbrev held : tie.Start Inv-loop μ-loop → ℤ
-held s = toZ w64 (ofZ w64 (s .args .price))
+held s = toZ w64 (ofZ w64 (s .args .u))
 
 same : (s : tie.Start Inv-loop μ-loop)
-    → first (length (s .args .row .now)) (overAt (s .args .row .now) (held s) (s .args .prices .now)) ≡ first (length (s .args .row .now)) (overAt (s .args .row .now) (s .args .price) (s .args .prices .now))
-same s = ap (λ (z : ℤ). first (length (s .args .row .now)) (overAt (s .args .row .now) z (s .args .prices .now))) (toZ-ofZ (s .fits .price))
+    → first (length (s .args .row .now)) (overAt (s .args .row .now) (held s) (s .args .vs .now)) ≡ first (length (s .args .row .now)) (overAt (s .args .row .now) (s .args .u) (s .args .vs .now))
+same s = ap (λ (z : ℤ). first (length (s .args .row .now)) (overAt (s .args .row .now) z (s .args .vs .now))) (toZ-ofZ (s .fits .u))
 
 loop-holds : tie.Need-loop-holds Inv-loop μ-loop
 loop-holds c = (omega arith, clear-start _)
@@ -50,26 +50,26 @@ over-cost-requires : tie.Need-over-cost-requires Inv-loop μ-loop
 over-cost-requires c κs =
     let s = c .before .before .before .before in
     let j = c .before .before .before .loop .j in (
-      rw (toZ-ofZ (s .fits .price)) (s .pre .1),
-      rw (read-back w64 (pairings.price (s .args .prices .now) j) (c .over-cost-arg2 .given)) (s .pre .2 j (omega arith)),
+      rw (toZ-ofZ (s .fits .u)) (s .pre .0),
+      rw (read-back w64 (price (s .args .vs .now) j) (c .over-cost-arg2 .given)) (s .pre .1 .within j (omega arith)),
     )
 
 -- what the call answers is the test at j
 tested : (c : tie.After-over-cost Inv-loop μ-loop)
-    → c .over-cost .result ≡ overAt (c .before .before .before .before .before .args .row .now) (held (c .before .before .before .before .before)) (c .before .before .before .before .before .args .prices .now) (c .before .before .before .before .loop .j)
+    → c .over-cost .result ≡ overAt (c .before .before .before .before .before .args .row .now) (held (c .before .before .before .before .before)) (c .before .before .before .before .before .args .vs .now) (c .before .before .before .before .loop .j)
 tested c =
     let s = c .before .before .before .before .before in
     let j = c .before .before .before .before .loop .j in
     c .over-cost .ensures
-    ∙ ap₂ ltZ (read-back w32 (pairings.price (s .args .row .now) j) (c .before .before .over-cost-arg .given))
-    (ap (λ (z : ℤ). held s +ℤ z) (read-back w64 (pairings.price (s .args .prices .now) j) (c .before .over-cost-arg2 .given)))
+    ∙ ap₂ ltZ (read-back w32 (price (s .args .row .now) j) (c .before .before .over-cost-arg .given))
+    (ap (λ (z : ℤ). held s +ℤ z) (read-back w64 (price (s .args .vs .now) j) (c .before .over-cost-arg2 .given)))
 
 returns : tie.Need-returns Inv-loop μ-loop
 returns c =
     let s = c .before .before .before .before .before .before in
     let u = s .args in
     let l = c .before .before .before .before .before .loop in
-    found (overAt (u .row .now) (held s) (u .prices .now)) (length (u .row .now)) (l .j) (omega arith) (l .inv .1) (sym (tested (c .before)) ∙ c .if1 .taken)
+    found (overAt (u .row .now) (held s) (u .vs .now)) (length (u .row .now)) (l .j) (omega arith) (l .inv .1) (sym (tested (c .before)) ∙ c .if1 .taken)
     ∙ same s
 
 add-j : tie.Need-add-j Inv-loop μ-loop
@@ -83,14 +83,14 @@ loop-again c =
     let s = c .before .before .before .before .before .before in
     let u = s .args in
     let l = c .before .before .before .before .before .loop in
-    (omega arith, clear-more (overAt (u .row .now) (held s) (u .prices .now)) (l .j) (l .inv .1) (sym (tested (c .before)) ∙ c .if1 .left))
+    (omega arith, clear-more (overAt (u .row .now) (held s) (u .vs .now)) (l .j) (l .inv .1) (sym (tested (c .before)) ∙ c .if1 .left))
 
 returns-2 : tie.Need-returns-2 Inv-loop μ-loop
 returns-2 c =
     let s = c .before .before in
     let u = s .args in
     let l = c .before .loop in
-    ended (overAt (u .row .now) (held s) (u .prices .now)) (length (u .row .now)) (l .j) (omega arith) (l .inv .1) ∙ same s
+    ended (overAt (u .row .now) (held s) (u .vs .now)) (length (u .row .now)) (l .j) (omega arith) (l .inv .1) ∙ same s
 
 pub first-column-over-spec : {M : Type 1} → statement M
 first-column-over-spec =

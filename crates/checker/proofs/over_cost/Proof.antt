@@ -11,12 +11,12 @@ cast-result : tie.Need-cast-result
 cast-result c = wide-fits (c .args .cost) (c .fits .cost .sfits)
 
 add-result : tie.Need-add-result
-add-result c = read-fits (c .args .row) (c .args .column) (c .fits .row) (c .fits .column) (c .pre .0) (c .pre .1)
+add-result c = read-fits (c .args .u) (c .args .v) (c .fits .u) (c .fits .v) (c .pre .0) (c .pre .1)
 
 returns : tie.Need-returns
 returns c =
     ap₂ ltZ (read-wide (c .args .cost) (c .fits .cost .sfits))
-    (toZ-ofZ (add-result c) ∙ sum-read (c .args .row) (c .args .column) (c .fits .row) (c .fits .column) (c .pre .0) (c .pre .1))
+    (toZ-ofZ (add-result c) ∙ sum-read (c .args .u) (c .args .v) (c .fits .u) (c .fits .v) (c .pre .0) (c .pre .1))
 
 pub over-cost-spec : {M : Type 1} → statement M
 over-cost-spec = tie.close (tie.spec cast-result add-result returns)

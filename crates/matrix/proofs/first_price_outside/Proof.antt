@@ -9,12 +9,12 @@ use lib.IntN.{ℤ, pos}
 use mir.Syntax.{w64}
 use Rattle.ints.proofs.Bits.{read-back}
 use Rattle.assignment.specs.Pairings.{price}
 use Rattle.matrix.specs.Limits.{K}
 use Rattle.matrix.specs.Refusals.{outside}
 use Rattle.matrix.proofs.Limits.{K-small}
 use Rattle.matrix.proofs.First.{Clear, clear-start, clear-more, found, ended}
-use Rattle.checker.proofs.first_price_outside.Statement.{statement}
-use Rattle.checker.proofs.first_price_outside.Tie as tie
+use Rattle.matrix.proofs.first_price_outside.Statement.{statement}
+use Rattle.matrix.proofs.first_price_outside.Tie as tie
 
 abbrev test : List ℤ → ℕ → Bool
 test prices i = outside (pos (10 * K)) (price prices i)

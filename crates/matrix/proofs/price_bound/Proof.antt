@@ -8,11 +8,11 @@ use mir.Val.{SFits, toZ, ofZ}
 use mir.Facts.{toZ-ofZ}
 use Rattle.ints.proofs.Ranges.{zarith}
 use Rattle.ints.proofs.Bits.{read-back}
 use Rattle.matrix.specs.Limits.{K}
 use Rattle.matrix.proofs.Limits.{K-small}
 use borrow.Author.Needs.{needs}
-use Rattle.checker.proofs.price_bound.Statement.{statement}
-use Rattle.checker.proofs.price_bound.Tie as tie
+use Rattle.matrix.proofs.price_bound.Statement.{statement}
+use Rattle.matrix.proofs.price_bound.Tie as tie
 
 bound-requires : tie.Need-bound-requires
 bound-requires c κs = search needs
