@@ -1,2 +1,5 @@
 pub mod Places
+pub mod Accepted
+pub mod Least
+pub mod Determined
 pub mod Nights

@@ -1,7 +1,6 @@
 -- Nights N9 and N10, and small inputs that are refused, by computation over the definition. Assumes nothing.
 use mathlib.Core.Path.{_≡_, refl}
 use mathlib.Core.List.{List, [], _∷_}
-use Prim.Native.Nat.{ℕ}
 use lib.IntN.{ℤ, pos, negsuc}
 use Rattle.lists.specs.Runs.{turns, upward, first}
 use Rattle.lists.specs.Sums.{sum}

@@ -6,3 +6,4 @@ pub mod Bounds
 pub mod Codes
 pub mod Rows
 pub mod Lengths
+pub mod Determined

@@ -1,6 +1,6 @@
 -- `not_cost` answers whether the prices of a place are not its cost, and their sum does not wrap. Assumes nothing.
 use mathlib.Core.Path.{ap₂, _∙_}
-use mir.Syntax.{w32, w64}
+use mir.Syntax.{w64}
 use mir.Facts.{toZ-ofZ}
 use Rattle.ints.proofs.Bits.{wide-fits}
 use Rattle.checker.specs.Check.{differ}

@@ -1,0 +1,11 @@
+-- The checker's promise determines its answer: two answers that meet it are equal. Nothing is lent to be written. Assumes nothing.
+use mathlib.Core.Path.{_≡_, sym, _∙_}
+use mathlib.Core.List.{List}
+use Prim.Native.Nat.{ℕ}
+use lib.IntN.{ℤ}
+use Rattle.matrix.specs.declared.Answer.{Answer}
+use Rattle.checker.specs.Check.{check}
+
+pub check-determined : (n : ℕ) (costs : List ℤ) (cols rows : List ℕ) (us vs : List ℤ) (answer other : Answer)
+    → answer ≡ check n costs cols rows us vs → other ≡ check n costs cols rows us vs → answer ≡ other
+check-determined n costs cols rows us vs answer other e f = e ∙ sym f
