@@ -1,13 +1,13 @@
 -- What every stage keeps: pairs that agree, fair prices that never rise from the column minima, free columns untouched, and bounds; and the free
 -- rows, listed once each. One step of rules 3 and 4 keeps it. Assumes nothing.
 use mathlib.Core.Path.{_≡_, sym, ap, _∙_, subst}
-use mathlib.Core.Logic.{_≢_, _⊎_, inl, inr, ⊎-elim}
+use mathlib.Core.Logic.{_≢_, _⊎_, ⊎-elim}
 use mathlib.Core.List.{List}
 use Prim.Native.Nat.{ℕ, _*_, _≤_, _<_}
 use native.Mathlib.Omega.{arith}
 use lib.IntN.{ℤ, pos, _-ℤ_}
 use lib.Signed.{_≤ℤ_}
-use lib.ListN.{length, set, length-set, List·getD-eq-default}
+use lib.ListN.{length, set, length-set}
 use lib.Seq.{getD-set-same, getD-set-other}
 use Rattle.ints.specs.Parts.{Within}
 use Rattle.ints.proofs.Shapes.{zlin}
@@ -15,8 +15,8 @@ use Rattle.lists.specs.Permutations.{at}
 use Rattle.assignment.specs.Pairings.{price}
 use Rattle.rules.specs.Lowest.{reduced}
 use Rattle.rules.specs.Columns.{Pairs}
-use Rattle.rules.proofs.Cases.{lt-or-le}
 use Rattle.rules.proofs.Prices.{NotBelow, Fair, all-near}
+use Rattle.rules.proofs.Sizes.{within-everywhere}
 use Rattle.rules.proofs.Pairs.{Agree, Paired, Unpaired}
 use Rattle.rules.proofs.Lowering.{Lowers, Put, Bounds, lowers-fair, never-rises, lowers-bounds, bounds-low}
 
@@ -45,10 +45,8 @@ module _ (n : ℕ) (cost : ℕ → ℕ → ℤ) (K : ℕ) (costs : (i j : ℕ) �
 
     -- No sum on the way leaves 64 bits. Past the end of the list the price is 0.
     pub within-five : ((k : ℕ) → Within K (first k)) → (k : ℕ) → Within (5 * K) (price v k)
-    within-five w k = elim (lt-or-le k n) [
-      | inl l ↦ record { low = bounds-low n cost K costs (price v) (h .bounds) k l .low; high = omega (zlin, h .not-risen k l, w k .high) }
-      | inr l ↦ rw (List·getD-eq-default v (pos 0) {n = k} (omega (arith, h .prices-size))) (record { low = omega arith; high = omega arith })
-    ]
+    within-five w = within-everywhere (5 * K) v (λ k b. let l : k < n = omega (arith, h .prices-size) in
+        record { low = bounds-low n cost K costs (price v) (h .bounds) k l .low; high = omega (zlin, h .not-risen k l, w k .high) })
 
     -- Where a column is at -K or more, all are at -3K or more.
     pub three : (f : ℕ) → f < n → NotBelow K (price v f) → (k : ℕ) → k < n → NotBelow (3 * K) (price v k)

@@ -1,8 +1,11 @@
 -- How large the numbers are that the code forms, for costs within K and prices within B: each sum stays within a small multiple of K + B, far within
 -- 64 bits. Assumes nothing.
+use mathlib.Core.Logic.{inl, inr}
 use mathlib.Core.List.{List}
 use Prim.Native.Nat.{ℕ, _+_, _*_, _^_, _<_}
-use lib.IntN.{ℤ, _+ℤ_, _-ℤ_}
+use native.Mathlib.Omega.{arith}
+use lib.IntN.{ℤ, pos, _+ℤ_, _-ℤ_}
+use lib.ListN.{length, List·getD-eq-default}
 use mir.Syntax.{w64}
 use mir.Val.{SFits}
 use Rattle.ints.specs.Parts.{Within}
@@ -12,10 +15,18 @@ use Rattle.lists.specs.Permutations.{at}
 use Rattle.lists.proofs.Sums.{sum-within}
 use Rattle.assignment.specs.Pairings.{square, price, total}
 use Rattle.rules.specs.Lowest.{reduced}
+use Rattle.rules.proofs.Cases.{lt-or-le}
 
 -- What lies within a bound below 2^63 is a signed 64-bit number.
 pub within-fits : (B : ℕ) (z : ℤ) → B < 2 ^ 63 → Within B z → SFits w64 z
 within-fits B z h w = omega (zlin, w)
+
+-- Past the end of a list of costs or prices stands 0, which lies within any bound.
+pub within-everywhere : (K : ℕ) (l : List ℤ) → ((k : ℕ) → k < length l → Within K (price l k)) → (k : ℕ) → Within K (price l k)
+within-everywhere K l h k = elim (lt-or-le k (length l)) [
+  | inl a ↦ h k a
+  | inr a ↦ rw (List·getD-eq-default l (pos 0) {n = k} a) (record { low = omega arith; high = omega arith })
+]
 
 module _ (K B : ℕ) where
   -- A reduced cost: cost minus price.
