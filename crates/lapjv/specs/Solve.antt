@@ -1,14 +1,14 @@
 -- The solver: what it answers, and what a caller finds in the six lent lists, for every input.
 -- "Solver: 1, 2, 3, 4, 5."
 use mathlib.Core.Bool.{not}
-use mathlib.Core.List.{List, _++_}
-use Prim.Native.Nat.{ℕ, _*_}
+use mathlib.Core.List.{List, [], _∷_, _++_}
+use Prim.Native.Nat.{ℕ, _+_, _*_}
 use lib.Dec.{ltb, eqb}
 use lib.IntN.{ℤ, pos}
 use lib.ListN.{length, drop, replicate}
 use Rattle.assignment.specs.Pairings.{price}
 use Rattle.matrix.specs.Limits.{side, K}
-use Rattle.matrix.specs.Refusals.{refuseIf, refuseAt, outside}
+use Rattle.matrix.specs.Refusals.{refuseIf, refuseAt, short, outside}
 use Rattle.matrix.specs.declared.Refusal.{Refusal}
 use Rattle.matrix.specs.declared.Refusal.the-variants.{SideOver, CostsNotSquare, ListLength, RoomShort, CostOutside}
 use Rattle.rules.specs.Run.{Answer, run}
@@ -32,14 +32,11 @@ unfoldable pub tests : {A : Type 0} → ℕ → List ℤ → Lent → (Refusal �
 tests n costs lent refuse rest =
     refuseIf (ltb side n) (refuse SideOver)
     (refuseIf (not (eqb (length costs) (n * n))) (refuse CostsNotSquare)
-    (refuseIf (ltb (length (lent .cols)) n) (refuse (ListLength 1))
-    (refuseIf (ltb (length (lent .rows)) n) (refuse (ListLength 2))
-    (refuseIf (ltb (length (lent .rowPrices)) n) (refuse (ListLength 3))
-    (refuseIf (ltb (length (lent .columnPrices)) n) (refuse (ListLength 4))
+    (refuseAt 4 (short n (length (lent .cols) ∷ length (lent .rows) ∷ length (lent .rowPrices) ∷ length (lent .columnPrices) ∷ [])) (λ k. refuse (ListLength (k + 1)))
     (refuseIf (ltb (length (lent .indices)) (4 * n)) (refuse (RoomShort 1))
     (refuseIf (ltb (length (lent .numbers)) n) (refuse (RoomShort 2))
     (refuseAt (length costs) (λ k. outside (pos K) (price costs k)) (λ k. refuse (CostOutside k))
-    rest))))))))
+    rest)))))
 
 -- What a caller gets and finds.
 pub record Outcome : Type 0 where

@@ -47,17 +47,15 @@ fn tested(
     if matrix::not_square(n, costs) {
         return Verdict::Fails(Refusal::CostsNotSquare);
     }
-    if cols.len() < n {
-        return Verdict::Fails(Refusal::ListLength(1));
-    }
-    if rows.len() < n {
-        return Verdict::Fails(Refusal::ListLength(2));
-    }
-    if row_prices.len() < n {
-        return Verdict::Fails(Refusal::ListLength(3));
-    }
-    if col_prices.len() < n {
-        return Verdict::Fails(Refusal::ListLength(4));
+    let list = matrix::first_list_short(
+        n,
+        cols.len(),
+        rows.len(),
+        row_prices.len(),
+        col_prices.len(),
+    );
+    if list < 4 {
+        return Verdict::Fails(Refusal::ListLength(list + 1));
     }
     if indices.len() < 4 * n {
         return Verdict::Fails(Refusal::RoomShort(1));

@@ -34,96 +34,63 @@ returns-2 : tie.Need-returns-2
 unfolding tests
 returns-2 c = passed _ _ _ (side-kept (c .before .before)) (refused _ _ _ (sym (c .before .not-square .ensures) ∙ c .if2 .taken))
 
+first-list-short-requires : tie.Need-first-list-short-requires
+first-list-short-requires c κs = search needs
+
+add-t20 : tie.Need-add-t20
+add-t20 c = search needs
+
 returns-3 : tie.Need-returns-3
 unfolding tests
 returns-3 c =
-    passed _ _ _ (side-kept (c .before .before .before))
-    (passed _ _ _ (square-kept (c .before))
-    (refused _ _ _ (lt-ltb _ _ (c .if3 .taken))))
+    passed _ _ _ (side-kept (c .before .before .before .before))
+    (passed _ _ _ (square-kept (c .before .before))
+    (refused-at _ _ _ _ (c .before .first-list-short .ensures) (c .if3 .taken)))
+
+mul-if4 : tie.Need-mul-if4
+mul-if4 c =
+    let e = c .before .before .before .before in
+    omega (arith, ltb-false side (e .before .before .before .before .before .args .n) (side-kept e), side-small)
 
 returns-4 : tie.Need-returns-4
 unfolding tests
 returns-4 c =
-    passed _ _ _ (side-kept (c .before .before .before .before))
-    (passed _ _ _ (square-kept (c .before .before))
-    (passed _ _ _ (le-ltb _ _ (c .before .if3 .left))
+    passed _ _ _ (side-kept (c .before .before .before .before .before))
+    (passed _ _ _ (square-kept (c .before .before .before))
+    (passed-at _ _ _ _ (c .before .before .first-list-short .ensures) (c .before .if3 .left)
     (refused _ _ _ (lt-ltb _ _ (c .if4 .taken)))))
 
 returns-5 : tie.Need-returns-5
 unfolding tests
 returns-5 c =
-    passed _ _ _ (side-kept (c .before .before .before .before .before))
-    (passed _ _ _ (square-kept (c .before .before .before))
-    (passed _ _ _ (le-ltb _ _ (c .before .before .if3 .left))
-    (passed _ _ _ (le-ltb _ _ (c .before .if4 .left))
-    (refused _ _ _ (lt-ltb _ _ (c .if5 .taken))))))
-
-returns-6 : tie.Need-returns-6
-unfolding tests
-returns-6 c =
     passed _ _ _ (side-kept (c .before .before .before .before .before .before))
     (passed _ _ _ (square-kept (c .before .before .before .before))
-    (passed _ _ _ (le-ltb _ _ (c .before .before .before .if3 .left))
-    (passed _ _ _ (le-ltb _ _ (c .before .before .if4 .left))
-    (passed _ _ _ (le-ltb _ _ (c .before .if5 .left))
-    (refused _ _ _ (lt-ltb _ _ (c .if6 .taken)))))))
-
-mul-if7 : tie.Need-mul-if7
-mul-if7 c =
-    let e = c .before .before .before .before .before .before in
-    omega (arith, ltb-false side (e .before .before .before .before .before .args .n) (side-kept e), side-small)
-
-returns-7 : tie.Need-returns-7
-unfolding tests
-returns-7 c =
-    passed _ _ _ (side-kept (c .before .before .before .before .before .before .before))
-    (passed _ _ _ (square-kept (c .before .before .before .before .before))
-    (passed _ _ _ (le-ltb _ _ (c .before .before .before .before .if3 .left))
-    (passed _ _ _ (le-ltb _ _ (c .before .before .before .if4 .left))
-    (passed _ _ _ (le-ltb _ _ (c .before .before .if5 .left))
-    (passed _ _ _ (le-ltb _ _ (c .before .if6 .left))
-    (refused _ _ _ (lt-ltb _ _ (c .if7 .taken))))))))
-
-returns-8 : tie.Need-returns-8
-unfolding tests
-returns-8 c =
-    passed _ _ _ (side-kept (c .before .before .before .before .before .before .before .before))
-    (passed _ _ _ (square-kept (c .before .before .before .before .before .before))
-    (passed _ _ _ (le-ltb _ _ (c .before .before .before .before .before .if3 .left))
-    (passed _ _ _ (le-ltb _ _ (c .before .before .before .before .if4 .left))
-    (passed _ _ _ (le-ltb _ _ (c .before .before .before .if5 .left))
-    (passed _ _ _ (le-ltb _ _ (c .before .before .if6 .left))
-    (passed _ _ _ (le-ltb _ _ (c .before .if7 .left))
-    (refused _ _ _ (lt-ltb _ _ (c .if8 .taken)))))))))
+    (passed-at _ _ _ _ (c .before .before .before .first-list-short .ensures) (c .before .before .if3 .left)
+    (passed _ _ _ (le-ltb _ _ (c .before .if4 .left))
+    (refused _ _ _ (lt-ltb _ _ (c .if5 .taken))))))
 
 first-cost-outside-requires : tie.Need-first-cost-outside-requires
 first-cost-outside-requires c κs = search needs
 
-returns-9 : tie.Need-returns-9
+returns-6 : tie.Need-returns-6
 unfolding tests
-returns-9 c =
-    passed _ _ _ (side-kept (c .before .before .before .before .before .before .before .before .before .before))
-    (passed _ _ _ (square-kept (c .before .before .before .before .before .before .before .before))
-    (passed _ _ _ (le-ltb _ _ (c .before .before .before .before .before .before .before .if3 .left))
-    (passed _ _ _ (le-ltb _ _ (c .before .before .before .before .before .before .if4 .left))
-    (passed _ _ _ (le-ltb _ _ (c .before .before .before .before .before .if5 .left))
-    (passed _ _ _ (le-ltb _ _ (c .before .before .before .before .if6 .left))
-    (passed _ _ _ (le-ltb _ _ (c .before .before .before .if7 .left))
-    (passed _ _ _ (le-ltb _ _ (c .before .before .if8 .left))
-    (refused-at _ _ _ _ (c .before .first-cost-outside .ensures) (c .if9 .taken)))))))))
+returns-6 c =
+    passed _ _ _ (side-kept (c .before .before .before .before .before .before .before .before))
+    (passed _ _ _ (square-kept (c .before .before .before .before .before .before))
+    (passed-at _ _ _ _ (c .before .before .before .before .before .first-list-short .ensures) (c .before .before .before .before .if3 .left)
+    (passed _ _ _ (le-ltb _ _ (c .before .before .before .if4 .left))
+    (passed _ _ _ (le-ltb _ _ (c .before .before .if5 .left))
+    (refused-at _ _ _ _ (c .before .first-cost-outside .ensures) (c .if6 .taken))))))
 
-returns-10 : tie.Need-returns-10
+returns-7 : tie.Need-returns-7
 unfolding tests
-returns-10 c =
-    passed _ _ _ (side-kept (c .before .before .before .before .before .before .before .before .before .before))
-    (passed _ _ _ (square-kept (c .before .before .before .before .before .before .before .before))
-    (passed _ _ _ (le-ltb _ _ (c .before .before .before .before .before .before .before .if3 .left))
-    (passed _ _ _ (le-ltb _ _ (c .before .before .before .before .before .before .if4 .left))
-    (passed _ _ _ (le-ltb _ _ (c .before .before .before .before .before .if5 .left))
-    (passed _ _ _ (le-ltb _ _ (c .before .before .before .before .if6 .left))
-    (passed _ _ _ (le-ltb _ _ (c .before .before .before .if7 .left))
-    (passed _ _ _ (le-ltb _ _ (c .before .before .if8 .left))
-    (passed-at _ _ _ _ (c .before .first-cost-outside .ensures) (c .if9 .left) refl))))))))
+returns-7 c =
+    passed _ _ _ (side-kept (c .before .before .before .before .before .before .before .before))
+    (passed _ _ _ (square-kept (c .before .before .before .before .before .before))
+    (passed-at _ _ _ _ (c .before .before .before .before .before .first-list-short .ensures) (c .before .before .before .before .if3 .left)
+    (passed _ _ _ (le-ltb _ _ (c .before .before .before .if4 .left))
+    (passed _ _ _ (le-ltb _ _ (c .before .before .if5 .left))
+    (passed-at _ _ _ _ (c .before .first-cost-outside .ensures) (c .if6 .left) refl)))))
 
 pub tested-spec : {M : Type 1} → statement M
 tested-spec =
@@ -133,13 +100,12 @@ tested-spec =
     returns
     not-square-requires
     returns-2
+    first-list-short-requires
+    add-t20
     returns-3
+    mul-if4
     returns-4
     returns-5
-    returns-6
-    mul-if7
-    returns-7
-    returns-8
     first-cost-outside-requires
-    returns-9
-    returns-10)
+    returns-6
+    returns-7)
