@@ -1,8 +1,8 @@
 -- A chain of tests: what it answers where a test holds, and where it does not. Assumes nothing.
-use mathlib.Core.Path.{_≡_, ap, _∙_, subst}
+use mathlib.Core.Path.{_≡_, refl, ap, _∙_, subst}
 use mathlib.Core.Bool.{Bool, true, false}
 use Prim.Native.Nat.{ℕ, _≤_, _<_}
-use borrow.Author.Tests.{lt-ltb, le-ltb}
+use borrow.Author.Tests.{lt-ltb, le-ltb, ltb-true}
 use Rattle.lists.specs.Runs.{first}
 use Rattle.matrix.specs.Refusals.{refuseIf, refuseAt}
 
@@ -26,3 +26,15 @@ module _ {A : Type 0} where
     pub passed-at : {answer : A} → n ≤ k → answer ≡ rest → answer ≡ refuseAt n test refusal rest
     unfolding refuseAt
     passed-at l f = passed _ (refusal (first n test)) rest (le-ltb (first n test) n (subst (λ (i : ℕ). n ≤ i) e l)) f
+
+  -- What holds of every refusal, where its test holds, and of the rest, where it does not, holds of the answer.
+  pub refuseIf-all : (P : A → Type 0) (test : Bool) (refusal rest : A) → (test ≡ true → P refusal) → (test ≡ false → P rest) → P (refuseIf test refusal rest)
+  unfolding refuseIf
+  refuseIf-all P true refusal rest f g = f refl
+  refuseIf-all P false refusal rest f g = g refl
+
+  pub refuseAt-all : (P : A → Type 0) (n : ℕ) (test : ℕ → Bool) (refusal : ℕ → A) (rest : A) → ((k : ℕ) → k < n → P (refusal k)) → P rest
+      → P (refuseAt n test refusal rest)
+  unfolding refuseAt
+  refuseAt-all P n test refusal rest f p =
+      refuseIf-all P _ (refusal (first n test)) rest (λ e. f (first n test) (ltb-true (first n test) n e)) (λ e. p)

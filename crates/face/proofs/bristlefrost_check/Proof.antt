@@ -1,0 +1,22 @@
+-- `bristlefrost_check` answers what the entry answers, told. Assumes nothing.
+use mathlib.Core.Path.{sym, ap, _∙_, subst}
+use borrow.Author.Needs.{needs}
+use Rattle.matrix.proofs.Codes.{PlaceSmall}
+use Rattle.checker.proofs.Codes.{check-places}
+use Rattle.face.specs.Face.{totalled}
+use Rattle.face.proofs.bristlefrost_check.Statement.{statement}
+use Rattle.face.proofs.bristlefrost_check.Tie as tie
+
+check-requires : tie.Need-check-requires
+check-requires c κs = search needs
+
+told-requires : tie.Need-told-requires
+told-requires c κs =
+    let u = c .before .before .before .args in
+    subst PlaceSmall (sym (c .check .ensures)) (check-places (u .n) (u .costs .now) (u .cols .now) (u .rows .now) (u .row-prices .now) (u .col-prices .now))
+
+returns : tie.Need-returns
+returns c = c .told .ensures ∙ ap totalled (c .before .check .ensures)
+
+pub bristlefrost-check-spec : {M : Type 1} → statement M
+bristlefrost-check-spec = tie.close (tie.spec check-requires told-requires returns)
