@@ -1,0 +1,37 @@
+-- The runs of rule 1 and of the least values of rule 3, turn by turn, as code goes through them. Assumes nothing.
+use mathlib.Core.Path.{_≡_, ap, _∙_}
+use mathlib.Core.Bool.{cond}
+use Prim.Native.Nat.{ℕ, suc, _+_, _≤_}
+use native.Mathlib.Omega.{arith}
+use native.Mathlib.Numerals.{add-one}
+use lib.Dec.{eqb}
+use lib.IntN.{ℤ}
+use Rattle.lists.proofs.Runs.{upward-none, upward-last}
+use Rattle.rules.specs.declared.TwoLowest.the-variants.{One}
+use Rattle.rules.specs.declared.Least.the-variants.{NoneYet}
+use Rattle.rules.specs.Lowest.{low, twoStep, twoLowest, lower, lowest, least, leastBut}
+
+module _ (f : ℕ → ℤ) where
+  pub twoLowest-one : twoLowest 1 f ≡ One (low (f 0) 0)
+  unfolding twoLowest
+  twoLowest-one = upward-none 1 1 (λ j found. twoStep found (low (f j) j)) (One (low (f 0) 0)) (omega arith)
+
+  pub twoLowest-more : (j : ℕ) → 1 ≤ j → twoLowest (j + 1) f ≡ twoStep (twoLowest j f) (low (f j) j)
+  unfolding twoLowest
+  twoLowest-more j h = rw add-one (upward-last 1 j (λ j found. twoStep found (low (f j) j)) (One (low (f 0) 0)) h)
+
+  pub lowest-one : lowest 1 f ≡ low (f 0) 0
+  unfolding lowest
+  lowest-one = upward-none 1 1 (λ i found. lower found (low (f i) i)) (low (f 0) 0) (omega arith)
+
+  pub lowest-more : (i : ℕ) → 1 ≤ i → lowest (i + 1) f ≡ lower (lowest i f) (low (f i) i)
+  unfolding lowest
+  lowest-more i h = rw add-one (upward-last 1 i (λ i found. lower found (low (f i) i)) (low (f 0) 0) h)
+
+  pub leastBut-none : (j : ℕ) → leastBut 0 f j ≡ NoneYet
+  unfolding leastBut
+  leastBut-none j = upward-none 0 0 (λ k found. cond (eqb k j) found (least found (f k))) NoneYet (omega arith)
+
+  pub leastBut-more : (j k : ℕ) → leastBut (k + 1) f j ≡ cond (eqb k j) (leastBut k f j) (least (leastBut k f j) (f k))
+  unfolding leastBut
+  leastBut-more j k = rw add-one (upward-last 0 k (λ k found. cond (eqb k j) found (least found (f k))) NoneYet (omega arith))

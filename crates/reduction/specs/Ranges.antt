@@ -1,0 +1,22 @@
+-- How large numbers may be: a price lies so near to 0 that no sum or difference of a few such numbers wraps in 64 bits.
+use mathlib.Core.Path.{_≡_}
+use mathlib.Core.List.{List}
+use Prim.Native.Nat.{ℕ, _^_, _≤_, _<_}
+use lib.IntN.{ℤ}
+use lib.ListN.{length}
+use Rattle.ints.specs.Parts.{Within}
+use Rattle.assignment.specs.Pairings.{price}
+
+-- The bound of the prices: loose, far above 5K and far below 2 ^ 63.
+abbrev pub near : ℕ
+near = 2 ^ 40
+
+-- The first n prices of a list are near.
+abbrev pub Near : ℕ → List ℤ → Type 0
+Near n v = (j : ℕ) → j < n → Within near (price v j)
+
+-- What rule 1 is asked with: a row that is not empty, and a price for each of its columns.
+pub record Priced (row v : List ℤ) : Type 0 where
+  pub some : 1 ≤ length row
+  pub size : length v ≡ length row
+  pub prices : Near (length row) v
