@@ -11,6 +11,10 @@ use Rattle.rules.specs.declared.TwoLowest.the-variants.{One}
 use Rattle.rules.specs.declared.Least.the-variants.{NoneYet}
 use Rattle.rules.specs.Lowest.{low, twoStep, twoLowest, lower, lowest, least, leastBut}
 
+-- The lowest so far beside a value at place i, by equal numbers.
+pub lower-cong : (i : ℕ) {a b h g : ℤ} {p q : ℕ} → a ≡ b → p ≡ q → h ≡ g → lower (low a p) (low h i) ≡ lower (low b q) (low g i)
+lower-cong i e f k = cc
+
 module _ (f : ℕ → ℤ) where
   pub twoLowest-one : twoLowest 1 f ≡ One (low (f 0) 0)
   unfolding twoLowest

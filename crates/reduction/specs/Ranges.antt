@@ -1,11 +1,12 @@
 -- How large numbers may be: a price lies so near to 0 that no sum or difference of a few such numbers wraps in 64 bits.
 use mathlib.Core.Path.{_≡_}
 use mathlib.Core.List.{List}
-use Prim.Native.Nat.{ℕ, _^_, _≤_, _<_}
+use Prim.Native.Nat.{ℕ, _*_, _^_, _≤_, _<_}
 use lib.IntN.{ℤ}
 use lib.ListN.{length}
 use Rattle.ints.specs.Parts.{Within}
 use Rattle.assignment.specs.Pairings.{price}
+use Rattle.matrix.specs.Limits.{side}
 
 -- The bound of the prices: loose, far above 5K and far below 2 ^ 63.
 abbrev pub near : ℕ
@@ -14,6 +15,11 @@ near = 2 ^ 40
 -- The first n prices of a list are near.
 abbrev pub Near : ℕ → List ℤ → Type 0
 Near n v = (j : ℕ) → j < n → Within near (price v j)
+
+-- The costs of a square night whose side is within the limit.
+pub record Square (n : ℕ) (costs : List ℤ) : Type 0 where
+  pub small : n ≤ side
+  pub size : length costs ≡ n * n
 
 -- What rule 1 is asked with: a row that is not empty, and a price for each of its columns.
 pub record Priced (row v : List ℤ) : Type 0 where

@@ -1,0 +1,82 @@
+-- Claims as code makes them: what one claim leaves, and what a run of claims is from any column on. Assumes nothing.
+use mathlib.Core.Path.{_≡_, refl, sym, ap, _∙_, subst}
+use mathlib.Core.Bool.{Bool, cond}
+use Prim.Native.Nat.{ℕ, suc, _-_, _≤_, _<_}
+use native.Mathlib.Omega.{arith}
+use borrow.Author.Tests.{eq-eqb, ne-eqb}
+use lib.Dec.{eqb}
+use lib.ListN.{length, set, length-set}
+use lib.Seq.{getD-set-same, getD-set-other}
+use Rattle.lists.specs.Permutations.{at}
+use Rattle.lists.specs.Runs.{downward}
+use Rattle.lists.proofs.Runs.{downward-first}
+use Rattle.rules.specs.Columns.{Claims, claim, free}
+use Rattle.rules.proofs.Cases.{cond-cases, here-or-elsewhere}
+use Rattle.reduction.specs.Columns.{Claimable}
+
+-- The two ways of a claim.
+abbrev wins : ℕ → Claims → Claims
+wins j s = let i = at (s .rows) j in record { cols = set (s .cols) i j; rows = s .rows; marks = set (s .marks) i 1 }
+
+abbrev loses : ℕ → Claims → Claims
+loses j s = let i = at (s .rows) j in record { cols = s .cols; rows = set (s .rows) j free; marks = set (s .marks) i 2 }
+
+pub claim-wins : (j : ℕ) (s : Claims) → at (s .marks) (at (s .rows) j) ≡ 0
+    → record { cols = set (s .cols) (at (s .rows) j) j; rows = s .rows; marks = set (s .marks) (at (s .rows) j) 1 } ≡ claim j s
+claim-wins j s e = ap (λ (t : Bool). cond t (wins j s) (loses j s)) (sym (eq-eqb (at (s .marks) (at (s .rows) j)) 0 e))
+
+pub claim-loses : (j : ℕ) (s : Claims) → (at (s .marks) (at (s .rows) j) ≡ 0 → ⊥)
+    → record { cols = s .cols; rows = set (s .rows) j 4294967295; marks = set (s .marks) (at (s .rows) j) 2 } ≡ claim j s
+unfolding free
+claim-loses j s e = ap (λ (t : Bool). cond t (wins j s) (loses j s)) (sym (ne-eqb (at (s .marks) (at (s .rows) j)) 0 e))
+
+module _ (n j : ℕ) (s : Claims) (inside : j < n) (c : Claimable n (suc j) s) where
+  wins-claimable : Claimable n j (wins j s)
+  wins-claimable =
+      let i = at (s .rows) j in
+      let li : i < n = c .row-below j (omega arith) in
+      record {
+        cols-size = length-set (s .cols) i j ∙ c .cols-size;
+        rows-size = c .rows-size;
+        marks-size = length-set (s .marks) i 1 ∙ c .marks-size;
+        row-below = λ k l. c .row-below k (omega arith);
+        col-below = here-or-elsewhere (λ x. x < n → at (set (s .cols) i j) x < n) i
+            (λ l. omega (arith, getD-set-same (s .cols) i j 0 (omega (arith, c .cols-size))))
+            (λ x d l. omega (arith, getD-set-other (s .cols) i x j 0 d, c .col-below x l));
+      }
+
+  loses-claimable : Claimable n j (loses j s)
+  loses-claimable =
+      let i = at (s .rows) j in
+      record {
+        cols-size = c .cols-size;
+        rows-size = length-set (s .rows) j free ∙ c .rows-size;
+        marks-size = length-set (s .marks) i 2 ∙ c .marks-size;
+        row-below = λ k l. omega (arith, getD-set-other (s .rows) j k free 0 (λ e. omega arith), c .row-below k (omega arith));
+        col-below = c .col-below;
+      }
+
+  pub claim-claimable : Claimable n j (claim j s)
+  claim-claimable =
+      cond-cases (eqb (at (s .marks) (at (s .rows) j)) 0) (Claimable n j) (wins j s) (loses j s) (λ t. wins-claimable) (λ t. loses-claimable)
+
+-- ---- the loop, at its head: columns below j are still to claim
+
+pub record Head (n : ℕ) (s₀ s : Claims) (j : ℕ) : Type 0 where
+  pub most : j ≤ n
+  pub claimable : Claimable n j s
+  pub rest : downward j claim s ≡ downward n claim s₀
+
+module _ {n : ℕ} {s₀ s : Claims} {j : ℕ} (h : Head n s₀ s j) (more : 0 < j) where
+  same : suc (j - 1) ≡ j
+  same = omega arith
+
+  pub head-claimable : Claimable n (suc (j - 1)) s
+  head-claimable = subst (λ (k : ℕ). Claimable n k s) (sym same) (h .claimable)
+
+  pub head-next : (t : Claims) → t ≡ claim (j - 1) s → Head n s₀ t (j - 1)
+  head-next t e = record {
+    most = omega (arith, h .most);
+    claimable = subst (Claimable n (j - 1)) (sym e) (claim-claimable n (j - 1) s (omega (arith, h .most)) head-claimable);
+    rest = ap (downward (j - 1) claim) e ∙ sym (downward-first (j - 1) claim s) ∙ ap (λ (k : ℕ). downward k claim s) same ∙ h .rest;
+  }

@@ -1,0 +1,33 @@
+-- A row as a part of the costs: how long it is, what stands in it, and what the rules make of it. Assumes nothing.
+use mathlib.Core.Path.{_≡_, ap, _∙_}
+use mathlib.Core.List.{List}
+use Prim.Native.Nat.{ℕ, _+_, _*_, _≤_, _<_}
+use native.Mathlib.Nat.{mul-le-mul-right}
+use native.Mathlib.Omega.{arith}
+use lib.IntN.{ℤ, pos, _-ℤ_}
+use lib.ListN.{length}
+use Rattle.lists.specs.Parts.{part}
+use Rattle.lists.proofs.Parts.{part-length, part-at}
+use Rattle.assignment.specs.Pairings.{square, price}
+use Rattle.rules.specs.Lowest.{reduced, twoLowest, leastBut}
+use Rattle.rules.proofs.Lowest.{twoLowest-cong, leastBut-cong}
+
+module _ (n i : ℕ) (costs row : List ℤ) (inside : i < n) (size : length costs ≡ n * n) (is : row ≡ part (i * n) n costs) where
+  pub row-length : length row ≡ n
+  row-length = ap length is ∙ part-length (i * n) n costs (omega (arith, mul-le-mul-right n inside))
+
+  pub row-at : (j : ℕ) → j < n → price row j ≡ square n costs .cost i j
+  row-at j h = ap (λ (l : List ℤ). price l j) is ∙ part-at (i * n) n costs j (pos 0) h
+
+  module _ (v : List ℤ) where
+    pub row-twoLowest : twoLowest (length row) (λ j. price row j -ℤ price v j) ≡ twoLowest n (reduced (square n costs .cost) (price v) i)
+    row-twoLowest =
+        ap (λ (m : ℕ). twoLowest m (λ j. price row j -ℤ price v j)) row-length
+        ∙ twoLowest-cong n (λ j. price row j -ℤ price v j) (reduced (square n costs .cost) (price v) i) (omega arith)
+        (λ j h. ap (λ (x : ℤ). x -ℤ price v j) (row-at j h))
+
+    pub row-leastBut : (j : ℕ) → leastBut (length row) (λ k. price row k -ℤ price v k) j ≡ leastBut n (reduced (square n costs .cost) (price v) i) j
+    row-leastBut j =
+        ap (λ (m : ℕ). leastBut m (λ k. price row k -ℤ price v k) j) row-length
+        ∙ leastBut-cong n (λ k. price row k -ℤ price v k) (reduced (square n costs .cost) (price v) i) j
+        (λ k h. ap (λ (x : ℤ). x -ℤ price v k) (row-at k h))
