@@ -4,3 +4,5 @@ pub mod Fills
 pub mod RowParts
 pub mod Minima
 pub mod Claims
+pub mod Nearness
+pub mod Transfers

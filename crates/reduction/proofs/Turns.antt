@@ -1,9 +1,10 @@
 -- The runs of rule 1 and of the least values of rule 3, turn by turn, as code goes through them. Assumes nothing.
 use mathlib.Core.Path.{_≡_, ap, _∙_}
-use mathlib.Core.Bool.{cond}
+use mathlib.Core.Bool.{Bool, cond}
 use Prim.Native.Nat.{ℕ, suc, _+_, _≤_}
 use native.Mathlib.Omega.{arith}
 use native.Mathlib.Numerals.{add-one}
+use borrow.Author.Tests.{eq-eqb, ne-eqb}
 use lib.Dec.{eqb}
 use lib.IntN.{ℤ}
 use Rattle.lists.proofs.Runs.{upward-none, upward-last}
@@ -36,6 +37,12 @@ module _ (f : ℕ → ℤ) where
   unfolding leastBut
   leastBut-none j = upward-none 0 0 (λ k found. cond (eqb k j) found (least found (f k))) NoneYet (omega arith)
 
-  pub leastBut-more : (j k : ℕ) → leastBut (k + 1) f j ≡ cond (eqb k j) (leastBut k f j) (least (leastBut k f j) (f k))
+  leastBut-more : (j k : ℕ) → leastBut (k + 1) f j ≡ cond (eqb k j) (leastBut k f j) (least (leastBut k f j) (f k))
   unfolding leastBut
   leastBut-more j k = rw add-one (upward-last 0 k (λ k found. cond (eqb k j) found (least found (f k))) NoneYet (omega arith))
+
+  pub leastBut-same : (j k : ℕ) → k ≡ j → leastBut (k + 1) f j ≡ leastBut k f j
+  leastBut-same j k e = leastBut-more j k ∙ ap (λ (t : Bool). cond t (leastBut k f j) (least (leastBut k f j) (f k))) (eq-eqb k j e)
+
+  pub leastBut-other : (j k : ℕ) → (k ≡ j → ⊥) → leastBut (k + 1) f j ≡ least (leastBut k f j) (f k)
+  leastBut-other j k d = leastBut-more j k ∙ ap (λ (t : Bool). cond t (leastBut k f j) (least (leastBut k f j) (f k))) (ne-eqb k j d)

@@ -11,7 +11,7 @@ use Rattle.rules.specs.declared.Low.{Low}
 use Rattle.rules.specs.declared.Least.{Least}
 use Rattle.rules.specs.declared.Least.the-variants.{NoneYet, Of}
 use Rattle.rules.specs.Lowest.{low, lower}
-use Rattle.rules.specs.Columns.{Claims}
+use Rattle.rules.specs.Columns.{Claims, Transfer}
 use Rattle.reduction.specs.Ranges.{near}
 
 -- Row i beside the lowest so far of column j.
@@ -34,3 +34,7 @@ pub record Claimable (n k : ℕ) (s : Claims) : Type 0 where
 abbrev pub NearLeast : Least → Type 0
 NearLeast NoneYet = Unit
 NearLeast (Of h) = Within (near + near) h
+
+-- The transfer that two lists and a count hold.
+abbrev pub transferOf : List ℤ → List ℕ → ℕ → Transfer
+transferOf v frees count = record { prices = v; frees = frees; count = count }

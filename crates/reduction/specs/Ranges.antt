@@ -5,7 +5,7 @@ use Prim.Native.Nat.{ℕ, _*_, _^_, _≤_, _<_}
 use lib.IntN.{ℤ}
 use lib.ListN.{length}
 use Rattle.ints.specs.Parts.{Within}
-use Rattle.assignment.specs.Pairings.{price}
+use Rattle.assignment.specs.Pairings.{square, price}
 use Rattle.matrix.specs.Limits.{side}
 
 -- The bound of the prices: loose, far above 5K and far below 2 ^ 63.
@@ -16,10 +16,11 @@ near = 2 ^ 40
 abbrev pub Near : ℕ → List ℤ → Type 0
 Near n v = (j : ℕ) → j < n → Within near (price v j)
 
--- The costs of a square night whose side is within the limit.
+-- The costs of a square night: its side is within the limit, and its costs are near.
 pub record Square (n : ℕ) (costs : List ℤ) : Type 0 where
   pub small : n ≤ side
   pub size : length costs ≡ n * n
+  pub near-costs : (i j : ℕ) → i < n → j < n → Within near (square n costs .cost i j)
 
 -- What rule 1 is asked with: a row that is not empty, and a price for each of its columns.
 pub record Priced (row v : List ℤ) : Type 0 where

@@ -8,11 +8,11 @@ ghost use Rattle.lists.specs.Permutations.{at, table};
 ghost use Rattle.lists.specs.Parts.{replaced};
 ghost use Rattle.assignment.specs.Pairings.{price, square};
 ghost use Rattle.rules.specs.Lowest.{lower, least, leastBut};
-ghost use Rattle.rules.specs.Columns.{minimum, claim, lessLeast, lowerColumn};
+ghost use Rattle.rules.specs.Columns.{Claims, minimum, claim, lessLeast, lowerColumn, transfer};
 ghost use Rattle.ints.specs.Parts.{Within};
 ghost use Rattle.matrix.specs.Limits.{side};
-ghost use Rattle.reduction.specs.Ranges.{Square};
-ghost use Rattle.reduction.specs.Columns.{claimsOf, Claimable, lowAt};
+ghost use Rattle.reduction.specs.Ranges.{near, Near, Square};
+ghost use Rattle.reduction.specs.Columns.{lowAt, claimsOf, Claimable, NearLeast, transferOf};
 use rules::Least;
 use rules::Low;
 
@@ -112,4 +112,75 @@ fn claim_all(n: usize, cols: &mut [u32], rows: &mut [u32], marks: &mut [u32])
         j -= 1;
         claim(n, j, cols, rows, marks);
     }
+}
+
+// A value beside the least so far.
+fn least(found: Least, h: i64) -> Least
+    ensures { λ r. ⌜ r ≡ least found h ⌝ }
+{
+    match found {
+        Least::NoneYet => Least::Of(h),
+        Least::Of(a) => { if h < a { Least::Of(h) } else { found } }
+    }
+}
+
+// The least reduced cost of a row over the columns but j.
+fn least_other(row: &[i32], v: &[i64], j: usize) -> Least
+    requires { ⌜ (length (now v) ≡ length (now row)) × Near (length (now row)) (now v) ⌝ }
+    ensures { λ r. ⌜ r ≡ leastBut (length (now (row .entry))) (λ k. price (now (row .entry)) k -ℤ price (now (v .entry)) k) j ⌝ }
+{
+    let mut found = Least::NoneYet;
+    let mut k = 0;
+    while k < row.len() {
+        if k != j {
+            found = least(found, super::reduced(row[k], v[k]));
+        }
+        k += 1;
+    }
+    found
+}
+
+// A price, lowered by a least value where there is one.
+fn less_least(price: i64, least: Least) -> i64
+    requires { ⌜ Within near price × NearLeast least ⌝ }
+    ensures { λ r. ⌜ r ≡ lessLeast price least ⌝ }
+{
+    match least {
+        Least::NoneYet => price,
+        Least::Of(h) => price - h,
+    }
+}
+
+// A unique row i lowers the price of its column j.
+fn lower_column(n: usize, costs: &[i32], i: usize, j: usize, v: &mut [i64])
+    requires { ⌜ Square n (now costs) × (i < n) × (j < n) × (length (now v) ≡ n) × Near n (now v) ⌝ }
+    ensures { λ r. ⌜ now (v .exit) ≡ lowerColumn n (square n (now (costs .entry)) .cost) i j (now (v .entry)) ⌝ }
+{
+    let found = least_other(matrix::row(costs, n, i), v, j);
+    v[j] = less_least(v[j], found);
+}
+
+// Row i, with its mark and its column j, joins the free list, lowers its column's price, or does nothing: how many rows are free then.
+fn transfer(
+    n: usize,
+    costs: &[i32],
+    i: usize,
+    mark: u32,
+    j: usize,
+    v: &mut [i64],
+    frees: &mut [u32],
+    count: usize,
+) -> usize
+    requires { ⌜ Square n (now costs) × (i < n) × (j < n) × (length (now v) ≡ n) × Near n (now v) × (length (now frees) ≡ n) × (count < n) ⌝ }
+    ensures { λ r. ⌜ ((s : Claims) → at (s .marks) i ≡ mark → at (s .cols) i ≡ j → transferOf (now (v .exit)) (now (frees .exit)) r ≡ transfer n (square n (now (costs .entry)) .cost) s i (transferOf (now (v .entry)) (now (frees .entry)) count)) ⌝ }
+{
+    if mark == 0 {
+        frees[count] = i as u32;
+        return count + 1;
+    }
+    if mark == 1 {
+        lower_column(n, costs, i, j, v);
+        return count;
+    }
+    count
 }
