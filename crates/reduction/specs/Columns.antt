@@ -1,18 +1,20 @@
 -- Rule 3 as the code goes through it: what stands in the lent lists, and what each function asks.
 use mathlib.Core.Path.{_≡_}
-use mathlib.Core.List.{List}
+use mathlib.Core.List.{List, []}
 use Prim.Native.Nat.{ℕ, _+_, _<_}
 use lib.IntN.{ℤ}
 use lib.ListN.{length}
 use Rattle.ints.specs.Parts.{Within}
+use Rattle.lists.specs.Runs.{upward}
 use Rattle.lists.specs.Permutations.{at}
-use Rattle.assignment.specs.Pairings.{price}
+use Rattle.lists.specs.Parts.{part, replaced}
+use Rattle.assignment.specs.Pairings.{square, price}
 use Rattle.rules.specs.declared.Low.{Low}
 use Rattle.rules.specs.declared.Least.{Least}
 use Rattle.rules.specs.declared.Least.the-variants.{NoneYet, Of}
 use Rattle.rules.specs.Lowest.{low, lower}
-use Rattle.rules.specs.Columns.{Claims, Transfer}
-use Rattle.reduction.specs.Ranges.{near}
+use Rattle.rules.specs.Columns.{Claims, Transfer, transfer}
+use Rattle.reduction.specs.Ranges.{near, Near, Square}
 
 -- Row i beside the lowest so far of column j.
 abbrev pub lowAt : ℕ → List ℤ → List ℤ → List ℕ → ℕ → Low
@@ -38,3 +40,23 @@ NearLeast (Of h) = Within (near + near) h
 -- The transfer that two lists and a count hold.
 abbrev pub transferOf : List ℤ → List ℕ → ℕ → Transfer
 transferOf v frees count = record { prices = v; frees = frees; count = count }
+
+-- The first m rows, from what the code is lent: marks at 3n of the room, the free list at 0. No row of a column is read.
+abbrev pub transferring : ℕ → List ℤ → List ℕ → List ℤ → List ℕ → ℕ → Transfer
+transferring n costs cols v room m =
+    upward 0 m (transfer n (square n costs .cost) (claimsOf cols [] (part (n + n + n) n room))) (transferOf v (part 0 n room) 0)
+
+-- What the transfer asks: sizes, columns in range, and near prices before every row.
+pub record Transferable (n : ℕ) (costs : List ℤ) (cols : List ℕ) (v : List ℤ) (room : List ℕ) : Type 0 where
+  pub squared : Square n costs
+  pub cols-size : length cols ≡ n
+  pub prices-size : length v ≡ n
+  pub room-size : length room ≡ n + n + n + n
+  pub col-below : (i : ℕ) → i < n → at cols i < n
+  pub near-prices : (m : ℕ) → m < n → Near n (transferring n costs cols v room m .prices)
+
+-- A transfer as it stands in the lent lists: its free list is written over the front of the room.
+pub record Transferred (before : List ℕ) (x : Transfer) (v : List ℤ) (room : List ℕ) (count : ℕ) : Type 0 where
+  pub prices-are : v ≡ x .prices
+  pub room-is : room ≡ replaced 0 (x .frees) before
+  pub count-is : count ≡ x .count

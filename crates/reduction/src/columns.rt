@@ -12,7 +12,7 @@ ghost use Rattle.rules.specs.Columns.{Claims, minimum, claim, lessLeast, lowerC
 ghost use Rattle.ints.specs.Parts.{Within};
 ghost use Rattle.matrix.specs.Limits.{side};
 ghost use Rattle.reduction.specs.Ranges.{near, Near, Square};
-ghost use Rattle.reduction.specs.Columns.{lowAt, claimsOf, Claimable, NearLeast, transferOf};
+ghost use Rattle.reduction.specs.Columns.{lowAt, claimsOf, Claimable, NearLeast, transferOf, Transferable, Transferred, transferring};
 use rules::Least;
 use rules::Low;
 
@@ -181,6 +181,23 @@ fn transfer(
     if mark == 1 {
         lower_column(n, costs, i, j, v);
         return count;
+    }
+    count
+}
+
+// Rows upward: how many rows are free at the end. The free list stands at 0 in the room, the marks at 3n.
+fn transfers(n: usize, costs: &[i32], cols: &[u32], v: &mut [i64], room: &mut [u32]) -> usize
+    requires { ⌜ Transferable n (now costs) (now cols) (now v) (now room) ⌝ }
+    ensures { λ r. ⌜ Transferred (now (room .entry)) (transferring n (now (costs .entry)) (now (cols .entry)) (now (v .entry)) (now (room .entry)) n) (now (v .exit)) (now (room .exit)) r ⌝ }
+{
+    let n3 = n + n + n;
+    let mut count = 0;
+    let mut i = 0;
+    while i < n {
+        let mark = room[n3 + i];
+        let j = cols[i] as usize;
+        count = transfer(n, costs, i, mark, j, v, &mut room[0..n], count);
+        i += 1;
     }
     count
 }
