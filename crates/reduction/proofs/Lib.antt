@@ -6,3 +6,4 @@ pub mod Minima
 pub mod Claims
 pub mod Nearness
 pub mod Transfers
+pub mod Stages

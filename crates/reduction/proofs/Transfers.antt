@@ -70,7 +70,7 @@ transfer-sized n cost s i m x h =
 
 -- ---- the loop over rows, by what it is lent
 
-transferOf-cong : {v w : List ℤ} {p q : List ℕ} {c d : ℕ} → v ≡ w → p ≡ q → c ≡ d → transferOf v p c ≡ transferOf w q d
+pub transferOf-cong : {v w : List ℤ} {p q : List ℕ} {c d : ℕ} → v ≡ w → p ≡ q → c ≡ d → transferOf v p c ≡ transferOf w q d
 transferOf-cong e f g = cc
 
 module _ {n : ℕ} {costs : List ℤ} {cols : List ℕ} {v₀ : List ℤ} {room₀ : List ℕ} (t : Transferable n costs cols v₀ room₀) where
@@ -80,7 +80,7 @@ module _ {n : ℕ} {costs : List ℤ} {cols : List ℕ} {v₀ : List ℤ} {room�
   abbrev claimed : Claims
   claimed = claimsOf cols [] (part (n + n + n) n room₀)
 
-  run-sized : (m : ℕ) → Sized n m (run m)
+  pub run-sized : (m : ℕ) → Sized n m (run m)
   run-sized m =
       upward-keeps (Sized n) 0 m (transfer n (square n costs .cost) claimed) (transferOf v₀ (part 0 n room₀) 0) (omega arith)
       (record { prices-size = t .prices-size; frees-size = part-length 0 n room₀ (omega (arith, t .room-size)); count-most = omega arith })

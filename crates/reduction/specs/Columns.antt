@@ -13,7 +13,7 @@ use Rattle.rules.specs.declared.Low.{Low}
 use Rattle.rules.specs.declared.Least.{Least}
 use Rattle.rules.specs.declared.Least.the-variants.{NoneYet, Of}
 use Rattle.rules.specs.Lowest.{low, lower}
-use Rattle.rules.specs.Columns.{Claims, Transfer, transfer}
+use Rattle.rules.specs.Columns.{Stage, Claims, claims, Transfer, transfer, untransferred}
 use Rattle.reduction.specs.Ranges.{near, Near, Square}
 
 -- Row i beside the lowest so far of column j.
@@ -60,3 +60,20 @@ pub record Transferred (before : List ℕ) (x : Transfer) (v : List ℤ) (room :
   pub prices-are : v ≡ x .prices
   pub room-is : room ≡ replaced 0 (x .frees) before
   pub count-is : count ≡ x .count
+
+-- The stage that four lists and a count hold.
+abbrev pub stageAt : List ℕ → List ℕ → List ℤ → List ℕ → ℕ → Stage
+stageAt cols rows v frees count = record { pairs = record { cols = cols; rows = rows }; prices = v; frees = frees; count = count }
+
+-- The transfer of rule 3 over the first m rows.
+abbrev pub transfersTo : ℕ → (ℕ → ℕ → ℤ) → ℕ → Transfer
+transfersTo n cost m = upward 0 m (transfer n cost (claims n cost)) (untransferred n cost)
+
+-- What rule 3 asks: lists of n entries, a room of 4n, and near prices before every row of the transfer.
+pub record Reducible (n : ℕ) (costs : List ℤ) (cols rows : List ℕ) (v : List ℤ) (room : List ℕ) : Type 0 where
+  pub squared : Square n costs
+  pub cols-size : length cols ≡ n
+  pub rows-size : length rows ≡ n
+  pub prices-size : length v ≡ n
+  pub room-size : length room ≡ n + n + n + n
+  pub near-prices : (m : ℕ) → m < n → Near n (transfersTo n (square n costs .cost) m .prices)

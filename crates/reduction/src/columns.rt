@@ -5,14 +5,14 @@ ghost use lib.IntN.{_-ℤ_};
 ghost use lib.ListN.{length};
 ghost use Rattle.lists.specs.Runs.{upward, downward};
 ghost use Rattle.lists.specs.Permutations.{at, table};
-ghost use Rattle.lists.specs.Parts.{replaced};
+ghost use Rattle.lists.specs.Parts.{part, replaced};
 ghost use Rattle.assignment.specs.Pairings.{price, square};
 ghost use Rattle.rules.specs.Lowest.{lower, least, leastBut};
-ghost use Rattle.rules.specs.Columns.{Claims, minimum, claim, lessLeast, lowerColumn, transfer};
+ghost use Rattle.rules.specs.Columns.{Claims, minimum, claim, claims, lessLeast, lowerColumn, transfer, columnReduction};
 ghost use Rattle.ints.specs.Parts.{Within};
 ghost use Rattle.matrix.specs.Limits.{side};
 ghost use Rattle.reduction.specs.Ranges.{near, Near, Square};
-ghost use Rattle.reduction.specs.Columns.{lowAt, claimsOf, Claimable, NearLeast, transferOf, Transferable, Transferred, transferring};
+ghost use Rattle.reduction.specs.Columns.{lowAt, claimsOf, Claimable, NearLeast, transferOf, Transferable, Transferred, transferring, stageAt, Reducible};
 use rules::Least;
 use rules::Low;
 
@@ -200,4 +200,26 @@ fn transfers(n: usize, costs: &[i32], cols: &[u32], v: &mut [i64], room: &mut [u
         i += 1;
     }
     count
+}
+
+// Rule 3: column reduction and transfer. The answer is how many rows are free; they stand at 0 in the room, and the marks of the rows at 3n.
+pub fn ccrrt_dense(
+    n: usize,
+    costs: &[i32],
+    cols: &mut [u32],
+    rows: &mut [u32],
+    v: &mut [i64],
+    room: &mut [u32],
+) -> usize
+    requires { ⌜ Reducible n (now costs) (now cols) (now rows) (now v) (now room) ⌝ }
+    ensures { λ r. ⌜ (stageAt (now (cols .exit)) (now (rows .exit)) (now (v .exit)) (part 0 n (now (room .exit))) r ≡ columnReduction n (square n (now (costs .entry)) .cost)) × (now (room .exit) ≡ replaced 0 (columnReduction n (square n (now (costs .entry)) .cost) .frees) (replaced (n + n + n) (claims n (square n (now (costs .entry)) .cost) .marks) (now (room .entry)))) ⌝ }
+{
+    let n3 = n + n + n;
+    let n4 = n3 + n;
+    minima(n, costs, rows, v);
+    zero(cols);
+    zero(&mut room[n3..n4]);
+    claim_all(n, cols, rows, &mut room[n3..n4]);
+    zero(&mut room[0..n]);
+    transfers(n, costs, cols, v, room)
 }
