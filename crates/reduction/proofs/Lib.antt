@@ -7,3 +7,4 @@ pub mod Claims
 pub mod Nearness
 pub mod Transfers
 pub mod Stages
+pub mod Choices

@@ -2,6 +2,7 @@
 // of specs/.
 pub mod columns;
 pub mod lowest;
+pub mod rows;
 
 ghost use mathlib.Core.Path.{_≡_};
 ghost use lib.IntN.{_-ℤ_};

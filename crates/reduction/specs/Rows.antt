@@ -1,0 +1,59 @@
+-- Rule 4 as the code goes through it: what stands in the lent lists, and what each function asks.
+use mathlib.Core.Path.{_≡_}
+use mathlib.Core.List.{List}
+use Prim.Native.Nat.{ℕ, _+_, _*_, _^_, _≤_, _<_}
+use lib.IntN.{ℤ}
+use lib.ListN.{length}
+use Rattle.ints.specs.Parts.{Within}
+use Rattle.lists.specs.Permutations.{at}
+use Rattle.assignment.specs.Pairings.{square}
+use Rattle.rules.specs.declared.TwoLowest.{TwoLowest}
+use Rattle.rules.specs.declared.TwoLowest.the-variants.{One, Two}
+use Rattle.rules.specs.declared.Pass.{Pass}
+use Rattle.rules.specs.Rows.{Passing, Placed, looks, passStart}
+use Rattle.reduction.specs.Ranges.{near, Near, Square}
+use Rattle.reduction.specs.Columns.{stageAt}
+
+-- What a choice asks of the two lowest: columns in range, and values that are reduced costs of near numbers.
+abbrev pub Inside : ℕ → TwoLowest → Type 0
+Inside n (One a) = a .place < n
+Inside n (Two a b) = (a .place < n) × (b .place < n) × Within (near + near) (a .value) × Within (near + near) (b .value)
+
+-- The free list and where the pass goes on.
+abbrev pub placedAt : List ℕ → Pass → Placed
+placedAt frees pass = record { frees = frees; pass = pass }
+
+-- The pass under way that four lists and a pass hold.
+abbrev pub passingAt : List ℕ → List ℕ → List ℤ → List ℕ → Pass → Passing
+passingAt cols rows v frees pass = record { pairs = record { cols = cols; rows = rows }; prices = v; frees = frees; pass = pass }
+
+-- What a look asks: lists of n entries, a place and a row in range, and near prices.
+pub record Ready (n : ℕ) (costs : List ℤ) (x : Passing) : Type 0 where
+  pub squared : Square n costs
+  pub cols-size : length (x .pairs .cols) ≡ n
+  pub rows-size : length (x .pairs .rows) ≡ n
+  pub prices-size : length (x .prices) ≡ n
+  pub frees-size : length (x .frees) ≡ n
+  pub current-below : x .pass .current < n
+  pub left-most : x .pass .left ≤ x .pass .current
+  pub looks-fit : x .pass .looks < 2 ^ 40
+  pub row-below : at (x .frees) (x .pass .current) < n
+  pub near-prices : Near n (x .prices)
+
+-- The first m looks of a pass over `count` free rows.
+abbrev pub looksTo : ℕ → List ℤ → List ℕ → List ℕ → List ℤ → List ℕ → ℕ → ℕ → Passing
+looksTo n costs cols rows v frees count m = looks n (square n costs .cost) count m (passStart (stageAt cols rows v frees count))
+
+-- What a pass asks: lists of n entries; that count * n turns end it; and before every look a row in range and near prices.
+pub record Passable (n : ℕ) (costs : List ℤ) (cols rows : List ℕ) (v : List ℤ) (frees : List ℕ) (count : ℕ) : Type 0 where
+  pub squared : Square n costs
+  pub cols-size : length cols ≡ n
+  pub rows-size : length rows ≡ n
+  pub prices-size : length v ≡ n
+  pub frees-size : length frees ≡ n
+  pub count-most : count ≤ n
+  pub ends : count ≤ looksTo n costs cols rows v frees count (count * n) .pass .current
+  pub row-below : (m : ℕ) → m < count * n → looksTo n costs cols rows v frees count m .pass .current < count
+      → at (looksTo n costs cols rows v frees count m .frees) (looksTo n costs cols rows v frees count m .pass .current) < n
+  pub near-prices : (m : ℕ) → m < count * n → looksTo n costs cols rows v frees count m .pass .current < count
+      → Near n (looksTo n costs cols rows v frees count m .prices)

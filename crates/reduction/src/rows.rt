@@ -1,0 +1,116 @@
+// Rule 4, row reduction.
+ghost use mathlib.Core.Path.{_≡_};
+ghost use Prim.Native.Nat.{ℕ, _+_, _*_, _^_, _<_, _≤_};
+ghost use lib.ListN.{length};
+ghost use Rattle.ints.specs.Parts.{Within};
+ghost use Rattle.assignment.specs.Pairings.{price, square};
+ghost use Rattle.rules.specs.Rows.{keepPrice, lowerPrice, choose, displace, isEarly, look, rowReduction};
+ghost use Rattle.matrix.specs.Limits.{side};
+ghost use Rattle.reduction.specs.Ranges.{near, Near};
+ghost use Rattle.reduction.specs.Columns.{stageAt};
+ghost use Rattle.reduction.specs.Rows.{Inside, placedAt, passingAt, Ready, Passable};
+use rules::Choice;
+use rules::Low;
+use rules::Pass;
+use rules::TwoLowest;
+
+// Column j at the price that it has.
+fn keep_price(v: &[i64], j: usize) -> Choice
+    requires { ⌜ j < length (now v) ⌝ }
+    ensures { λ r. ⌜ r ≡ keepPrice (now (v .entry)) j ⌝ }
+{
+    Choice {
+        column: j,
+        price: v[j],
+        back: false,
+    }
+}
+
+// Column j at a price lowered by second minus lowest.
+fn lower_price(v: &[i64], j: usize, lowest: i64, second: i64) -> Choice
+    requires { ⌜ (j < length (now v)) × Within near (price (now v) j) × Within (near + near) lowest × Within (near + near) second ⌝ }
+    ensures { λ r. ⌜ r ≡ lowerPrice (now (v .entry)) j lowest second ⌝ }
+{
+    Choice {
+        column: j,
+        price: v[j] - (second - lowest),
+        back: true,
+    }
+}
+
+// What a row takes, from its two lowest.
+fn choose(n: usize, early: bool, v: &[i64], rows: &[u32], two: TwoLowest) -> Choice
+    requires { ⌜ (n ≤ side) × (length (now v) ≡ n) × (length (now rows) ≡ n) × Near n (now v) × Inside n two ⌝ }
+    ensures { λ r. ⌜ r ≡ choose n early (now (v .entry)) (now (rows .entry)) two ⌝ }
+{
+    match two {
+        TwoLowest::One(a) => {
+            let j = a.place;
+            keep_price(v, j)
+        }
+        TwoLowest::Two(a, b) => {
+            let j = a.place;
+            let k = b.place;
+            let lowest = a.value;
+            let second = b.value;
+            if early {
+                if lowest < second {
+                    lower_price(v, j, lowest, second)
+                } else {
+                    let h = rows[j] as usize;
+                    if h < n {
+                        keep_price(v, k)
+                    } else {
+                        keep_price(v, j)
+                    }
+                }
+            } else {
+                keep_price(v, j)
+            }
+        }
+    }
+}
+
+// Row h held the column; where h is n or more, none did.
+fn displace(n: usize, frees: &mut [u32], pass: Pass, back: bool, h: u32) -> Pass
+    requires { ⌜ (n ≤ side) × (length (now frees) ≡ n) × (pass .current < n) × (pass .left ≤ pass .current) × (pass .looks < 2 ^ 40) ⌝ }
+    ensures { λ r. ⌜ placedAt (now (frees .exit)) r ≡ displace n (now (frees .entry)) pass back h ⌝ }
+{
+    let current = pass.current;
+    let left = pass.left;
+    let looks = pass.looks + 1;
+    let held = h as usize;
+    if held < n {
+        if back {
+            frees[current] = h;
+            Pass {
+                current: current,
+                left: left,
+                looks: looks,
+            }
+        } else {
+            frees[left] = h;
+            Pass {
+                current: current + 1,
+                left: left + 1,
+                looks: looks,
+            }
+        }
+    } else {
+        Pass {
+            current: current + 1,
+            left: left,
+            looks: looks,
+        }
+    }
+}
+
+// Whether the counter, raised by a look, is below `current`, raised by it too, times n.
+fn is_early(n: usize, pass: Pass) -> bool
+    requires { ⌜ (n ≤ side) × (pass .current < n) × (pass .looks < 2 ^ 40) ⌝ }
+    ensures { λ r. ⌜ r ≡ isEarly n pass ⌝ }
+{
+    let looks = pass.looks + 1;
+    let current = pass.current + 1;
+    looks < current * n
+}
