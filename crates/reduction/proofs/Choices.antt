@@ -1,9 +1,10 @@
 -- The ways of a choice and of a displaced row, as code takes them; and a lowered price in 64 bits. Assumes nothing.
 use mathlib.Core.Path.{_≡_, refl}
-use mathlib.Core.Bool.{Bool, true, false}
+use mathlib.Core.Bool.{Bool, true, false, cond}
 use mathlib.Core.List.{List}
 use Prim.Native.Nat.{ℕ, _+_, _≤_, _<_}
 use borrow.Author.Tests.{lt-ltb, le-ltb}
+use lib.Dec.{ltb}
 use lib.IntN.{ℤ, _-ℤ_}
 use lib.Signed.{ltZ}
 use lib.ListN.{set}
@@ -17,10 +18,12 @@ use Rattle.lists.specs.Permutations.{at}
 use Rattle.rules.specs.declared.Low.{Low}
 use Rattle.rules.specs.declared.TwoLowest.{TwoLowest}
 use Rattle.rules.specs.declared.TwoLowest.the-variants.{One, Two}
+use Rattle.rules.specs.declared.Choice.{Choice}
 use Rattle.rules.specs.declared.Pass.{Pass}
 use Rattle.rules.specs.Rows.{keepPrice, lowerPrice, choose, passAt, displace}
+use Rattle.rules.proofs.Cases.{cond-cases}
 use Rattle.reduction.specs.Ranges.{near}
-use Rattle.reduction.specs.Rows.{placedAt}
+use Rattle.reduction.specs.Rows.{Inside, placedAt}
 
 -- ---- a choice
 
@@ -40,6 +43,17 @@ module _ (n : ℕ) (early : Bool) (v : List ℤ) (rows : List ℕ) (two : TwoLow
 
     pub choose-late : early ≡ false → keepPrice v (a .place) ≡ choose n early v rows two
     choose-late y = rw (e, y) refl
+
+-- A choice is a column of the two.
+pub choose-below : (n : ℕ) (early : Bool) (v : List ℤ) (rows : List ℕ) (two : TwoLowest) → Inside n two → choose n early v rows two .column < n
+choose-below n early v rows (One a) h = h
+choose-below n early v rows (Two a b) h =
+    let Below : Choice → Type 0 = λ w. w .column < n in
+    let kept = keepPrice v (cond (ltb (at rows (a .place)) n) (b .place) (a .place)) in
+    cond-cases early Below (cond (ltZ (a .value) (b .value)) (lowerPrice v (a .place) (a .value) (b .value)) kept) (keepPrice v (a .place))
+    (λ t. cond-cases (ltZ (a .value) (b .value)) Below (lowerPrice v (a .place) (a .value) (b .value)) kept (λ l. h .0)
+    (λ l. cond-cases (ltb (at rows (a .place)) n) (λ j. j < n) (b .place) (a .place) (λ k. h .1) (λ k. h .0)))
+    (λ t. h .0)
 
 -- ---- a displaced row
 

@@ -8,3 +8,4 @@ pub mod Nearness
 pub mod Transfers
 pub mod Stages
 pub mod Choices
+pub mod Looks

@@ -114,3 +114,32 @@ fn is_early(n: usize, pass: Pass) -> bool
     let current = pass.current + 1;
     looks < current * n
 }
+
+// One look, at the free row at `current`.
+fn look(
+    n: usize,
+    costs: &[i32],
+    cols: &mut [u32],
+    rows: &mut [u32],
+    v: &mut [i64],
+    frees: &mut [u32],
+    pass: Pass,
+) -> Pass
+    requires { ⌜ Ready n (now costs) (passingAt (now cols) (now rows) (now v) (now frees) pass) ⌝ }
+    ensures { λ r. ⌜ passingAt (now (cols .exit)) (now (rows .exit)) (now (v .exit)) (now (frees .exit)) r ≡ look n (square n (now (costs .entry)) .cost) (passingAt (now (cols .entry)) (now (rows .entry)) (now (v .entry)) (now (frees .entry)) pass) ⌝ }
+{
+    let current = pass.current;
+    let i = frees[current] as usize;
+    let row = matrix::row(costs, n, i);
+    let two = super::lowest::find_umins_plain(row, v);
+    let early = is_early(n, pass);
+    let choice = choose(n, early, v, rows, two);
+    let j = choice.column;
+    let price = choice.price;
+    let back = choice.back;
+    let h = rows[j];
+    v[j] = price;
+    cols[i] = j as u32;
+    rows[j] = i as u32;
+    displace(n, frees, pass, back, h)
+}
