@@ -1,16 +1,28 @@
 -- A look as code makes it, and a pass: what every look keeps, where a pass stands after so many looks, and where it ends. Assumes nothing.
 use mathlib.Core.Path.{_≡_, refl, sym, ap, _∙_, subst}
+use mathlib.Core.Bool.{Bool, cond}
 use mathlib.Core.List.{List}
-use Prim.Native.Nat.{ℕ, _+_, _≤_, _<_}
+use Prim.Native.Nat.{ℕ, zero, suc, _+_, _*_, _-_, _^_, _≤_, _<_}
+use native.Mathlib.Decide.{decLt}
+use native.Mathlib.Nat.{add-zero, add-suc, mul-le-mul}
+use native.Mathlib.Numerals.{add-one}
+use native.Mathlib.Omega.{arith}
+use borrow.Author.Tests.{lt-ltb, le-ltb}
+use lib.Dec.{ltb}
 use lib.IntN.{ℤ}
-use lib.ListN.{set}
+use lib.ListN.{length, set, length-set}
 use Rattle.lists.specs.Permutations.{at}
-use Rattle.assignment.specs.Pairings.{price}
+use Rattle.lists.proofs.Runs.{upward-none, upward-last}
+use Rattle.assignment.specs.Pairings.{square, price}
 use Rattle.rules.specs.declared.Choice.{Choice}
 use Rattle.rules.specs.declared.Pass.{Pass}
 use Rattle.rules.specs.Lowest.{reduced, twoLowest}
-use Rattle.rules.specs.Rows.{Passing, Placed, choose, displace, settle, isEarly, look}
-use Rattle.reduction.specs.Rows.{placedAt, passingAt}
+use Rattle.rules.specs.Rows.{Passing, Placed, choose, passAt, displace, settle, isEarly, look, looks, passStart, rowReduction}
+use Rattle.rules.proofs.Cases.{cond-cases}
+use Rattle.matrix.proofs.Limits.{side-small}
+use Rattle.reduction.specs.Ranges.{Near}
+use Rattle.reduction.specs.Columns.{stageAt}
+use Rattle.reduction.specs.Rows.{placedAt, passingAt, Ready, Passable}
 
 module _ (n : ℕ) (cost : ℕ → ℕ → ℤ) (x : Passing) where
   -- What the free row at `current` chooses.
@@ -25,3 +37,163 @@ module _ (n : ℕ) (cost : ℕ → ℕ → ℤ) (x : Passing) where
       let i = at (x .frees) (x .pass .current) in
       ap (λ (y : Placed). passingAt (set (x .pairs .cols) i (w .column)) (set (x .pairs .rows) (w .column) i) (set (x .prices) (w .column) (w .price)) (y .frees) (y .pass)) p
       ∙ ap (settle n x i) e
+
+-- ---- what every look keeps
+
+-- Lists of n entries, and a next list that ends at `current` at most.
+pub record Sized (n : ℕ) (x : Passing) : Type 0 where
+  pub cols-size : length (x .pairs .cols) ≡ n
+  pub rows-size : length (x .pairs .rows) ≡ n
+  pub prices-size : length (x .prices) ≡ n
+  pub frees-size : length (x .frees) ≡ n
+  pub left-most : x .pass .left ≤ x .pass .current
+
+-- A free list of n entries, and a pass that has made one look more.
+record Moved (n looks : ℕ) (y : Placed) : Type 0 where
+  frees-size : length (y .frees) ≡ n
+  left-most : y .pass .left ≤ y .pass .current
+  one-more : y .pass .looks ≡ looks + 1
+
+displace-moved : (n m : ℕ) (frees : List ℕ) (p : Pass) (back : Bool) (h : ℕ) → length frees ≡ m → p .left ≤ p .current → Moved m (p .looks) (displace n frees p back h)
+displace-moved n m frees p back h size most =
+    let again = placedAt (set frees (p .current) h) (passAt (p .current) (p .left) (p .looks + 1)) in
+    let next = placedAt (set frees (p .left) h) (passAt (p .current + 1) (p .left + 1) (p .looks + 1)) in
+    let none = placedAt frees (passAt (p .current + 1) (p .left) (p .looks + 1)) in
+    cond-cases (ltb h n) (Moved m (p .looks)) (cond back again next) none
+    (λ t. cond-cases back (Moved m (p .looks)) again next
+    (λ r. record { frees-size = length-set frees (p .current) h ∙ size; left-most = most; one-more = refl })
+    (λ r. record { frees-size = length-set frees (p .left) h ∙ size; left-most = omega arith; one-more = refl }))
+    (λ t. record { frees-size = size; left-most = omega arith; one-more = refl })
+
+module _ (n : ℕ) (cost : ℕ → ℕ → ℤ) (x : Passing) (s : Sized n x) where
+  look-moved : Moved n (x .pass .looks) (placedAt (look n cost x .frees) (look n cost x .pass))
+  look-moved =
+      let w = choiceOf n cost x in
+      displace-moved n n (x .frees) (x .pass) (w .back) (at (x .pairs .rows) (w .column)) (s .frees-size) (s .left-most)
+
+  look-sized : Sized n (look n cost x)
+  look-sized =
+      let i = at (x .frees) (x .pass .current) in
+      let w = choiceOf n cost x in
+      record {
+        cols-size = length-set (x .pairs .cols) i (w .column) ∙ s .cols-size;
+        rows-size = length-set (x .pairs .rows) (w .column) i ∙ s .rows-size;
+        prices-size = length-set (x .prices) (w .column) (w .price) ∙ s .prices-size;
+        frees-size = look-moved .frees-size;
+        left-most = look-moved .left-most;
+      }
+
+  look-counts : look n cost x .pass .looks ≡ x .pass .looks + 1
+  look-counts = look-moved .one-more
+
+-- ---- a run of looks
+
+module _ (n : ℕ) (cost : ℕ → ℕ → ℤ) (count : ℕ) (x : Passing) where
+  -- A turn: a look, where a row is left.
+  abbrev turn : ℕ → Passing → Passing
+  turn k y = cond (ltb (y .pass .current) count) (look n cost y) y
+
+  -- Where the run stands after m turns.
+  abbrev run : ℕ → Passing
+  run m = looks n cost count m x
+
+  run-none : run 0 ≡ x
+  unfolding looks
+  run-none = upward-none 0 0 turn x (omega arith)
+
+  run-last : (m : ℕ) → run (suc m) ≡ turn m (run m)
+  unfolding looks
+  run-last m = upward-last 0 m turn x (omega arith)
+
+  run-more : (m : ℕ) → run m .pass .current < count → run (suc m) ≡ look n cost (run m)
+  run-more m h = run-last m ∙ ap (λ (t : Bool). cond t (look n cost (run m)) (run m)) (lt-ltb (run m .pass .current) count h)
+
+  run-stops : (m : ℕ) → count ≤ run m .pass .current → run (suc m) ≡ run m
+  run-stops m h = run-last m ∙ ap (λ (t : Bool). cond t (look n cost (run m)) (run m)) (le-ltb (run m .pass .current) count h)
+
+  run-rests : (m : ℕ) → count ≤ run m .pass .current → (d : ℕ) → run (m + d) ≡ run m
+  run-rests m h zero = ap run (add-zero m)
+  run-rests m h (suc d) =
+      let e = run-rests m h d in
+      ap run (add-suc m d) ∙ run-stops (m + d) (omega (arith, ap (λ (y : Passing). y .pass .current) e)) ∙ e
+
+  run-sized : Sized n x → (m : ℕ) → Sized n (run m)
+  run-sized s zero = subst (Sized n) (sym run-none) s
+  run-sized s (suc m) =
+      let before = run-sized s m in
+      subst (Sized n) (sym (run-last m))
+      (cond-cases (ltb (run m .pass .current) count) (Sized n) (look n cost (run m)) (run m) (λ t. look-sized n cost (run m) before) (λ t. before))
+
+-- ---- the loop of a pass, at its head: it stands where its counter says
+
+pub record Head (n : ℕ) (cost : ℕ → ℕ → ℤ) (count : ℕ) (x y : Passing) : Type 0 where
+  pub stands : y ≡ looks n cost count (y .pass .looks) x
+  pub most : y .pass .looks ≤ count * n
+
+module _ {n : ℕ} {costs : List ℤ} {cols rows : List ℕ} {v : List ℤ} {frees : List ℕ} {count : ℕ} (p : Passable n costs cols rows v frees count) where
+  abbrev cost : ℕ → ℕ → ℤ
+  cost = square n costs .cost
+
+  abbrev begin : Passing
+  begin = passStart (stageAt cols rows v frees count)
+
+  pub head-start : Head n cost count begin begin
+  head-start = record { stands = sym (run-none n cost count begin); most = omega arith }
+
+  module _ (y : Passing) (h : Head n cost count begin y) where
+    pub sized : Sized n y
+    sized =
+        subst (Sized n) (sym (h .stands))
+        (run-sized n cost count begin (record { cols-size = p .cols-size; rows-size = p .rows-size; prices-size = p .prices-size; frees-size = p .frees-size; left-most = omega arith }) (y .pass .looks))
+
+    -- A row is left: the counter is below count * n.
+    module _ (more : y .pass .current < count) where
+      here : looks n cost count (y .pass .looks) begin .pass .current < count
+      here = subst (λ (z : Passing). z .pass .current < count) (h .stands) more
+
+      pub below : y .pass .looks < count * n
+      below = by (decLt (y .pass .looks) (count * n))
+        where
+          by : Dec (y .pass .looks < count * n) → y .pass .looks < count * n
+          by (yes l) = l
+          by (no l) =
+              let m = y .pass .looks in
+              let e : count * n + (m - count * n) ≡ m = omega arith in
+              let q : run n cost count begin m ≡ run n cost count begin (count * n) = ap (run n cost count begin) (sym e) ∙ run-rests n cost count begin (count * n) (p .ends) (m - count * n) in
+              absurd (omega (arith, here, p .ends, ap (λ (z : Passing). z .pass .current) q))
+
+      pub ready : Ready n costs y
+      ready =
+          let side-fits : n ≤ 2 ^ 16 = omega (arith, side-small, p .squared .small) in
+          let count-fits : count ≤ 2 ^ 16 = omega (arith, p .count-most) in
+          record {
+            squared = p .squared;
+            cols-size = sized .cols-size;
+            rows-size = sized .rows-size;
+            prices-size = sized .prices-size;
+            frees-size = sized .frees-size;
+            current-below = omega (arith, p .count-most);
+            left-most = sized .left-most;
+            looks-fit = omega (arith, below, mul-le-mul count-fits side-fits);
+            row-below = subst (λ (z : Passing). at (z .frees) (z .pass .current) < n) (sym (h .stands)) (p .row-below (y .pass .looks) below here);
+            near-prices = subst (λ (z : Passing). Near n (z .prices)) (sym (h .stands)) (p .near-prices (y .pass .looks) below here);
+          }
+
+      counted : (z : Passing) → z ≡ look n cost y → z .pass .looks ≡ suc (y .pass .looks)
+      counted z e = ap (λ (q : Passing). q .pass .looks) e ∙ look-counts n cost y sized ∙ add-one (y .pass .looks)
+
+      pub head-next : (z : Passing) → z ≡ look n cost y → Head n cost count begin z
+      head-next z e = record {
+        stands = e ∙ ap (look n cost) (h .stands) ∙ sym (run-more n cost count begin (y .pass .looks) here) ∙ ap (run n cost count begin) (sym (counted z e));
+        most = omega (arith, counted z e, below);
+      }
+
+      pub nearer : (z : Passing) → z ≡ look n cost y → count * n - z .pass .looks < count * n - y .pass .looks
+      nearer z e = omega (arith, counted z e, below)
+
+    pub head-ends : count ≤ y .pass .current → y ≡ rowReduction n cost (stageAt cols rows v frees count)
+    unfolding rowReduction
+    head-ends l =
+        let m = y .pass .looks in
+        let e : m + (count * n - m) ≡ count * n = omega (arith, h .most) in
+        h .stands ∙ sym (run-rests n cost count begin m (subst (λ (z : Passing). count ≤ z .pass .current) (h .stands) l) (count * n - m)) ∙ ap (run n cost count begin) e

@@ -143,3 +143,27 @@ fn look(
     rows[j] = i as u32;
     displace(n, frees, pass, back, h)
 }
+
+// Rule 4: a pass over the first `count` rows of the free list. The rows that are still free are the first `left` of it then.
+pub fn carr_dense(
+    n: usize,
+    costs: &[i32],
+    cols: &mut [u32],
+    rows: &mut [u32],
+    v: &mut [i64],
+    frees: &mut [u32],
+    count: usize,
+) -> Pass
+    requires { ⌜ Passable n (now costs) (now cols) (now rows) (now v) (now frees) count ⌝ }
+    ensures { λ r. ⌜ passingAt (now (cols .exit)) (now (rows .exit)) (now (v .exit)) (now (frees .exit)) r ≡ rowReduction n (square n (now (costs .entry)) .cost) (stageAt (now (cols .entry)) (now (rows .entry)) (now (v .entry)) (now (frees .entry)) count) ⌝ }
+{
+    let mut pass = Pass {
+        current: 0,
+        left: 0,
+        looks: 0,
+    };
+    while pass.current < count {
+        pass = look(n, costs, cols, rows, v, frees, pass);
+    }
+    pass
+}
