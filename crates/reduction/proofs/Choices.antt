@@ -22,7 +22,7 @@ use Rattle.rules.specs.declared.Choice.{Choice}
 use Rattle.rules.specs.declared.Pass.{Pass}
 use Rattle.rules.specs.Rows.{keepPrice, lowerPrice, choose, passAt, displace}
 use Rattle.rules.proofs.Cases.{cond-cases}
-use Rattle.reduction.specs.Ranges.{near}
+use Rattle.matrix.specs.Limits.{near}
 use Rattle.reduction.specs.Rows.{Inside, placedAt}
 
 -- ---- a choice

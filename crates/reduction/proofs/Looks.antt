@@ -2,23 +2,23 @@
 use mathlib.Core.Path.{_≡_, refl, sym, ap, _∙_, subst}
 use mathlib.Core.Bool.{Bool, cond}
 use mathlib.Core.List.{List}
-use Prim.Native.Nat.{ℕ, zero, suc, _+_, _*_, _-_, _^_, _≤_, _<_}
+use Prim.Native.Nat.{ℕ, suc, _+_, _*_, _-_, _^_, _≤_, _<_}
 use native.Mathlib.Decide.{decLt}
-use native.Mathlib.Nat.{add-zero, add-suc, mul-le-mul}
+use native.Mathlib.Nat.{mul-le-mul}
 use native.Mathlib.Numerals.{add-one}
 use native.Mathlib.Omega.{arith}
-use borrow.Author.Tests.{lt-ltb, le-ltb}
 use lib.Dec.{ltb}
 use lib.IntN.{ℤ}
 use lib.ListN.{length, set, length-set}
 use Rattle.lists.specs.Permutations.{at}
-use Rattle.lists.proofs.Runs.{upward-none, upward-last}
+use Rattle.lists.proofs.Runs.{upward-keeps}
 use Rattle.assignment.specs.Pairings.{square, price}
 use Rattle.rules.specs.declared.Choice.{Choice}
 use Rattle.rules.specs.declared.Pass.{Pass}
 use Rattle.rules.specs.Lowest.{reduced, twoLowest}
 use Rattle.rules.specs.Rows.{Passing, Placed, choose, passAt, displace, settle, isEarly, look, looks, passStart, rowReduction}
 use Rattle.rules.proofs.Cases.{cond-cases}
+use Rattle.rules.proofs.Passes.{looks-none, looks-more, looks-rest}
 use Rattle.matrix.proofs.Limits.{side-small}
 use Rattle.reduction.specs.Ranges.{Near}
 use Rattle.reduction.specs.Columns.{stageAt}
@@ -86,43 +86,11 @@ module _ (n : ℕ) (cost : ℕ → ℕ → ℤ) (x : Passing) (s : Sized n x) wh
   look-counts : look n cost x .pass .looks ≡ x .pass .looks + 1
   look-counts = look-moved .one-more
 
--- ---- a run of looks
-
-module _ (n : ℕ) (cost : ℕ → ℕ → ℤ) (count : ℕ) (x : Passing) where
-  -- A turn: a look, where a row is left.
-  abbrev turn : ℕ → Passing → Passing
-  turn k y = cond (ltb (y .pass .current) count) (look n cost y) y
-
-  -- Where the run stands after m turns.
-  abbrev run : ℕ → Passing
-  run m = looks n cost count m x
-
-  run-none : run 0 ≡ x
-  unfolding looks
-  run-none = upward-none 0 0 turn x (omega arith)
-
-  run-last : (m : ℕ) → run (suc m) ≡ turn m (run m)
-  unfolding looks
-  run-last m = upward-last 0 m turn x (omega arith)
-
-  run-more : (m : ℕ) → run m .pass .current < count → run (suc m) ≡ look n cost (run m)
-  run-more m h = run-last m ∙ ap (λ (t : Bool). cond t (look n cost (run m)) (run m)) (lt-ltb (run m .pass .current) count h)
-
-  run-stops : (m : ℕ) → count ≤ run m .pass .current → run (suc m) ≡ run m
-  run-stops m h = run-last m ∙ ap (λ (t : Bool). cond t (look n cost (run m)) (run m)) (le-ltb (run m .pass .current) count h)
-
-  run-rests : (m : ℕ) → count ≤ run m .pass .current → (d : ℕ) → run (m + d) ≡ run m
-  run-rests m h zero = ap run (add-zero m)
-  run-rests m h (suc d) =
-      let e = run-rests m h d in
-      ap run (add-suc m d) ∙ run-stops (m + d) (omega (arith, ap (λ (y : Passing). y .pass .current) e)) ∙ e
-
-  run-sized : Sized n x → (m : ℕ) → Sized n (run m)
-  run-sized s zero = subst (Sized n) (sym run-none) s
-  run-sized s (suc m) =
-      let before = run-sized s m in
-      subst (Sized n) (sym (run-last m))
-      (cond-cases (ltb (run m .pass .current) count) (Sized n) (look n cost (run m)) (run m) (λ t. look-sized n cost (run m) before) (λ t. before))
+looks-sized : (n : ℕ) (cost : ℕ → ℕ → ℤ) (count : ℕ) (x : Passing) → Sized n x → (m : ℕ) → Sized n (looks n cost count m x)
+unfolding looks
+looks-sized n cost count x s m =
+    upward-keeps (λ k. Sized n) 0 m (λ k y. cond (ltb (y .pass .current) count) (look n cost y) y) x (omega arith) s
+    (λ k y l h z. cond-cases (ltb (y .pass .current) count) (Sized n) (look n cost y) y (λ t. look-sized n cost y z) (λ t. z))
 
 -- ---- the loop of a pass, at its head: it stands where its counter says
 
@@ -138,13 +106,17 @@ module _ {n : ℕ} {costs : List ℤ} {cols rows : List ℕ} {v : List ℤ} {fre
   begin = passStart (stageAt cols rows v frees count)
 
   pub head-start : Head n cost count begin begin
-  head-start = record { stands = sym (run-none n cost count begin); most = omega arith }
+  head-start = record { stands = sym (looks-none n cost count begin); most = omega arith }
+
+  -- Where the pass stands after m turns.
+  abbrev after : ℕ → Passing
+  after m = looks n cost count m begin
 
   module _ (y : Passing) (h : Head n cost count begin y) where
     pub sized : Sized n y
     sized =
         subst (Sized n) (sym (h .stands))
-        (run-sized n cost count begin (record { cols-size = p .cols-size; rows-size = p .rows-size; prices-size = p .prices-size; frees-size = p .frees-size; left-most = omega arith }) (y .pass .looks))
+        (looks-sized n cost count begin (record { cols-size = p .cols-size; rows-size = p .rows-size; prices-size = p .prices-size; frees-size = p .frees-size; left-most = omega arith }) (y .pass .looks))
 
     -- A row is left: the counter is below count * n.
     module _ (more : y .pass .current < count) where
@@ -159,7 +131,7 @@ module _ {n : ℕ} {costs : List ℤ} {cols rows : List ℕ} {v : List ℤ} {fre
           by (no l) =
               let m = y .pass .looks in
               let e : count * n + (m - count * n) ≡ m = omega arith in
-              let q : run n cost count begin m ≡ run n cost count begin (count * n) = ap (run n cost count begin) (sym e) ∙ run-rests n cost count begin (count * n) (p .ends) (m - count * n) in
+              let q : after m ≡ after (count * n) = ap after (sym e) ∙ looks-rest n cost count begin (count * n) (p .ends) (m - count * n) in
               absurd (omega (arith, here, p .ends, ap (λ (z : Passing). z .pass .current) q))
 
       pub ready : Ready n costs y
@@ -184,7 +156,7 @@ module _ {n : ℕ} {costs : List ℤ} {cols rows : List ℕ} {v : List ℤ} {fre
 
       pub head-next : (z : Passing) → z ≡ look n cost y → Head n cost count begin z
       head-next z e = record {
-        stands = e ∙ ap (look n cost) (h .stands) ∙ sym (run-more n cost count begin (y .pass .looks) here) ∙ ap (run n cost count begin) (sym (counted z e));
+        stands = e ∙ ap (look n cost) (h .stands) ∙ sym (looks-more n cost count begin (y .pass .looks) here) ∙ ap after (sym (counted z e));
         most = omega (arith, counted z e, below);
       }
 
@@ -196,4 +168,4 @@ module _ {n : ℕ} {costs : List ℤ} {cols rows : List ℕ} {v : List ℤ} {fre
     head-ends l =
         let m = y .pass .looks in
         let e : m + (count * n - m) ≡ count * n = omega (arith, h .most) in
-        h .stands ∙ sym (run-rests n cost count begin m (subst (λ (z : Passing). count ≤ z .pass .current) (h .stands) l) (count * n - m)) ∙ ap (run n cost count begin) e
+        h .stands ∙ sym (looks-rest n cost count begin m (subst (λ (z : Passing). count ≤ z .pass .current) (h .stands) l) (count * n - m)) ∙ ap after e

@@ -16,7 +16,8 @@ use Rattle.rules.specs.declared.Least.{Least}
 use Rattle.rules.specs.declared.Least.the-variants.{NoneYet, Of}
 use Rattle.rules.specs.Lowest.{reduced, twoLowest, leastBut}
 use Rattle.rules.proofs.Lowest.{RightTwo, twoLowest-is, RightBut, leastBut-is}
-use Rattle.reduction.specs.Ranges.{near, Near, Square}
+use Rattle.matrix.specs.Limits.{near}
+use Rattle.reduction.specs.Ranges.{Near, Square}
 use Rattle.reduction.specs.Columns.{NearLeast}
 use Rattle.reduction.specs.Rows.{Inside}
 

@@ -1,23 +1,22 @@
--- A row as a part of the costs: how long it is, what stands in it, and what the rules make of it. Assumes nothing.
+-- What the rules make of a row that was handed back as a part of the costs. Assumes nothing.
 use mathlib.Core.Path.{_≡_, ap, _∙_}
 use mathlib.Core.List.{List}
-use Prim.Native.Nat.{ℕ, _+_, _*_, _≤_, _<_}
-use native.Mathlib.Nat.{mul-le-mul-right}
+use Prim.Native.Nat.{ℕ, _*_, _<_}
 use native.Mathlib.Omega.{arith}
-use lib.IntN.{ℤ, pos, _-ℤ_}
+use lib.IntN.{ℤ, _-ℤ_}
 use lib.ListN.{length}
 use Rattle.lists.specs.Parts.{part}
-use Rattle.lists.proofs.Parts.{part-length, part-at}
 use Rattle.assignment.specs.Pairings.{square, price}
 use Rattle.rules.specs.Lowest.{reduced, twoLowest, leastBut}
 use Rattle.rules.proofs.Lowest.{twoLowest-cong, leastBut-cong}
+use Rattle.matrix.proofs.Rows as parts
 
 module _ (n i : ℕ) (costs row : List ℤ) (inside : i < n) (size : length costs ≡ n * n) (is : row ≡ part (i * n) n costs) where
   pub row-length : length row ≡ n
-  row-length = ap length is ∙ part-length (i * n) n costs (omega (arith, mul-le-mul-right n inside))
+  row-length = ap length is ∙ parts.row-length n costs i inside size
 
   pub row-at : (j : ℕ) → j < n → price row j ≡ square n costs .cost i j
-  row-at j h = ap (λ (l : List ℤ). price l j) is ∙ part-at (i * n) n costs j (pos 0) h
+  row-at j h = ap (λ (l : List ℤ). price l j) is ∙ parts.row-at n costs i j h
 
   module _ (v : List ℤ) where
     pub row-twoLowest : twoLowest (length row) (λ j. price row j -ℤ price v j) ≡ twoLowest n (reduced (square n costs .cost) (price v) i)

@@ -14,7 +14,8 @@ use Rattle.rules.specs.declared.Least.{Least}
 use Rattle.rules.specs.declared.Least.the-variants.{NoneYet, Of}
 use Rattle.rules.specs.Lowest.{low, lower}
 use Rattle.rules.specs.Columns.{Stage, Claims, claims, Transfer, transfer, untransferred}
-use Rattle.reduction.specs.Ranges.{near, Near, Square}
+use Rattle.matrix.specs.Limits.{near}
+use Rattle.reduction.specs.Ranges.{Near, Square}
 
 -- Row i beside the lowest so far of column j.
 abbrev pub lowAt : ℕ → List ℤ → List ℤ → List ℕ → ℕ → Low

@@ -1,16 +1,12 @@
--- How large numbers may be: a price lies so near to 0 that no sum or difference of a few such numbers wraps in 64 bits.
+-- What the rules' code asks of numbers: costs and prices lie so near to 0 that no sum or difference of a few of them wraps in 64 bits.
 use mathlib.Core.Path.{_≡_}
 use mathlib.Core.List.{List}
-use Prim.Native.Nat.{ℕ, _*_, _^_, _≤_, _<_}
+use Prim.Native.Nat.{ℕ, _*_, _≤_, _<_}
 use lib.IntN.{ℤ}
 use lib.ListN.{length}
 use Rattle.ints.specs.Parts.{Within}
 use Rattle.assignment.specs.Pairings.{square, price}
-use Rattle.matrix.specs.Limits.{side}
-
--- The bound of the prices: loose, far above 5K and far below 2 ^ 63.
-abbrev pub near : ℕ
-near = 2 ^ 40
+use Rattle.matrix.specs.Limits.{side, near}
 
 -- The first n prices of a list are near.
 abbrev pub Near : ℕ → List ℤ → Type 0

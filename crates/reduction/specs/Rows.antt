@@ -11,7 +11,8 @@ use Rattle.rules.specs.declared.TwoLowest.{TwoLowest}
 use Rattle.rules.specs.declared.TwoLowest.the-variants.{One, Two}
 use Rattle.rules.specs.declared.Pass.{Pass}
 use Rattle.rules.specs.Rows.{Passing, Placed, looks, passStart}
-use Rattle.reduction.specs.Ranges.{near, Near, Square}
+use Rattle.matrix.specs.Limits.{near}
+use Rattle.reduction.specs.Ranges.{Near, Square}
 use Rattle.reduction.specs.Columns.{stageAt}
 
 -- What a choice asks of the two lowest: columns in range, and values that are reduced costs of near numbers.

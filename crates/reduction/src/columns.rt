@@ -10,8 +10,8 @@ ghost use Rattle.assignment.specs.Pairings.{price, square};
 ghost use Rattle.rules.specs.Lowest.{lower, least, leastBut};
 ghost use Rattle.rules.specs.Columns.{Claims, minimum, claim, claims, lessLeast, lowerColumn, transfer, columnReduction};
 ghost use Rattle.ints.specs.Parts.{Within};
-ghost use Rattle.matrix.specs.Limits.{side};
-ghost use Rattle.reduction.specs.Ranges.{near, Near, Square};
+ghost use Rattle.matrix.specs.Limits.{side, near};
+ghost use Rattle.reduction.specs.Ranges.{Near, Square};
 ghost use Rattle.reduction.specs.Columns.{lowAt, claimsOf, Claimable, NearLeast, transferOf, Transferable, Transferred, transferring, stageAt, Reducible};
 use rules::Least;
 use rules::Low;
@@ -133,7 +133,7 @@ fn least_other(row: &[i32], v: &[i64], j: usize) -> Least
     let mut k = 0;
     while k < row.len() {
         if k != j {
-            found = least(found, super::reduced(row[k], v[k]));
+            found = least(found, matrix::reduced_cost(row[k], v[k]));
         }
         k += 1;
     }

@@ -41,13 +41,13 @@ pub fn find_umins_plain(row: &[i32], v: &[i64]) -> TwoLowest
     ensures { λ r. ⌜ r ≡ twoLowest (length (now (row .entry))) (λ j. price (now (row .entry)) j -ℤ price (now (v .entry)) j) ⌝ }
 {
     let mut found = TwoLowest::One(Low {
-        value: super::reduced(row[0], v[0]),
+        value: matrix::reduced_cost(row[0], v[0]),
         place: 0,
     });
     let mut j = 1;
     while j < row.len() {
         let h = Low {
-            value: super::reduced(row[j], v[j]),
+            value: matrix::reduced_cost(row[j], v[j]),
             place: j,
         };
         found = step(found, h);

@@ -29,23 +29,23 @@ abbrev μ-loop : tie.MeasureT-loop
 loop-holds : tie.Need-loop-holds Inv-loop μ-loop
 loop-holds c = (omega arith, sym (leastBut-none (at (c .args .row .now) (c .args .v .now)) (c .args .j)))
 
-mul-reduced : tie.Need-mul-reduced Inv-loop μ-loop
-mul-reduced c = search needs
+mul-reduced-cost : tie.Need-mul-reduced-cost Inv-loop μ-loop
+mul-reduced-cost c = search needs
 
-shared-slice-copy-out-reduced : tie.Need-shared-slice-copy-out-reduced Inv-loop μ-loop
-shared-slice-copy-out-reduced c = search needs
+shared-slice-copy-out-reduced-cost : tie.Need-shared-slice-copy-out-reduced-cost Inv-loop μ-loop
+shared-slice-copy-out-reduced-cost c = search needs
 
-mul-reduced-2 : tie.Need-mul-reduced-2 Inv-loop μ-loop
-mul-reduced-2 c = search needs
+mul-reduced-cost-2 : tie.Need-mul-reduced-cost-2 Inv-loop μ-loop
+mul-reduced-cost-2 c = search needs
 
-shared-slice-copy-out-reduced-2 : tie.Need-shared-slice-copy-out-reduced-2 Inv-loop μ-loop
-shared-slice-copy-out-reduced-2 c = search needs
+shared-slice-copy-out-reduced-cost-2 : tie.Need-shared-slice-copy-out-reduced-cost-2 Inv-loop μ-loop
+shared-slice-copy-out-reduced-cost-2 c = search needs
 
-reduced-requires : tie.Need-reduced-requires Inv-loop μ-loop
-reduced-requires c κs =
+reduced-cost-requires : tie.Need-reduced-cost-requires Inv-loop μ-loop
+reduced-cost-requires c κs =
     let s = c .before .before .before .before .before in
     let k = c .before .before .before .before .loop .k in
-    rw (read-back w64 (price (s .args .v .now) k) (c .reduced-arg2 .given)) (s .pre .1 k (c .before .before .before .loop-test .taken))
+    rw (read-back w64 (price (s .args .v .now) k) (c .reduced-cost-arg2 .given)) (s .pre .1 k (c .before .before .before .loop-test .taken))
 
 least-requires : tie.Need-least-requires Inv-loop μ-loop
 least-requires c κs = search needs
@@ -83,11 +83,11 @@ least-other-spec =
     Inv-loop
     μ-loop
     loop-holds
-    mul-reduced
-    shared-slice-copy-out-reduced
-    mul-reduced-2
-    shared-slice-copy-out-reduced-2
-    reduced-requires
+    mul-reduced-cost
+    shared-slice-copy-out-reduced-cost
+    mul-reduced-cost-2
+    shared-slice-copy-out-reduced-cost-2
+    reduced-cost-requires
     least-requires
     add-k
     loop-less

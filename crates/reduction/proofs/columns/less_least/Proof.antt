@@ -8,7 +8,7 @@ use mir.Val.{SFits}
 use mir.Facts.{toZ-ofZ}
 use Rattle.ints.specs.Parts.{Within}
 use Rattle.ints.proofs.Shapes.{zlin}
-use Rattle.reduction.specs.Ranges.{near}
+use Rattle.matrix.specs.Limits.{near}
 use Rattle.reduction.specs.Columns.{NearLeast}
 use Rattle.reduction.proofs.Nearness.{twice-fits}
 use Rattle.reduction.proofs.columns.less_least.Statement.{statement}

@@ -1,31 +1,32 @@
 -- `lower_minima` puts row i beside the minima, column by column. Assumes nothing.
 use mathlib.Core.Path.{_≡_, sym, ap, ap₂, _∙_, subst}
-use mathlib.Core.List.{List}
+use mathlib.Core.List.{List, _++_}
 use Prim.Native.Nat.{ℕ, _^_, _≤_, _<_, _-_}
 use native.Mathlib.Omega.{arith}
 use borrow.Author.Needs.{needs}
 use lib.IntN.{ℤ, pos}
 use lib.Signed.{ltZ}
-use lib.ListN.{length, set, length-set}
+use lib.ListN.{length, set, drop, length-set}
 use mir.Syntax.{w32, w64}
 use mir.Val.{SFits, toZ, ofZ}
 use mir.Facts.{toZ-ofZ}
 use Rattle.ints.proofs.Bits.{read-back, read-wide, wide-fits}
 use Rattle.lists.specs.Permutations.{at, table}
+use Rattle.lists.proofs.Tables.{filled-none, filled-more, filled-all}
 use Rattle.assignment.specs.Pairings.{price}
 use Rattle.rules.specs.declared.Low.{Low}
 use Rattle.rules.specs.Lowest.{low, lower}
 use Rattle.rules.proofs.Cases.{cond-cases}
 use Rattle.reduction.specs.Columns.{lowAt}
 use Rattle.reduction.proofs.Turns.{lower-cong}
-use Rattle.reduction.proofs.Fills.{filled, filled-none, filled-next, filled-set, filled-all}
+use Rattle.reduction.proofs.Fills.{filled-next}
 use Rattle.reduction.proofs.columns.lower_minima.Statement.{statement}
 use Rattle.reduction.proofs.columns.lower_minima.Tie as tie
 
 abbrev Inv-loop : tie.InvT-loop
 Inv-loop i row rows₀ v₀ j₀ rows v j =
     (length rows ≡ length row) × (length v ≡ length row) × (j ≤ length row)
-    × (rows ≡ filled j (λ k. lowAt i row v₀ rows₀ k .place) rows₀) × (v ≡ filled j (λ k. lowAt i row v₀ rows₀ k .value) v₀)
+    × (rows ≡ table j (λ k. lowAt i row v₀ rows₀ k .place) ++ drop j rows₀) × (v ≡ table j (λ k. lowAt i row v₀ rows₀ k .value) ++ drop j v₀)
 
 abbrev μ-loop : tie.MeasureT-loop
 μ-loop i row rows₀ v₀ j₀ rows v j = length row - j
@@ -124,8 +125,8 @@ loop-again c =
       length-set (l .rows) j _ ∙ l .inv .0,
       length-set (l .v) j _ ∙ l .inv .1,
       omega arith,
-      ap₂ (λ (x : List ℕ) (y : Low). set x j (y .place)) (l .inv .3) (found (c .before)) ∙ filled-set (λ k. f k .place) (u .rows .now) j there,
-      ap₂ (λ (x : List ℤ) (y : ℤ). set x j y) (l .inv .4) (toZ-ofZ fits ∙ ap (λ (y : Low). y .value) (found (c .before))) ∙ filled-set (λ k. f k .value) (u .v .now) j here,
+      ap₂ (λ (x : List ℕ) (y : Low). set x j (y .place)) (l .inv .3) (found (c .before)) ∙ filled-more j (λ k. f k .place) (u .rows .now) there,
+      ap₂ (λ (x : List ℤ) (y : ℤ). set x j y) (l .inv .4) (toZ-ofZ fits ∙ ap (λ (y : Low). y .value) (found (c .before))) ∙ filled-more j (λ k. f k .value) (u .v .now) here,
     )
 
 same-length : tie.Need-same-length Inv-loop μ-loop
@@ -139,10 +140,9 @@ returns c =
     let s = c .before .before .before in
     let u = s .args in
     let l = c .before .loop in
-    let e : l .j ≡ length (u .row .now) = omega arith in
     let f : ℕ → Low = λ k. lowAt (u .i) (u .row .now) (u .v .now) (u .rows .now) k in (
-      l .inv .3 ∙ filled-all (λ k. f k .place) (u .rows .now) (l .j) (omega (arith, s .pre .1)) ∙ ap (λ (m : ℕ). table m (λ k. f k .place)) e,
-      l .inv .4 ∙ filled-all (λ k. f k .value) (u .v .now) (l .j) (omega (arith, s .pre .2)) ∙ ap (λ (m : ℕ). table m (λ k. f k .value)) e,
+      l .inv .3 ∙ filled-all (l .j) (λ k. f k .place) (u .rows .now) (omega (arith, s .pre .1)) ∙ ap (λ (m : ℕ). table m (λ k. f k .place)) (s .pre .1),
+      l .inv .4 ∙ filled-all (l .j) (λ k. f k .value) (u .v .now) (omega (arith, s .pre .2)) ∙ ap (λ (m : ℕ). table m (λ k. f k .value)) (s .pre .2),
     )
 
 pub lower-minima-spec : {M : Type 1} → statement M

@@ -1,21 +1,20 @@
 -- `widen` leaves the row: its first j costs stand there already. Assumes nothing.
-use mathlib.Core.Path.{_≡_, sym, ap, ap₂, _∙_}
-use mathlib.Core.List.{List}
+use mathlib.Core.Path.{_≡_, ap, ap₂, _∙_}
+use mathlib.Core.List.{List, _++_}
 use Prim.Native.Nat.{ℕ, _≤_, _-_}
 use native.Mathlib.Omega.{arith}
 use borrow.Author.Needs.{needs}
 use lib.IntN.{ℤ, pos}
-use lib.ListN.{length, set, length-set}
+use lib.ListN.{length, set, drop, length-set}
 use Rattle.ints.proofs.Bits.{read-wide, wide-fits}
 use Rattle.lists.specs.Permutations.{table}
-use Rattle.lists.proofs.Tables.{table-getD}
+use Rattle.lists.proofs.Tables.{table-getD, filled-none, filled-more, filled-all}
 use Rattle.assignment.specs.Pairings.{price}
-use Rattle.reduction.proofs.Fills.{filled, filled-none, filled-set, filled-all}
 use Rattle.reduction.proofs.columns.widen.Statement.{statement}
 use Rattle.reduction.proofs.columns.widen.Tie as tie
 
 abbrev Inv-loop : tie.InvT-loop
-Inv-loop row v₀ j₀ v j = (length v ≡ length v₀) × (j ≤ length row) × (v ≡ filled j (price row) v₀)
+Inv-loop row v₀ j₀ v j = (length v ≡ length v₀) × (j ≤ length row) × (v ≡ table j (price row) ++ drop j v₀)
 
 abbrev μ-loop : tie.MeasureT-loop
 μ-loop row v₀ j₀ v j = length row - j
@@ -50,7 +49,7 @@ loop-again c =
     let l = c .before .before .loop in
     let x = price (u .row .now) (l .j) in
     let e = ap₂ (λ (y : List ℤ) (z : ℤ). set y (l .j) z) (l .inv .2) (read-wide x (c .v .given)) in
-    (length-set (l .v) (l .j) _ ∙ l .inv .0, omega arith, e ∙ filled-set (price (u .row .now)) (u .v .now) (l .j) (omega arith))
+    (length-set (l .v) (l .j) _ ∙ l .inv .0, omega arith, e ∙ filled-more (l .j) (price (u .row .now)) (u .v .now) (omega arith))
 
 same-length : tie.Need-same-length Inv-loop μ-loop
 same-length c = c .before .loop .inv .0
@@ -59,8 +58,7 @@ returns : tie.Need-returns Inv-loop μ-loop
 returns c =
     let u = c .before .before .args in
     let l = c .before .loop in
-    let e : l .j ≡ length (u .row .now) = omega arith in
-    l .inv .2 ∙ filled-all (price (u .row .now)) (u .v .now) (l .j) (omega arith) ∙ ap (λ (m : ℕ). table m (price (u .row .now))) e ∙ table-getD (u .row .now) (pos 0)
+    l .inv .2 ∙ filled-all (l .j) (price (u .row .now)) (u .v .now) (omega arith) ∙ ap (λ (m : ℕ). table m (price (u .row .now))) (c .before .before .pre) ∙ table-getD (u .row .now) (pos 0)
 
 pub widen-spec : {M : Type 1} → statement M
 widen-spec =

@@ -27,42 +27,42 @@ Inv-loop row v found₀ j₀ found j = (1 ≤ j) × (j ≤ length row) × (found
 abbrev μ-loop : tie.MeasureT-loop
 μ-loop row v found₀ j₀ found j = length row - j
 
-shared-slice-copy-out-reduced : tie.Need-shared-slice-copy-out-reduced Inv-loop μ-loop
-shared-slice-copy-out-reduced c = search needs
+shared-slice-copy-out-reduced-cost : tie.Need-shared-slice-copy-out-reduced-cost Inv-loop μ-loop
+shared-slice-copy-out-reduced-cost c = search needs
 
-shared-slice-copy-out-reduced-2 : tie.Need-shared-slice-copy-out-reduced-2 Inv-loop μ-loop
-shared-slice-copy-out-reduced-2 c = search needs
+shared-slice-copy-out-reduced-cost-2 : tie.Need-shared-slice-copy-out-reduced-cost-2 Inv-loop μ-loop
+shared-slice-copy-out-reduced-cost-2 c = search needs
 
-reduced-requires : tie.Need-reduced-requires Inv-loop μ-loop
-reduced-requires c κs =
+reduced-cost-requires : tie.Need-reduced-cost-requires Inv-loop μ-loop
+reduced-cost-requires c κs =
     let s = c .before .before in
-    rw (read-back w64 (price (s .args .v .now) 0) (c .reduced-arg2 .given)) (s .pre .prices 0 (s .pre .some))
+    rw (read-back w64 (price (s .args .v .now) 0) (c .reduced-cost-arg2 .given)) (s .pre .prices 0 (s .pre .some))
 
 loop-holds : tie.Need-loop-holds Inv-loop μ-loop
 loop-holds c =
     let u = c .before .before .before .args in
     let x = price (u .row .now) 0 in
     let y = price (u .v .now) 0 in
-    let e = reduced-back x y (c .reduced .result) (c .before .before .reduced-arg .given) (c .before .reduced-arg2 .given) (c .reduced .ok) (c .reduced .ensures) in
+    let e = reduced-back x y (c .reduced-cost .result) (c .before .before .reduced-cost-arg .given) (c .before .reduced-cost-arg2 .given) (c .reduced-cost .ok) (c .reduced-cost .ensures) in
     (omega arith, c .before .before .before .pre .some, ap (λ (z : ℤ). One (low z 0)) e ∙ sym (twoLowest-one (at (u .row .now) (u .v .now))))
 
-mul-reduced : tie.Need-mul-reduced Inv-loop μ-loop
-mul-reduced c = search needs
+mul-reduced-cost : tie.Need-mul-reduced-cost Inv-loop μ-loop
+mul-reduced-cost c = search needs
 
-shared-slice-copy-out-reduced-3 : tie.Need-shared-slice-copy-out-reduced-3 Inv-loop μ-loop
-shared-slice-copy-out-reduced-3 c = search needs
+shared-slice-copy-out-reduced-cost-3 : tie.Need-shared-slice-copy-out-reduced-cost-3 Inv-loop μ-loop
+shared-slice-copy-out-reduced-cost-3 c = search needs
 
-mul-reduced-2 : tie.Need-mul-reduced-2 Inv-loop μ-loop
-mul-reduced-2 c = search needs
+mul-reduced-cost-2 : tie.Need-mul-reduced-cost-2 Inv-loop μ-loop
+mul-reduced-cost-2 c = search needs
 
-shared-slice-copy-out-reduced-4 : tie.Need-shared-slice-copy-out-reduced-4 Inv-loop μ-loop
-shared-slice-copy-out-reduced-4 c = search needs
+shared-slice-copy-out-reduced-cost-4 : tie.Need-shared-slice-copy-out-reduced-cost-4 Inv-loop μ-loop
+shared-slice-copy-out-reduced-cost-4 c = search needs
 
-reduced-requires-2 : tie.Need-reduced-requires-2 Inv-loop μ-loop
-reduced-requires-2 c κs =
+reduced-cost-requires-2 : tie.Need-reduced-cost-requires-2 Inv-loop μ-loop
+reduced-cost-requires-2 c κs =
     let s = c .before .before .before .before .before .before .before in
     let j = c .before .before .before .loop .j in
-    rw (read-back w64 (price (s .args .v .now) j) (c .reduced-arg4 .given)) (s .pre .prices j (c .before .before .loop-test .taken))
+    rw (read-back w64 (price (s .args .v .now) j) (c .reduced-cost-arg4 .given)) (s .pre .prices j (c .before .before .loop-test .taken))
 
 step-requires : tie.Need-step-requires Inv-loop μ-loop
 step-requires c κs = search needs
@@ -79,8 +79,8 @@ loop-again c =
     let l = c .before .before .before .before .before .loop in
     let x = price (u .row .now) (l .j) in
     let y = price (u .v .now) (l .j) in
-    let r = c .before .reduced2 in
-    let e = reduced-back x y (r .result) (c .before .before .before .reduced-arg3 .given) (c .before .before .reduced-arg4 .given) (r .ok) (r .ensures) in
+    let r = c .before .reduced-cost2 in
+    let e = reduced-back x y (r .result) (c .before .before .before .reduced-cost-arg3 .given) (c .before .before .reduced-cost-arg4 .given) (r .ok) (r .ensures) in
     (omega arith, omega arith, c .step .ensures ∙ ap₂ (λ (t : TwoLowest) (z : ℤ). twoStep t (low z (l .j))) (l .inv .2) e ∙ sym (twoLowest-more (at (u .row .now) (u .v .now)) (l .j) (l .inv .0)))
 
 returns : tie.Need-returns Inv-loop μ-loop
@@ -96,15 +96,15 @@ find-umins-plain-spec =
     (tie.spec
     Inv-loop
     μ-loop
-    shared-slice-copy-out-reduced
-    shared-slice-copy-out-reduced-2
-    reduced-requires
+    shared-slice-copy-out-reduced-cost
+    shared-slice-copy-out-reduced-cost-2
+    reduced-cost-requires
     loop-holds
-    mul-reduced
-    shared-slice-copy-out-reduced-3
-    mul-reduced-2
-    shared-slice-copy-out-reduced-4
-    reduced-requires-2
+    mul-reduced-cost
+    shared-slice-copy-out-reduced-cost-3
+    mul-reduced-cost-2
+    shared-slice-copy-out-reduced-cost-4
+    reduced-cost-requires-2
     step-requires
     add-j
     loop-less
