@@ -25,7 +25,7 @@ pub twice-fits : {z : ℤ} → Within (near + near) z → SFits w64 z
 twice-fits {z} h = omega zlin
 
 module _ (n : ℕ) (costs v : List ℤ) (s : Square n costs) (prices : Near n v) where
-  pub reduced-near : (i j : ℕ) (z : ℤ) → i < n → j < n → z ≡ reduced (square n costs .cost) (price v) i j → Within (near + near) z
+  reduced-near : (i j : ℕ) (z : ℤ) → i < n → j < n → z ≡ reduced (square n costs .cost) (price v) i j → Within (near + near) z
   reduced-near i j z li lj e = omega (zlin, s .near-costs i j li lj, prices j lj)
 
   module _ (i : ℕ) (li : i < n) where

@@ -2,7 +2,7 @@
 -- Assumes nothing.
 use mathlib.Core.Path.{_≡_, refl, sym, ap, _∙_, subst}
 use mathlib.Core.List.{List, [], _++_}
-use Prim.Native.Nat.{ℕ, suc, _+_, _-_, _≤_, _<_}
+use Prim.Native.Nat.{ℕ, _+_, _-_, _≤_}
 use native.Mathlib.Omega.{arith}
 use lib.IntN.{ℤ}
 use lib.ListN.{length, take, drop}
@@ -16,21 +16,21 @@ use Rattle.assignment.specs.Pairings.{square}
 use Rattle.rules.specs.Columns.{minimum, Claims, claim, claims, unclaimed, Transfer, transfer, transfers, untransferred, columnReduction}
 use Rattle.rules.proofs.Lowest.{lowest-is}
 use Rattle.reduction.specs.Ranges.{Near}
-use Rattle.reduction.specs.Columns.{claimsOf, Claimable, transferOf, transferring, Transferable, Transferred, stageAt, transfersTo, Reducible}
+use Rattle.reduction.specs.Columns.{claimsOf, Claimable, transferring, Transferable, Transferred, stageAt, transfersTo, Reducible}
 use Rattle.reduction.proofs.Claims.{claim-claimable}
 use Rattle.reduction.proofs.Transfers.{transferOf-cong, run-sized}
 
 -- ---- a part [a, e) of n entries that is lent, and comes back as p
 
 module _ (n a e : ℕ) (l : List ℕ) (long : e - a ≡ n) (fits : a + n ≤ length l) where
-  pub lent-length : length (take (e - a) (drop a l)) ≡ n
+  lent-length : length (take (e - a) (drop a l)) ≡ n
   lent-length = ap (λ (k : ℕ). length (part a k l)) long ∙ part-length a n l fits
 
   module _ (p : List ℕ) (size : length p ≡ n) where
-    pub lent-is : take a l ++ (p ++ drop (e - a) (drop a l)) ≡ replaced a p l
+    lent-is : take a l ++ (p ++ drop (e - a) (drop a l)) ≡ replaced a p l
     lent-is = lent-back a e p l (size ∙ sym long)
 
-    pub lent-again : (m : List ℕ) → m ≡ replaced a p l → take (e - a) (drop a m) ≡ p
+    lent-again : (m : List ℕ) → m ≡ replaced a p l → take (e - a) (drop a m) ≡ p
     lent-again m q =
         ap (λ (k : List ℕ). part a (e - a) k) q ∙ ap (λ (k : ℕ). part a k (replaced a p l)) (long ∙ sym size)
         ∙ replaced-part a p l (omega arith)
@@ -39,7 +39,7 @@ module _ (n a e : ℕ) (l : List ℕ) (long : e - a ≡ n) (fits : a + n ≤ len
 abbrev pub roomLent : ℕ → List ℕ → List ℕ → List ℕ
 roomLent n p l = take (n + n + n) l ++ (p ++ drop (n + n + n + n - (n + n + n)) (drop (n + n + n) l))
 
-abbrev pub marksLent : ℕ → List ℕ → List ℕ
+abbrev marksLent : ℕ → List ℕ → List ℕ
 marksLent n l = take (n + n + n + n - (n + n + n)) (drop (n + n + n) l)
 
 abbrev pub frontLent : ℕ → List ℕ → List ℕ → List ℕ
@@ -70,10 +70,10 @@ module _ (n : ℕ) (cost : ℕ → ℕ → ℤ) (cols rows marks : List ℕ) (c 
   before-claims : claimsOf cols rows marks ≡ unclaimed n cost
   before-claims = cc
 
-  pub ready-to-claim : Claimable n n (claimsOf cols rows marks)
+  ready-to-claim : Claimable n n (claimsOf cols rows marks)
   ready-to-claim = subst (Claimable n n) (sym before-claims) (unclaimed-claimable n cost)
 
-  pub claimed-is : downward n claim (claimsOf cols rows marks) ≡ claims n cost
+  claimed-is : downward n claim (claimsOf cols rows marks) ≡ claims n cost
   unfolding claims
   claimed-is = ap (downward n claim) before-claims
 
@@ -196,7 +196,7 @@ module _ {n : ℕ} {costs : List ℤ} {cols₀ rows₀ : List ℕ} {v₀ : List 
     pub ready : Claimable n n (claimsOf cols rows (marksLent n (roomLent n z room₀)))
     ready = ready-to-claim n cost cols rows (marksLent n (roomLent n z room₀)) cols-zero er marks-zero
 
-    pub zeroed-length : length (roomLent n z room₀) ≡ n + n + n + n
+    zeroed-length : length (roomLent n z room₀) ≡ n + n + n + n
     zeroed-length =
         let fits : n + n + n + n ≤ length room₀ = omega (arith, h .room-size) in
         ap length (lent-is n (n + n + n) (n + n + n + n) room₀ last-part fits z z-length) ∙ replaced-length (n + n + n) z room₀ (omega (arith, z-length)) ∙ h .room-size
@@ -216,7 +216,7 @@ module _ {n : ℕ} {costs : List ℤ} {cols₀ rows₀ : List ℕ} {v₀ : List 
           ∙ replaced-replaced (n + n + n) z marks′ room₀ (z-length ∙ sym size) (omega (arith, z-length))
           ∙ ap (λ (l : List ℕ). replaced (n + n + n) l room₀) m
 
-      pub marked-sized : length (roomLent n marks′ (roomLent n z room₀)) ≡ n + n + n + n
+      marked-sized : length (roomLent n marks′ (roomLent n z room₀)) ≡ n + n + n + n
       marked-sized = ap length marked ∙ marked-length
 
       -- The free list is cleared.

@@ -1,5 +1,5 @@
 -- The transfer as code makes it: the three ways of a row, what every row keeps, and the room that holds free rows and marks. Assumes nothing.
-use mathlib.Core.Path.{_≡_, refl, sym, ap, _∙_, subst}
+use mathlib.Core.Path.{_≡_, sym, ap, _∙_, subst}
 use mathlib.Core.Bool.{Bool, cond}
 use mathlib.Core.List.{List, [], _++_}
 use Prim.Native.Nat.{ℕ, suc, _+_, _-_, _≤_, _<_}
@@ -9,7 +9,6 @@ use borrow.Author.Tests.{eq-eqb, ne-eqb}
 use lib.Dec.{eqb}
 use lib.IntN.{ℤ}
 use lib.ListN.{length, set, take, drop, length-set}
-use Rattle.lists.specs.Runs.{upward}
 use Rattle.lists.specs.Permutations.{at}
 use Rattle.lists.specs.Parts.{part, replaced}
 use Rattle.lists.proofs.Runs.{upward-none, upward-last, upward-keeps}

@@ -1,9 +1,9 @@
 // Rule 3, column reduction and transfer.
 ghost use mathlib.Core.Path.{_≡_};
-ghost use Prim.Native.Nat.{ℕ, suc, _+_, _<_, _≤_};
+ghost use Prim.Native.Nat.{suc, _+_, _<_, _≤_};
 ghost use lib.IntN.{_-ℤ_};
 ghost use lib.ListN.{length};
-ghost use Rattle.lists.specs.Runs.{upward, downward};
+ghost use Rattle.lists.specs.Runs.{downward};
 ghost use Rattle.lists.specs.Permutations.{at, table};
 ghost use Rattle.lists.specs.Parts.{part, replaced};
 ghost use Rattle.assignment.specs.Pairings.{price, square};

@@ -1,6 +1,6 @@
 // Rule 4, row reduction.
 ghost use mathlib.Core.Path.{_≡_};
-ghost use Prim.Native.Nat.{ℕ, _+_, _*_, _^_, _<_, _≤_};
+ghost use Prim.Native.Nat.{_+_, _*_, _^_, _<_, _≤_};
 ghost use lib.ListN.{length};
 ghost use Rattle.ints.specs.Parts.{Within};
 ghost use Rattle.assignment.specs.Pairings.{price, square};
@@ -10,7 +10,6 @@ ghost use Rattle.reduction.specs.Ranges.{Near};
 ghost use Rattle.reduction.specs.Columns.{stageAt};
 ghost use Rattle.reduction.specs.Rows.{Inside, placedAt, passingAt, Ready, Passable};
 use rules::Choice;
-use rules::Low;
 use rules::Pass;
 use rules::TwoLowest;
 

@@ -1,7 +1,5 @@
 -- `ccrrt_dense` does what rule 3 says, and changes no other part of the room. Assumes nothing.
 use mathlib.Core.Path.{_≡_, sym, ap, _∙_}
-use mathlib.Core.List.{List}
-use Prim.Native.Nat.{ℕ, _+_}
 use native.Mathlib.Omega.{arith}
 use borrow.Author.Needs.{needs}
 use lib.ListN.{length}
@@ -9,7 +7,7 @@ use Rattle.assignment.specs.Pairings.{square}
 use Rattle.rules.specs.Columns.{Claims, claims}
 use Rattle.matrix.proofs.Limits.{side-small}
 use Rattle.reduction.specs.Columns.{claimsOf}
-use Rattle.reduction.proofs.Stages.{roomLent, frontLent, Cleared, ready, zeroed-length, claims-are, marked-sized, cleared, claims-claimable, ready-to-transfer, stage-ends, room-ends, after-length}
+use Rattle.reduction.proofs.Stages.{roomLent, frontLent, Cleared, ready, claims-are, cleared, claims-claimable, ready-to-transfer, stage-ends, room-ends, after-length}
 use Rattle.reduction.proofs.columns.ccrrt_dense.Statement.{statement}
 use Rattle.reduction.proofs.columns.ccrrt_dense.Tie as tie
 

@@ -1,8 +1,7 @@
 -- `claim` does what its definition says, in both ways. Assumes nothing.
-use Prim.Native.Nat.{ℕ, _^_, _≤_, _<_}
+use Prim.Native.Nat.{_<_}
 use native.Mathlib.Omega.{arith}
 use borrow.Author.Needs.{needs}
-use lib.ListN.{length}
 use Rattle.lists.specs.Permutations.{at}
 use Rattle.matrix.proofs.Limits.{side-small}
 use Rattle.reduction.specs.Columns.{claimsOf}

@@ -1,12 +1,11 @@
 -- `claim_all` runs the claims from last to first. Assumes nothing.
 use mathlib.Core.Path.{_≡_, refl, sym, ap, _∙_}
-use Prim.Native.Nat.{ℕ, _≤_, _-_}
+use Prim.Native.Nat.{ℕ}
 use native.Mathlib.Omega.{arith}
 use borrow.Author.Needs.{needs}
-use lib.ListN.{length}
 use Rattle.lists.specs.Runs.{downward}
 use Rattle.lists.proofs.Runs.{downward-none}
-use Rattle.rules.specs.Columns.{Claims, claim}
+use Rattle.rules.specs.Columns.{claim}
 use Rattle.reduction.specs.Columns.{claimsOf}
 use Rattle.reduction.proofs.Claims.{Head, head-claimable, head-next}
 use Rattle.reduction.proofs.columns.claim_all.Statement.{statement}

@@ -1,15 +1,13 @@
 -- `lower_column` does what its definition says: the row is a part of the costs. Assumes nothing.
 use mathlib.Core.Path.{_≡_, sym, ap, ap₂, _∙_, subst}
-use Prim.Native.Nat.{_<_}
 use native.Mathlib.Omega.{arith}
 use borrow.Author.Needs.{needs}
-use lib.ListN.{length, set}
+use lib.ListN.{set}
 use mir.Syntax.{w64}
 use Rattle.ints.proofs.Bits.{read-back}
 use Rattle.assignment.specs.Pairings.{square, price}
 use Rattle.rules.specs.Lowest.{reduced, leastBut}
 use Rattle.rules.specs.Columns.{lessLeast}
-use Rattle.matrix.proofs.Limits.{side-small}
 use Rattle.reduction.specs.Columns.{NearLeast}
 use Rattle.reduction.proofs.Nearness.{leastBut-near}
 use Rattle.reduction.proofs.RowParts.{row-length, row-leastBut}

@@ -1,15 +1,11 @@
 -- `minima` leaves the minimum of each column and its row: before row i it has those of the rows before. Assumes nothing.
-use mathlib.Core.Path.{_≡_, refl, sym, ap, _∙_}
-use mathlib.Core.List.{List, []}
-use Prim.Native.Nat.{ℕ, _*_, _^_, _≤_, _<_, _-_}
+use mathlib.Core.Path.{_≡_, sym, ap, _∙_}
+use Prim.Native.Nat.{ℕ, _≤_, _<_, _-_}
 use native.Mathlib.Omega.{arith}
 use borrow.Author.Needs.{needs}
-use lib.IntN.{ℤ}
-use lib.ListN.{length, set, length-set}
-use Rattle.lists.specs.Parts.{part}
+use lib.ListN.{length}
 use Rattle.lists.specs.Permutations.{table}
 use Rattle.lists.proofs.Tables.{length-table}
-use Rattle.rules.specs.declared.Low.{Low}
 use Rattle.matrix.proofs.Limits.{side-small}
 use Rattle.reduction.proofs.Fills.{empty-table}
 use Rattle.reduction.proofs.RowParts.{row-length}

@@ -1,13 +1,12 @@
 -- `transfer` does what its definition says, in each of the three ways. Assumes nothing.
-use mathlib.Core.Path.{_≡_, sym, ap, ap₂, _∙_}
+use mathlib.Core.Path.{sym, ap, _∙_}
 use mathlib.Core.List.{List}
 use Prim.Native.Nat.{ℕ}
 use native.Mathlib.Omega.{arith}
 use borrow.Author.Needs.{needs}
 use lib.IntN.{ℤ}
-use Rattle.lists.specs.Permutations.{at}
 use Rattle.assignment.specs.Pairings.{square}
-use Rattle.rules.specs.Columns.{Claims, lowerColumn}
+use Rattle.rules.specs.Columns.{lowerColumn}
 use Rattle.matrix.proofs.Limits.{side-small}
 use Rattle.reduction.specs.Columns.{transferOf}
 use Rattle.reduction.proofs.Transfers.{transfer-joins, transfer-lowers, transfer-passes}

@@ -1,14 +1,12 @@
 -- `transfers` does what the definition of the transfer says: before row i, its lists hold the transfer of the rows before. Assumes nothing.
-use mathlib.Core.Path.{_≡_, refl, sym, ap, _∙_, subst}
+use mathlib.Core.Path.{_≡_, refl, sym, _∙_, subst}
 use mathlib.Core.List.{[]}
-use Prim.Native.Nat.{ℕ, _+_, _≤_, _<_, _-_}
+use Prim.Native.Nat.{ℕ, _+_, _≤_, _-_}
 use native.Mathlib.Omega.{arith}
 use borrow.Author.Needs.{needs}
-use lib.ListN.{length}
-use Rattle.lists.specs.Permutations.{at}
 use Rattle.lists.specs.Parts.{part}
 use Rattle.matrix.proofs.Limits.{side-small}
-use Rattle.reduction.specs.Columns.{claimsOf, Transferable, Transferred, transferring}
+use Rattle.reduction.specs.Columns.{claimsOf, Transferred, transferring}
 use Rattle.reduction.proofs.Transfers.{run-none, run-next, room-sized, prices-sized, count-at-most, frees-sized, mark-is, prices-near}
 use Rattle.reduction.proofs.columns.transfers.Statement.{statement}
 use Rattle.reduction.proofs.columns.transfers.Tie as tie

@@ -1,5 +1,4 @@
 -- `displace` does what its definition says, in each of the three ways. Assumes nothing.
-use native.Mathlib.Omega.{arith}
 use borrow.Author.Needs.{needs}
 use Rattle.reduction.proofs.Choices.{displace-back, displace-next, displace-none}
 use Rattle.reduction.proofs.rows.displace.Statement.{statement}

@@ -4,7 +4,6 @@ use mathlib.Core.Bool.{true}
 use borrow.Author.Needs.{needs}
 use lib.IntN.{ℤ}
 use Rattle.assignment.specs.Pairings.{price}
-use Rattle.rules.specs.declared.Choice.{Choice}
 use Rattle.reduction.proofs.Choices.{step-fits, lowered-fits, lowered-back}
 use Rattle.reduction.proofs.rows.lower_price.Statement.{statement}
 use Rattle.reduction.proofs.rows.lower_price.Tie as tie
