@@ -1,0 +1,112 @@
+-- The turns of the loops over a block: a column restarts the block, joins it or is passed by; and a column of a fresh block is free or
+-- taken. Assumes nothing.
+use mathlib.Core.Path.{_≡_, refl, sym, ap, _∙_, subst}
+use mathlib.Core.List.{List}
+use mathlib.Core.Bool.{true, false}
+use Prim.Native.Nat.{ℕ, suc, _+_, _≤_, _<_}
+use native.Mathlib.Numerals.{add-one}
+use native.Mathlib.Omega.{arith}
+use borrow.Author.Tests.{lt-ltb, le-ltb}
+use lib.IntN.{ℤ}
+use lib.Signed.{ltZ, leZ}
+use Rattle.ints.proofs.Shapes.{zlin}
+use Rattle.lists.specs.Runs.{upward}
+use Rattle.lists.proofs.Runs.{upward-none, upward-last}
+use Rattle.lists.specs.Permutations.{at, exchange, Permutation}
+use Rattle.lists.proofs.Permutations.{exchange-permutation}
+use Rattle.assignment.specs.Pairings.{price}
+use Rattle.rules.specs.declared.LastFree.{LastFree}
+use Rattle.rules.specs.declared.LastFree.the-variants.{NoneYet, At}
+use Rattle.rules.specs.Block.{Block, blockStep, blockStart, block}
+use Rattle.rules.specs.Search.{lastFree}
+
+abbrev blockOf : ℕ → ℤ → List ℕ → Block
+blockOf hi minimum list = record { hi = hi; minimum = minimum; list = list }
+
+-- The places from lo up to k have been looked at.
+pub record Blocked (n lo : ℕ) (d : List ℤ) (list₀ list : List ℕ) (hi : ℕ) (minimum : ℤ) (k : ℕ) : Type 0 where
+  pub past : lo < k
+  pub within : k ≤ n
+  pub listed : Permutation n list
+  pub block-end : (lo < hi) × (hi ≤ k)
+  pub same : blockOf hi minimum list ≡ upward (lo + 1) k (blockStep d lo) (blockStart d lo list₀)
+
+pub first-block : (n lo : ℕ) (d : List ℤ) (list : List ℕ) (minimum : ℤ) → Permutation n list → lo < n → minimum ≡ price d (at list lo)
+    → Blocked n lo d list list (lo + 1) minimum (lo + 1)
+first-block n lo d list minimum p l e = record {
+  past = omega arith;
+  within = omega arith;
+  listed = p;
+  block-end = omega arith;
+  same = ap (λ (x : ℤ). blockOf (lo + 1) x list) e ∙ sym (upward-none (lo + 1) (lo + 1) (blockStep d lo) (blockStart d lo list) (omega arith));
+}
+
+module _ {n lo : ℕ} {d : List ℤ} {list₀ list : List ℕ} {hi : ℕ} {minimum : ℤ} {k : ℕ} (B : Blocked n lo d list₀ list hi minimum k) where
+  -- After the last place.
+  pub whole-block : n ≤ k → blockOf hi minimum list ≡ block n d lo list₀
+  unfolding block
+  whole-block l = let e : k ≡ n = omega (arith, B .within) in B .same ∙ ap (λ (m : ℕ). upward (lo + 1) m (blockStep d lo) (blockStart d lo list₀)) e
+
+  module _ (l : k < n) where
+    h : ℤ
+    h = price d (at list k)
+
+    pub here-below : at list k < n
+    here-below = B .listed .injective .below k l
+
+    turn : blockStep d lo k (blockOf hi minimum list) ≡ upward (lo + 1) (k + 1) (blockStep d lo) (blockStart d lo list₀)
+    turn =
+        ap (blockStep d lo k) (B .same) ∙ sym (upward-last (lo + 1) k (blockStep d lo) (blockStart d lo list₀) (omega (arith, B .past)))
+        ∙ ap (λ (m : ℕ). upward (lo + 1) m (blockStep d lo) (blockStart d lo list₀)) (sym (add-one k))
+
+    pub restart : ltZ (price d (at list k)) minimum ≡ true → leZ (price d (at list k)) minimum ≡ true
+        → Blocked n lo d list₀ (exchange list k lo) (lo + 1) (price d (at list k)) (k + 1)
+    restart e f = record {
+      past = omega (arith, B .past);
+      within = omega arith;
+      listed = exchange-permutation (B .listed) k lo l (omega (arith, B .past));
+      block-end = omega (arith, B .past);
+      same = rw (f, e) at turn;
+    }
+
+    pub join : ltZ (price d (at list k)) minimum ≡ false → leZ (price d (at list k)) minimum ≡ true
+        → Blocked n lo d list₀ (exchange list k hi) (hi + 1) minimum (k + 1)
+    join e f =
+        let z : price d (at list k) ≡ minimum = omega zlin in
+        record {
+          past = omega (arith, B .past);
+          within = omega arith;
+          listed = exchange-permutation (B .listed) k hi l (omega (arith, B .block-end));
+          block-end = omega (arith, B .block-end);
+          same = ap (λ (x : ℤ). blockOf (hi + 1) x (exchange list k hi)) (sym z) ∙ (rw (f, e) at turn);
+        }
+
+    pub pass-by : leZ (price d (at list k)) minimum ≡ false → Blocked n lo d list₀ list hi minimum (k + 1)
+    pass-by f = record {
+      past = omega (arith, B .past);
+      within = omega arith;
+      listed = B .listed;
+      block-end = omega (arith, B .block-end);
+      same = rw f at turn;
+    }
+
+-- The same, at equal values.
+pub blocked-at : {n lo : ℕ} {d : List ℤ} {list₀ list : List ℕ} {hi : ℕ} {minimum : ℤ} {k : ℕ} → Blocked n lo d list₀ list hi minimum k
+    → {list′ : List ℕ} {hi′ : ℕ} {minimum′ : ℤ} → list′ ≡ list → hi′ ≡ hi → minimum′ ≡ minimum → Blocked n lo d list₀ list′ hi′ minimum′ k
+blocked-at B a b c = rw (a, b, c) B
+
+-- ---- the last free column
+
+module _ (n : ℕ) (cost : ℕ → ℕ → ℤ) (v : ℕ → ℤ) (row : ℕ → ℕ) (list : List ℕ) (lo : ℕ) where
+  pub last-none : NoneYet ≡ lastFree n cost v row list lo lo
+  unfolding lastFree
+  last-none = sym (upward-none lo lo _ NoneYet (omega arith))
+
+  module _ (k : ℕ) (l : lo ≤ k) where
+    pub last-free : n ≤ row (at list k) → At (at list k) ≡ lastFree n cost v row list lo (k + 1)
+    unfolding lastFree
+    last-free h = sym (rw (add-one k, upward-last lo k, le-ltb (row (at list k)) n h))
+
+    pub last-taken : row (at list k) < n → lastFree n cost v row list lo k ≡ lastFree n cost v row list lo (k + 1)
+    unfolding lastFree
+    last-taken h = sym (rw (add-one k, upward-last lo k, lt-ltb (row (at list k)) n h))

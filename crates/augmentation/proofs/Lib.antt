@@ -1,0 +1,4 @@
+pub mod Ranges
+pub mod Room
+pub mod Filled
+pub mod Block

@@ -1,0 +1,87 @@
+-- `last_free` answers the last free column of a fresh block. Assumes nothing.
+use mathlib.Core.Logic.{⊎-elim}
+use Rattle.lists.specs.Permutations.{Permutation}
+use Rattle.rules.specs.declared.LastFree.{LastFree}
+use Prim.Native.Nat.{ℕ, _+_, _-_, _≤_, _<_}
+use mathlib.Core.Path.{_≡_, refl, sym, ap, _∙_, subst}
+use native.Mathlib.Omega.{arith}
+use lib.IntN.{pos}
+use Rattle.lists.specs.Permutations.{at}
+use Rattle.rules.specs.Search.{lastFree}
+use Rattle.augmentation.proofs.Block.{last-none, last-free, last-taken}
+use borrow.Author.Needs.{needs}
+use Rattle.augmentation.proofs.last_free.Statement.{statement}
+use Rattle.augmentation.proofs.last_free.Tie as tie
+use Rattle.augmentation.proofs.last_free.Reads as reads
+use Rattle.augmentation.proofs.last_free.Lts as lts
+
+abbrev Inv-loop : tie.InvT-loop
+Inv-loop n lo hi list rows last₀ k₀ last k = (lo ≤ k) × (k ≤ hi) × (last ≡ lastFree n (λ i j. pos 0) (λ j. pos 0) (at rows) list lo k)
+
+abbrev μ-loop : tie.MeasureT-loop
+μ-loop n lo hi list rows last₀ k₀ last k = hi - k
+
+loop-holds : tie.Need-loop-holds Inv-loop μ-loop
+loop-holds c = (omega arith, c .pre .0, last-none _ _ _ _ _ _)
+
+mul-j : tie.Need-mul-j Inv-loop μ-loop
+mul-j c = search needs
+
+shared-slice-read-j : tie.Need-shared-slice-read-j Inv-loop μ-loop
+shared-slice-read-j c = omega (arith, c .before .before .before .pre .3 .size, c .before .before .before .pre .1)
+
+here-below : (c : tie.In-loop Inv-loop μ-loop) → at (c .before .before .args .list .now) (c .before .loop .k) < c .before .before .args .n
+here-below c = c .before .before .pre .3 .injective .below (c .before .loop .k) (omega (arith, c .before .before .pre .1))
+
+cast-j : tie.Need-cast-j Inv-loop μ-loop
+cast-j c = omega (arith, c .shared-slice-known .given (c .before .before .loop .k))
+
+mul-if1 : tie.Need-mul-if1 Inv-loop μ-loop
+mul-if1 c = omega (arith, here-below (c .before))
+
+shared-slice-read-if1 : tie.Need-shared-slice-read-if1 Inv-loop μ-loop
+shared-slice-read-if1 c = omega (arith, here-below (c .before .before))
+
+cast-if1 : tie.Need-cast-if1 Inv-loop μ-loop
+cast-if1 c =
+    let l = c .before .before .before in
+    omega (arith, c .shared-slice-known2 .given (at (l .before .args .list .now) (l .loop .k)))
+
+add-k : tie.Need-add-k Inv-loop μ-loop
+add-k c = search needs
+
+loop-less : tie.Need-loop-less Inv-loop μ-loop
+loop-less c = search needs
+
+loop-again : tie.Need-loop-again Inv-loop μ-loop
+loop-again c =
+    let l = c .before .before .before .before .loop in (
+      omega arith,
+      omega arith,
+      ⊎-elim (λ a. a .1 ∙ last-free _ _ _ _ _ _ _ (l .inv .0) (a .0 .taken))
+          (λ a. a .1 ∙ l .inv .2 ∙ last-taken _ _ _ _ _ _ _ (l .inv .0) (a .0 .left)) (c .if1 .came),
+    )
+
+returns : tie.Need-returns Inv-loop μ-loop
+returns c =
+    let s = c .before .before .args in
+    let e : c .before .loop .k ≡ s .hi = omega arith in
+    c .before .loop .inv .2 ∙ ap (lastFree (s .n) (λ i j. pos 0) (λ j. pos 0) (at (s .rows .now)) (s .list .now) (s .lo)) e
+
+pub last-free-spec : {M : Type 1} → statement M
+last-free-spec =
+    tie.close
+    (tie.spec
+    Inv-loop
+    μ-loop
+    loop-holds
+    mul-j
+    shared-slice-read-j
+    cast-j
+    mul-if1
+    shared-slice-read-if1
+    cast-if1
+    add-k
+    loop-less
+    loop-again
+    returns)

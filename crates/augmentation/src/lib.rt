@@ -1,0 +1,117 @@
+// Rules 2, 5 and 6: the block of minima, the search with its scan, and augmentation, under the crate's names.
+ghost use mathlib.Core.Path.{_≡_};
+ghost use Prim.Native.Nat.{ℕ, _+_, _*_, _<_, _≤_};
+ghost use lib.IntN.{pos, _-ℤ_};
+ghost use lib.ListN.{length};
+ghost use Rattle.ints.specs.Parts.{Within};
+ghost use Rattle.lists.specs.Permutations.{at, table, exchange, Permutation};
+ghost use Rattle.assignment.specs.Pairings.{price, square};
+ghost use Rattle.matrix.specs.Limits.{side};
+ghost use Rattle.rules.specs.Block.{block};
+ghost use Rattle.rules.specs.Search.{lastFree};
+ghost use Rattle.augmentation.specs.Ranges.{near};
+use rules::LastFree;
+
+// The places a and b of a list change places.
+fn exchange(list: &mut [u32], a: usize, b: usize)
+    requires { ⌜ (a < length (now list)) × (b < length (now list)) ⌝ }
+    ensures { λ r. ⌜ now (list .exit) ≡ exchange (now (list .entry)) a b ⌝ }
+{
+    let x = list[a];
+    let y = list[b];
+    list[a] = y;
+    list[b] = x;
+}
+
+// The crate's `reduced_cost`: a cost minus its column's price.
+fn reduced_cost(cost: i32, price: i64) -> i64
+    requires { ⌜ Within near price ⌝ }
+    ensures { λ r. ⌜ r ≡ cost -ℤ price ⌝ }
+{
+    cost as i64 - price
+}
+
+// A reduced cost, lowered by h.
+fn lowered(cost: i32, price: i64, h: i64) -> i64
+    requires { ⌜ Within near price × Within (4 * near) h ⌝ }
+    ensures { λ r. ⌜ r ≡ (cost -ℤ price) -ℤ h ⌝ }
+{
+    reduced_cost(cost, price) - h
+}
+
+// Rule 2: the block of minima of the column list from lo on. Answers where it ends.
+fn find_dense(n: usize, lo: usize, d: &[i64], list: &mut [u32]) -> usize
+    requires { ⌜ (lo < n) × (length (now d) ≡ n) × Permutation n (now list) ⌝ }
+    ensures { λ r. ⌜ (r ≡ block n (now (d .entry)) lo (now (list .entry)) .hi) × (now (list .exit) ≡ block n (now (d .entry)) lo (now (list .entry)) .list) ⌝ }
+{
+    let mut hi = lo + 1;
+    let first = list[lo] as usize;
+    let mut minimum = d[first];
+    let mut k = lo + 1;
+    while k < n {
+        let j = list[k] as usize;
+        let h = d[j];
+        if h <= minimum {
+            if h < minimum {
+                hi = lo;
+                minimum = h;
+            }
+            exchange(list, k, hi);
+            hi += 1;
+        }
+        k += 1;
+    }
+    hi
+}
+
+// Rule 5: the last free column of a fresh block.
+fn last_free(n: usize, lo: usize, hi: usize, list: &[u32], rows: &[u32]) -> LastFree
+    requires { ⌜ (lo ≤ hi) × (hi ≤ n) × (length (now rows) ≡ n) × Permutation n (now list) ⌝ }
+    ensures { λ r. ⌜ r ≡ lastFree n (λ i j. pos 0) (λ j. pos 0) (at (now (rows .entry))) (now (list .entry)) lo hi ⌝ }
+{
+    let mut last = LastFree::NoneYet;
+    let mut k = lo;
+    while k < hi {
+        let j = list[k] as usize;
+        if n <= rows[j] as usize {
+            last = LastFree::At(j);
+        }
+        k += 1;
+    }
+    last
+}
+
+// The columns in their order.
+fn number_columns(list: &mut [u32])
+    requires { ⌜ length (now list) ≤ side ⌝ }
+    ensures { λ r. ⌜ now (list .exit) ≡ table (length (now (list .entry))) (λ j. j) ⌝ }
+{
+    let mut j = 0;
+    while j < list.len() {
+        list[j] = j as u32;
+        j += 1;
+    }
+}
+
+// One row at every place.
+fn fill(list: &mut [u32], row: u32)
+    ensures { λ r. ⌜ now (list .exit) ≡ table (length (now (list .entry))) (λ j. row) ⌝ }
+{
+    let mut j = 0;
+    while j < list.len() {
+        list[j] = row;
+        j += 1;
+    }
+}
+
+// Each column as far as a row makes it: its reduced cost there.
+fn first_distances(n: usize, row: &[i32], v: &[i64], d: &mut [i64])
+    requires { ⌜ (length (now row) ≡ n) × (length (now v) ≡ n) × (length (now d) ≡ n) × ((j : ℕ) → Within near (price (now v) j)) ⌝ }
+    ensures { λ r. ⌜ now (d .exit) ≡ table n (λ j. price (now (row .entry)) j -ℤ price (now (v .entry)) j) ⌝ }
+{
+    let mut j = 0;
+    while j < n {
+        d[j] = reduced_cost(row[j], v[j]);
+        j += 1;
+    }
+}
