@@ -2,3 +2,4 @@ pub mod Ranges
 pub mod Room
 pub mod Filled
 pub mod Block
+pub mod Look

@@ -10,7 +10,9 @@ ghost use Rattle.matrix.specs.Limits.{side};
 ghost use Rattle.rules.specs.Block.{block};
 ghost use Rattle.rules.specs.Search.{lastFree};
 ghost use Rattle.augmentation.specs.Ranges.{near};
+ghost use Rattle.augmentation.specs.Scan.{Lent, Looked};
 use rules::LastFree;
+use rules::ScanEnd;
 
 // The places a and b of a list change places.
 fn exchange(list: &mut [u32], a: usize, b: usize)
@@ -114,4 +116,44 @@ fn first_distances(n: usize, row: &[i32], v: &[i64], d: &mut [i64])
         d[j] = reduced_cost(row[j], v[j]);
         j += 1;
     }
+}
+
+// Row i looks at the columns from place hi on; h is what it has to spare. Distances change only when strictly lower. A column that comes to
+// the block's minimum is swapped to the block's end, or ends the search if it is free.
+fn lower_columns(
+    n: usize,
+    i: u32,
+    row: &[i32],
+    v: &[i64],
+    rows: &[u32],
+    h: i64,
+    minimum: i64,
+    from: usize,
+    d: &mut [i64],
+    room: &mut [u32],
+) -> ScanEnd
+    requires { ⌜ Lent n (now v) (now rows) (now d) (now room) × (length (now row) ≡ n) × (from ≤ n) × Within (4 * near) h ⌝ }
+    ensures { λ r. ⌜ Looked n i (now (row .entry)) (now (v .entry)) (now (rows .entry)) h minimum from (now (d .entry)) (now (room .entry)) r (now (d .exit)) (now (room .exit)) ⌝ }
+{
+    let n2 = n + n;
+    let mut hi = from;
+    let mut k = from;
+    while k < n {
+        let j = room[n + k] as usize;
+        let x = lowered(row[j], v[j], h);
+        if x < d[j] {
+            d[j] = x;
+            room[n2 + j] = i;
+            if x == minimum {
+                if (rows[j] as usize) < n {
+                    exchange(room, n + k, n + hi);
+                    hi += 1;
+                } else {
+                    return ScanEnd::Hit(j);
+                }
+            }
+        }
+        k += 1;
+    }
+    ScanEnd::On(hi)
 }
