@@ -6,3 +6,8 @@ use Rattle.augmentation.specs.Ranges.{near}
 pub near-small : near ≤ 2 ^ 40
 unfolding near
 near-small = omega arith
+
+-- A 32-bit number is near.
+pub near-large : 2 ^ 31 ≤ near
+unfolding near
+near-large = omega arith

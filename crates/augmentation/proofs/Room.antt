@@ -1,12 +1,12 @@
 -- The parts of the lent room: what a store in the column list or in the predecessors leaves, and what a list that was lent leaves when it
 -- comes back. Assumes nothing.
 use mathlib.Core.Path.{_≡_, refl, sym, ap, ap₂, _∙_}
-use mathlib.Core.List.{List, [], _∷_, _++_}
+use mathlib.Core.List.{List, [], _∷_, _++_, append-assoc}
 use Prim.Native.Nat.{ℕ, _+_, _-_, _≤_, _<_}
 use native.Mathlib.Nat.{zero-add, suc-add}
 use native.Mathlib.Omega.{arith}
 use lib.ListN.{length, getD, set, take, drop, length-append, length-drop, length-set}
-use lib.Seq.{length-take-le, take-at, drop-at, take-append-le, set-append-left, take-take, drop-drop}
+use lib.Seq.{length-take-le, take-at, drop-at, take-append-le, take-append-add, set-append-left, take-take, drop-drop}
 use Rattle.lists.specs.Parts.{part, replaced}
 use Rattle.lists.specs.Permutations.{at, exchange}
 use Rattle.lists.proofs.Parts.{part-length, part-at, part-drop, replaced-self, lent-back}
@@ -100,6 +100,20 @@ module _ (n : ℕ) (r : List ℕ) (size : length r ≡ n + n + n + n) where
         ap₂ (λ (a b : List ℕ). a ++ (l′ ++ b)) before-list
         (drop-drop (n + n - n) n (roomWith n l p r) ∙ ap (λ (k : ℕ). drop k (roomWith n l p r)) e ∙ after-list)
         ∙ sym (flat l′ p sl′ sp)
+
+    -- The predecessors were lent by themselves and came back as p′.
+    pub predecessors-back : (p′ : List ℕ) → length p′ ≡ n
+        → take (n + n) (roomWith n l p r) ++ (p′ ++ drop (n + n + n - (n + n)) (drop (n + n) (roomWith n l p r))) ≡ roomWith n l p′ r
+    predecessors-back p′ sp′ =
+        let e : n + n + (n + n + n - (n + n)) ≡ n + n + n = omega arith in
+        let before : take (n + n) (roomWith n l p r) ≡ take n r ++ l =
+        ap (take (n + n)) (flat l p sl sp)
+        ∙ ap (λ (k : ℕ). take (k + n) (take n r ++ (l ++ (p ++ drop (n + n + n) r)))) (sym front)
+        ∙ take-append-add (take n r) (l ++ (p ++ drop (n + n + n) r)) n
+        ∙ ap (λ (t : List ℕ). take n r ++ t) (take-at l (p ++ drop (n + n + n) r) n sl) in
+        let after : drop (n + n + n - (n + n)) (drop (n + n) (roomWith n l p r)) ≡ drop (n + n + n) r =
+        drop-drop (n + n + n - (n + n)) (n + n) (roomWith n l p r) ∙ ap (λ (k : ℕ). drop k (roomWith n l p r)) e ∙ after-predecessors in
+        ap₂ (λ (a b : List ℕ). a ++ (p′ ++ b)) before after ∙ append-assoc (take n r) l (p′ ++ drop (n + n + n) r) ∙ sym (flat l p′ sl sp′)
 
   -- Two places of the list change places.
   pub exchange-list : (l p : List ℕ) → length l ≡ n → length p ≡ n → (a b : ℕ) → a < n → b < n

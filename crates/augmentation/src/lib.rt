@@ -8,9 +8,12 @@ ghost use Rattle.lists.specs.Permutations.{at, table, exchange, Permutation};
 ghost use Rattle.assignment.specs.Pairings.{price, square};
 ghost use Rattle.matrix.specs.Limits.{side};
 ghost use Rattle.rules.specs.Block.{block};
-ghost use Rattle.rules.specs.Search.{lastFree};
+ghost use Rattle.rules.specs.Search.{lastFree, newPrices};
 ghost use Rattle.augmentation.specs.Ranges.{near};
-ghost use Rattle.augmentation.specs.Scan.{Lent, Looked};
+ghost use Rattle.augmentation.specs.Scan.{Lent, Looked, Scanned};
+ghost use Rattle.augmentation.specs.Search.{CanStart, Started, CanScan, CanChange, readyAt};
+use matrix::row;
+use rules::Cursor;
 use rules::LastFree;
 use rules::ScanEnd;
 
@@ -156,4 +159,54 @@ fn lower_columns(
         k += 1;
     }
     ScanEnd::On(hi)
+}
+
+// Rule 5, the scan of one column: the row of the column at the cursor's lo looks at the columns from its hi on.
+fn scan_dense(
+    n: usize,
+    costs: &[i32],
+    rows: &[u32],
+    cursor: Cursor,
+    v: &[i64],
+    d: &mut [i64],
+    room: &mut [u32],
+) -> ScanEnd
+    requires { ⌜ CanScan n (now costs) (now rows) (cursor .lo) (cursor .hi) (now v) (now d) (now room) ⌝ }
+    ensures { λ r. ⌜ Scanned n (now (costs .entry)) (now (v .entry)) (now (rows .entry)) (cursor .lo) (cursor .hi) (now (d .entry)) (now (room .entry)) r (now (d .exit)) (now (room .exit)) ⌝ }
+{
+    let lo = cursor.lo;
+    let hi = cursor.hi;
+    let j = room[n + lo] as usize;
+    let i = rows[j];
+    let minimum = d[j];
+    let costs_of_row = row(costs, n, i as usize);
+    let h = lowered(costs_of_row[j], v[j], minimum);
+    lower_columns(n, i, costs_of_row, v, rows, h, minimum, hi, d, room)
+}
+
+// Before the first block: the columns in their order, each as far as the start row makes it.
+fn start_search(n: usize, costs: &[i32], start: u32, v: &[i64], d: &mut [i64], room: &mut [u32])
+    requires { ⌜ CanStart n (now costs) start (now v) (now d) (now room) ⌝ }
+    ensures { λ r. ⌜ Started n (now (costs .entry)) start (now (v .entry)) (now (room .entry)) (now (d .exit)) (now (room .exit)) ⌝ }
+{
+    let n2 = n + n;
+    let n3 = n2 + n;
+    first_distances(n, row(costs, n, start as usize), v, d);
+    number_columns(&mut room[n..n2]);
+    fill(&mut room[n2..n3], start);
+}
+
+// Each ready column, those listed before lo, has its distance minus that of the last block added to its price.
+fn change_prices(lo: usize, list: &[u32], d: &[i64], v: &mut [i64])
+    requires { ⌜ CanChange (length (now v)) lo (now list) (now d) (now v) ⌝ }
+    ensures { λ r. ⌜ now (v .exit) ≡ newPrices (readyAt lo (now (list .entry)) (now (d .entry))) (now (v .entry)) ⌝ }
+{
+    let first = list[lo] as usize;
+    let minimum = d[first];
+    let mut k = 0;
+    while k < lo {
+        let j = list[k] as usize;
+        v[j] = v[j] + (d[j] - minimum);
+        k += 1;
+    }
 }

@@ -1,0 +1,147 @@
+-- The price change of the ready columns: its turns, and how far the prices come, so that no sum wraps. Assumes nothing.
+use mathlib.Core.Path.{_≡_, refl, sym, ap, _∙_, subst}
+use mathlib.Core.Logic.{_⊎_, inl, inr}
+use mathlib.Core.List.{List}
+use Prim.Native.Nat.{ℕ, suc, _+_, _*_, _^_, _≤_, _<_}
+use native.Mathlib.Numerals.{add-one}
+use native.Mathlib.Omega.{arith}
+use lib.IntN.{ℤ, pos, _+ℤ_, _-ℤ_}
+use lib.ListN.{length, set, length-set, List·getD-eq-default}
+use lib.Seq.{getD-set-same, getD-set-other}
+use mir.Syntax.{w64}
+use mir.Val.{SFits, toZ, ofZ}
+use mir.Facts.{toZ-ofZ}
+use Rattle.ints.specs.Parts.{Within}
+use Rattle.ints.proofs.Sums.{sum, dif}
+use Rattle.ints.proofs.Shapes.{zlin}
+use Rattle.lists.specs.Runs.{upward}
+use Rattle.lists.proofs.Runs.{upward-none, upward-last, upward-keeps}
+use Rattle.lists.specs.Permutations.{at}
+use Rattle.assignment.specs.Pairings.{price}
+use Rattle.matrix.specs.Limits.{side}
+use Rattle.matrix.proofs.Limits.{side-small}
+use Rattle.rules.specs.Search.{raise, newPrices}
+use Rattle.rules.proofs.Cases.{here-or-elsewhere, lt-or-le}
+use Rattle.augmentation.specs.Ranges.{near}
+use Rattle.augmentation.specs.Search.{readyAt, CanChange}
+use Rattle.augmentation.proofs.Ranges.{near-small}
+
+-- A store of a near number in a list of near numbers. Past the end of the list the number is 0.
+pub set-within : (b : ℕ) (l : List ℤ) (j : ℕ) (x : ℤ) → ((k : ℕ) → Within b (price l k)) → Within b x → (k : ℕ) → Within b (price (set l j x) k)
+set-within b l j x h w =
+    here-or-elsewhere (λ k. Within b (price (set l j x) k)) j (here (lt-or-le j (length l))) (λ k d. rw (getD-set-other l j k x (pos 0) d) (h k))
+  where
+    here : (j < length l) ⊎ (length l ≤ j) → Within b (price (set l j x) j)
+    here (inl s) = rw (getD-set-same l j x (pos 0) s) w
+    here (inr s) = rw (List·getD-eq-default (set l j x) (pos 0) {n = j} (omega (arith, length-set l j x))) (record { low = omega arith; high = omega arith })
+
+module _ (list : List ℕ) (d : List ℤ) (minimum : ℤ) (v₀ : List ℤ) where
+  -- The prices after the first k columns.
+  abbrev pub prices : ℕ → List ℤ
+  prices k = upward 0 k (λ k. raise d minimum (at list k)) v₀
+
+  pub prices-length : (k : ℕ) → length (prices k) ≡ length v₀
+  prices-length k =
+      upward-keeps (λ m v. length v ≡ length v₀) 0 k (λ m. raise d minimum (at list m)) v₀ (omega arith) refl
+      (λ m v l g e. length-set v (at list m) (price v (at list m) +ℤ (price d (at list m) -ℤ minimum)) ∙ e)
+
+  pub prices-within : ((j : ℕ) → Within near (price v₀ j)) → ((j : ℕ) → Within (2 * near) (price d j)) → Within (2 * near) minimum
+      → (k j : ℕ) → Within (near * (4 * k + 1)) (price (prices k) j)
+  unfolding near
+  prices-within h g m k =
+      upward-keeps (λ i v. (j : ℕ) → Within (near * (4 * i + 1)) (price v j)) 0 k (λ i. raise d minimum (at list i)) v₀ (omega arith) (λ j. h j)
+      (λ i v l u w. set-within (near * (4 * suc i + 1)) v (at list i) (price v (at list i) +ℤ (price d (at list i) -ℤ minimum))
+      (λ j. let x = w j in omega arith) (raised i (price v (at list i)) (price d (at list i)) (w (at list i)) (g (at list i))))
+    where
+      raised : (i : ℕ) (x y : ℤ) → Within (near * (4 * i + 1)) x → Within (2 * near) y → Within (near * (4 * suc i + 1)) (x +ℤ (y -ℤ minimum))
+      raised i x y a b = omega (zlin, dif y minimum, sum x (y -ℤ minimum), m)
+
+module _ (x y m : ℤ) (a : Within (2 * near) y) (b : Within (2 * near) m) where
+  near-fits : SFits w64 y
+  near-fits = omega (zlin, near-small, a)
+
+  near-difference : SFits w64 (y -ℤ m)
+  near-difference = omega (zlin, near-small, a, b)
+
+  near-sum : Within (2 ^ 60) x → SFits w64 (x +ℤ (y -ℤ m))
+  near-sum w = omega (zlin, near-small, a, b, dif y m)
+
+prices-wide : (k : ℕ) (z : ℤ) → k < 2 ^ 16 → Within (near * (4 * k + 1)) z → Within (2 ^ 60) z
+unfolding near
+prices-wide k z s w = omega arith
+
+-- The first k ready columns have their new prices.
+pub record Changing (n lo : ℕ) (list : List ℕ) (d v₀ : List ℤ) (minimum : ℤ) (v : List ℤ) (k : ℕ) : Type 0 where
+  pub can : CanChange n lo list d v₀
+  pub prices-size : length v₀ ≡ n
+  pub minimum-within : Within (2 * near) minimum
+  pub reach : k ≤ lo
+  pub so-far : v ≡ prices list d minimum v₀ k
+
+pub first-change : (n lo : ℕ) (list : List ℕ) (d v : List ℤ) (minimum : ℤ) → CanChange n lo list d v → length v ≡ n → minimum ≡ price d (at list lo)
+    → Changing n lo list d v minimum v 0
+first-change n lo list d v minimum can size e = record {
+  can = can;
+  prices-size = size;
+  minimum-within = subst (Within (2 * near)) (sym e) (can .distances-near (at list lo));
+  reach = omega arith;
+  so-far = sym (upward-none 0 0 (λ k. raise d minimum (at list k)) v (omega arith));
+}
+
+module _ {n lo : ℕ} {list : List ℕ} {d v₀ : List ℤ} {minimum : ℤ} {v : List ℤ} {k : ℕ} (C : Changing n lo list d v₀ minimum v k) where
+  pub size : length v ≡ n
+  size = ap length (C .so-far) ∙ prices-length list d minimum v₀ k ∙ C .prices-size
+
+  pub changed : lo ≤ k → minimum ≡ price d (at list lo) → v ≡ newPrices (readyAt lo list d) v₀
+  unfolding newPrices
+  changed l e =
+      let z : k ≡ lo = omega (arith, C .reach) in
+      C .so-far ∙ ap (prices list d minimum v₀) z ∙ ap (λ (m : ℤ). prices list d m v₀ lo) e
+
+  module _ (l : k < lo) where
+    abbrev j : ℕ
+    j = at list k
+
+    abbrev x : ℤ
+    x = price v j
+
+    abbrev y : ℤ
+    y = price d j
+
+    pub column-below : at list k < n
+    column-below = C .can .listed .injective .below k (omega (arith, C .can .ready-below))
+
+    x-within : Within (2 ^ 60) x
+    x-within =
+        subst (λ (s : List ℤ). Within (2 ^ 60) (price s j)) (sym (C .so-far))
+        (prices-wide k (price (prices list d minimum v₀ k) j) (omega (arith, C .can .ready-below, C .can .small, side-small))
+        (prices-within list d minimum v₀ (C .can .prices-near) (C .can .distances-near) (C .minimum-within) k j))
+
+    x-fits : SFits w64 x
+    x-fits = omega (zlin, x-within)
+
+    y-fits : SFits w64 y
+    y-fits = near-fits x y minimum (C .can .distances-near j) (C .minimum-within)
+
+    difference-fits : SFits w64 (y -ℤ minimum)
+    difference-fits = near-difference x y minimum (C .can .distances-near j) (C .minimum-within)
+
+    sum-fits : SFits w64 (x +ℤ (y -ℤ minimum))
+    sum-fits = near-sum x y minimum (C .can .distances-near j) (C .minimum-within) x-within
+
+    pub sub-fits : SFits w64 (toZ w64 (ofZ w64 y) -ℤ minimum)
+    sub-fits = rw (toZ-ofZ y-fits) difference-fits
+
+    pub add-fits : SFits w64 (toZ w64 (ofZ w64 x) +ℤ toZ w64 (ofZ w64 (toZ w64 (ofZ w64 y) -ℤ minimum)))
+    add-fits = rw (toZ-ofZ x-fits, toZ-ofZ y-fits, toZ-ofZ difference-fits) sum-fits
+
+    pub next : Changing n lo list d v₀ minimum (set v j (toZ w64 (ofZ w64 (toZ w64 (ofZ w64 x) +ℤ toZ w64 (ofZ w64 (toZ w64 (ofZ w64 y) -ℤ minimum)))))) (k + 1)
+    next = record {
+      can = C .can;
+      prices-size = C .prices-size;
+      minimum-within = C .minimum-within;
+      reach = omega arith;
+      so-far =
+          rw (toZ-ofZ x-fits, toZ-ofZ y-fits, toZ-ofZ difference-fits, toZ-ofZ sum-fits, add-one k)
+          (ap (raise d minimum j) (C .so-far) ∙ sym (upward-last 0 k (λ i. raise d minimum (at list i)) v₀ (omega arith)));
+    }

@@ -1,0 +1,52 @@
+-- What a search and its steps ask for, and what they leave in lent memory.
+use mathlib.Core.Path.{_≡_}
+use mathlib.Core.List.{List, []}
+use Prim.Native.Nat.{ℕ, _+_, _*_, _≤_, _<_}
+use lib.IntN.{ℤ}
+use lib.Signed.{_≤ℤ_}
+use lib.ListN.{length}
+use Rattle.ints.specs.Parts.{Within}
+use Rattle.lists.specs.Permutations.{at, Permutation}
+use Rattle.assignment.specs.Pairings.{price, square}
+use Rattle.matrix.specs.Limits.{side}
+use Rattle.rules.specs.Lowest.{reduced}
+use Rattle.rules.specs.Search.{Found, searchStart, search, newPrices}
+use Rattle.augmentation.specs.Ranges.{near}
+use Rattle.augmentation.specs.Room.{listIn, predecessorsIn, roomWith}
+use Rattle.augmentation.specs.Scan.{Lent, workOf, workIn}
+
+-- Before a search starts.
+pub record CanStart (n : ℕ) (costs : List ℤ) (start : ℕ) (v d : List ℤ) (room : List ℕ) : Type 0 where
+  pub small : n ≤ side
+  pub start-below : start < n
+  pub costs-size : length costs ≡ n * n
+  pub prices-size : length v ≡ n
+  pub distances-size : length d ≡ n
+  pub room-size : length room ≡ n + n + n + n
+  pub prices-near : (j : ℕ) → Within near (price v j)
+
+-- A search has started: the columns in their order, each as far as the start row makes it. No column's row is asked.
+pub record Started (n : ℕ) (costs : List ℤ) (start : ℕ) (v : List ℤ) (room₀ : List ℕ) (d : List ℤ) (room : List ℕ) : Type 0 where
+  pub same : workIn n 0 d room 0 ≡ searchStart n (square n costs .cost) (price v) (λ j. n) start
+  pub frame : room ≡ roomWith n (listIn n room) (predecessorsIn n room) room₀
+
+-- The column at place lo has a row, and its distance is that of a search.
+pub record CanScan (n : ℕ) (costs : List ℤ) (rows : List ℕ) (lo hi : ℕ) (v d : List ℤ) (room : List ℕ) : Type 0 where
+  pub lent : Lent n v rows d room
+  pub costs-size : length costs ≡ n * n
+  pub place : (lo < n) × (hi ≤ n)
+  pub taken : at rows (at (listIn n room) lo) < n
+  pub minimum-near : Within (2 * near) (price d (at (listIn n room) lo))
+
+-- What was found, as far as the prices ask: the first lo columns of the list are ready, and the last block starts at lo.
+abbrev pub readyAt : ℕ → List ℕ → List ℤ → Found
+readyAt lo list d = record { column = 0; ready = lo; cursor = record { lo = lo; hi = lo }; work = workOf lo list d [] 0 }
+
+-- The first lo columns of the list are ready; there are n prices.
+pub record CanChange (n lo : ℕ) (list : List ℕ) (d v : List ℤ) : Type 0 where
+  pub small : n ≤ side
+  pub ready-below : lo < n
+  pub listed : Permutation n list
+  pub distances-size : length d ≡ n
+  pub distances-near : (j : ℕ) → Within (2 * near) (price d j)
+  pub prices-near : (j : ℕ) → Within near (price v j)
