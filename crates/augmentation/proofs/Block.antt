@@ -97,16 +97,16 @@ blocked-at B a b c = rw (a, b, c) B
 
 -- ---- the last free column
 
-module _ (n : ℕ) (cost : ℕ → ℕ → ℤ) (v : ℕ → ℤ) (row : ℕ → ℕ) (list : List ℕ) (lo : ℕ) where
-  pub last-none : NoneYet ≡ lastFree n cost v row list lo lo
+module _ (n : ℕ) (row : ℕ → ℕ) (list : List ℕ) (lo : ℕ) where
+  pub last-none : NoneYet ≡ lastFree n row list lo lo
   unfolding lastFree
   last-none = sym (upward-none lo lo _ NoneYet (omega arith))
 
   module _ (k : ℕ) (l : lo ≤ k) where
-    pub last-free : n ≤ row (at list k) → At (at list k) ≡ lastFree n cost v row list lo (k + 1)
+    pub last-free : n ≤ row (at list k) → At (at list k) ≡ lastFree n row list lo (k + 1)
     unfolding lastFree
     last-free h = sym (rw (add-one k, upward-last lo k, le-ltb (row (at list k)) n h))
 
-    pub last-taken : row (at list k) < n → lastFree n cost v row list lo k ≡ lastFree n cost v row list lo (k + 1)
+    pub last-taken : row (at list k) < n → lastFree n row list lo k ≡ lastFree n row list lo (k + 1)
     unfolding lastFree
     last-taken h = sym (rw (add-one k, upward-last lo k, lt-ltb (row (at list k)) n h))

@@ -1,4 +1,3 @@
-pub mod Ranges
 pub mod Room
 pub mod Filled
 pub mod Block

@@ -22,7 +22,8 @@ use Rattle.rules.specs.declared.ScanEnd.the-variants as ends
 use Rattle.rules.specs.Search.{Work, Hit, same, reachBy, join, afterLowering, scanColumn}
 use Rattle.rules.proofs.Cases.{same-true, until-longer}
 use Rattle.augmentation.specs.Room.{listIn, predecessorsIn, roomWith}
-use Rattle.augmentation.specs.Scan.{workOf, workIn, Seen, seenIn, seen, Looked}
+use Rattle.augmentation.specs.Scan.{workIn, Seen, seenIn, seen, Looked}
+use Rattle.rules.specs.Search.{workOf}
 use Rattle.augmentation.proofs.Room.{list-length, predecessors-length, room-self, room-length, list-of, predecessors-of, get-list, set-predecessor, exchange-list}
 
 pub same-equal : (x y : ℤ) → x ≡ y → same x y ≡ true
@@ -108,10 +109,9 @@ module _ (n i : ℕ) (row v : List ℤ) (rows : List ℕ) (h minimum : ℤ) (hi�
         unfolding tests
         turn cost e m a b c ea eb ec =
             let w = workOf hi (L .list) d (L .predecessors) m in
-            let step : ℕ → ℤ → Turn Work Hit = λ y z. cond (ltZ z (price d y)) (afterLowering n cost (price v) (at rows) minimum k y (reachBy w i y z)) (on w) in
-            let put : price (set d j x) j ≡ x = getD-set-same d j x (pos 0) (omega (arith, column-below, L .distances-size)) in
+            let step : ℕ → ℤ → Turn Work Hit = λ y z. cond (ltZ z (price d y)) (afterLowering n (at rows) minimum k y z (reachBy w i y z)) (on w) in
             let z : x ≡ (cost i j -ℤ price v j) -ℤ h = lowered ∙ ap (λ (y : ℤ). (y -ℤ price v j) -ℤ h) (sym (e j column-below)) in
-            let here : tests m a b c ≡ step j x = sym (rw (ea, put, eb, ec)) in
+            let here : tests m a b c ≡ step j x = sym (rw (ea, eb, ec)) in
             here ∙ ap (step j) z ∙ ap (λ (y : ℕ). step y ((cost i y -ℤ price v y) -ℤ h)) column-is
             ∙ ap (λ (t : Turn Work Hit). andThen t (scanColumn n cost (price v) (at rows) minimum h i k)) (L .run-is cost e m)
             ∙ sym (until-last hi₀ k (scanColumn n cost (price v) (at rows) minimum h i) (workIn n hi₀ d₀ room₀ m) (omega (arith, L .place)))

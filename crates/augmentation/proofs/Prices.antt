@@ -22,9 +22,8 @@ use Rattle.matrix.specs.Limits.{side}
 use Rattle.matrix.proofs.Limits.{side-small}
 use Rattle.rules.specs.Search.{raise, newPrices}
 use Rattle.rules.proofs.Cases.{here-or-elsewhere, lt-or-le}
-use Rattle.augmentation.specs.Ranges.{near}
+use Rattle.matrix.specs.Limits.{near}
 use Rattle.augmentation.specs.Search.{readyAt, CanChange}
-use Rattle.augmentation.proofs.Ranges.{near-small}
 
 -- A store of a near number in a list of near numbers. Past the end of the list the number is 0.
 pub set-within : (b : ℕ) (l : List ℤ) (j : ℕ) (x : ℤ) → ((k : ℕ) → Within b (price l k)) → Within b x → (k : ℕ) → Within b (price (set l j x) k)
@@ -47,7 +46,6 @@ module _ (list : List ℕ) (d : List ℤ) (minimum : ℤ) (v₀ : List ℤ) wher
 
   pub prices-within : ((j : ℕ) → Within near (price v₀ j)) → ((j : ℕ) → Within (2 * near) (price d j)) → Within (2 * near) minimum
       → (k j : ℕ) → Within (near * (4 * k + 1)) (price (prices k) j)
-  unfolding near
   prices-within h g m k =
       upward-keeps (λ i v. (j : ℕ) → Within (near * (4 * i + 1)) (price v j)) 0 k (λ i. raise d minimum (at list i)) v₀ (omega arith) (λ j. h j)
       (λ i v l u w. set-within (near * (4 * suc i + 1)) v (at list i) (price v (at list i) +ℤ (price d (at list i) -ℤ minimum))
@@ -58,16 +56,15 @@ module _ (list : List ℕ) (d : List ℤ) (minimum : ℤ) (v₀ : List ℤ) wher
 
 module _ (x y m : ℤ) (a : Within (2 * near) y) (b : Within (2 * near) m) where
   near-fits : SFits w64 y
-  near-fits = omega (zlin, near-small, a)
+  near-fits = omega (zlin, a)
 
   near-difference : SFits w64 (y -ℤ m)
-  near-difference = omega (zlin, near-small, a, b)
+  near-difference = omega (zlin, a, b)
 
   near-sum : Within (2 ^ 60) x → SFits w64 (x +ℤ (y -ℤ m))
-  near-sum w = omega (zlin, near-small, a, b, dif y m)
+  near-sum w = omega (zlin, a, b, dif y m)
 
 prices-wide : (k : ℕ) (z : ℤ) → k < 2 ^ 16 → Within (near * (4 * k + 1)) z → Within (2 ^ 60) z
-unfolding near
 prices-wide k z s w = omega arith
 
 -- The first k ready columns have their new prices.

@@ -18,10 +18,9 @@ use Rattle.lists.specs.Permutations.{at}
 use Rattle.assignment.specs.Pairings.{price, square}
 use Rattle.rules.specs.declared.ScanEnd.{ScanEnd}
 use Rattle.rules.specs.Search.{scanRow, scanColumn}
-use Rattle.augmentation.specs.Ranges.{near}
+use Rattle.matrix.specs.Limits.{near}
 use Rattle.augmentation.specs.Room.{listIn}
 use Rattle.augmentation.specs.Scan.{workIn, seenIn, seen, Looked, Scanned}
-use Rattle.augmentation.proofs.Ranges.{near-large}
 
 -- Row i of n * n costs in row order.
 abbrev pub rowOf : ℕ → List ℤ → ℕ → List ℤ
@@ -35,7 +34,7 @@ row-cost n costs i j l = sym (part-at (i * n) n costs j (pos 0) l)
 
 -- What a row has to spare is near.
 pub spare-near : (c p m : ℤ) → SFits w32 c → Within near p → Within (2 * near) m → Within (4 * near) ((c -ℤ p) -ℤ m)
-spare-near c p m f a b = omega (zlin, near-large, f, dif c p, dif (c -ℤ p) m)
+spare-near c p m f a b = omega (zlin, f, dif c p, dif (c -ℤ p) m)
 
 pub column-at : (n : ℕ) (room : List ℕ) (k : ℕ) → k < n → getD room (n + k) 0 ≡ at (listIn n room) k
 column-at n room k l = sym (part-at n n room k 0 l)

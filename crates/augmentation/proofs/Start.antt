@@ -10,7 +10,7 @@ use Rattle.lists.proofs.Tables.{length-table, table-cong}
 use Rattle.assignment.specs.Pairings.{price, square}
 use Rattle.rules.specs.Lowest.{reduced}
 use Rattle.augmentation.specs.Room.{listIn, predecessorsIn, roomWith}
-use Rattle.augmentation.specs.Scan.{workOf}
+use Rattle.rules.specs.Search.{workOf}
 use Rattle.augmentation.specs.Search.{Started}
 use Rattle.augmentation.proofs.Room.{list-length, predecessors-length, room-self, room-length, list-of, predecessors-of, list-back, predecessors-back, lent-list}
 use Rattle.augmentation.proofs.Scan.{rowOf, row-cost}

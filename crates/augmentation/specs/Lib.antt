@@ -1,4 +1,3 @@
-pub mod Ranges
 pub mod Room
 pub mod Scan
 pub mod Search

@@ -11,18 +11,9 @@ use Rattle.assignment.specs.Pairings.{price, square}
 use Rattle.matrix.specs.Limits.{side}
 use Rattle.rules.specs.declared.ScanEnd.{ScanEnd}
 use Rattle.rules.specs.declared.ScanEnd.the-variants as ends
-use Rattle.rules.specs.Search.{Work, Hit, scanColumn, scanRow}
-use Rattle.augmentation.specs.Ranges.{near}
+use Rattle.rules.specs.Search.{Work, workOf, Hit, scanColumn, scanRow}
+use Rattle.matrix.specs.Limits.{near}
 use Rattle.augmentation.specs.Room.{listIn, predecessorsIn, roomWith}
-
-abbrev pub workOf : ℕ → List ℕ → List ℤ → List ℕ → ℕ → Work
-workOf hi list distances predecessors scanned = record {
-  hi = hi;
-  list = list;
-  distances = distances;
-  predecessors = predecessors;
-  scanned = scanned;
-}
 
 -- The work whose list and predecessors are parts of a room.
 abbrev pub workIn : ℕ → ℕ → List ℤ → List ℕ → ℕ → Work

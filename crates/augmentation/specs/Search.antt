@@ -11,9 +11,10 @@ use Rattle.assignment.specs.Pairings.{price, square}
 use Rattle.matrix.specs.Limits.{side}
 use Rattle.rules.specs.Lowest.{reduced}
 use Rattle.rules.specs.Search.{Found, searchStart, search, newPrices}
-use Rattle.augmentation.specs.Ranges.{near}
+use Rattle.matrix.specs.Limits.{near}
 use Rattle.augmentation.specs.Room.{listIn, predecessorsIn, roomWith}
-use Rattle.augmentation.specs.Scan.{Lent, workOf, workIn}
+use Rattle.augmentation.specs.Scan.{Lent, workIn}
+use Rattle.rules.specs.Search.{workOf}
 
 -- Before a search starts.
 pub record CanStart (n : ℕ) (costs : List ℤ) (start : ℕ) (v d : List ℤ) (room : List ℕ) : Type 0 where

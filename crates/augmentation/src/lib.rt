@@ -6,12 +6,12 @@ ghost use lib.ListN.{length};
 ghost use Rattle.ints.specs.Parts.{Within};
 ghost use Rattle.lists.specs.Permutations.{at, table, exchange, Permutation};
 ghost use Rattle.assignment.specs.Pairings.{price, square};
-ghost use Rattle.matrix.specs.Limits.{side};
+ghost use Rattle.matrix.specs.Limits.{side, near};
 ghost use Rattle.rules.specs.Block.{block};
 ghost use Rattle.rules.specs.Search.{lastFree, newPrices};
-ghost use Rattle.augmentation.specs.Ranges.{near};
 ghost use Rattle.augmentation.specs.Scan.{Lent, Looked, Scanned};
 ghost use Rattle.augmentation.specs.Search.{CanStart, Started, CanScan, CanChange, readyAt};
+use matrix::reduced_cost;
 use matrix::row;
 use rules::Cursor;
 use rules::LastFree;
@@ -26,14 +26,6 @@ fn exchange(list: &mut [u32], a: usize, b: usize)
     let y = list[b];
     list[a] = y;
     list[b] = x;
-}
-
-// The crate's `reduced_cost`: a cost minus its column's price.
-fn reduced_cost(cost: i32, price: i64) -> i64
-    requires { ⌜ Within near price ⌝ }
-    ensures { λ r. ⌜ r ≡ cost -ℤ price ⌝ }
-{
-    cost as i64 - price
 }
 
 // A reduced cost, lowered by h.
@@ -72,7 +64,7 @@ fn find_dense(n: usize, lo: usize, d: &[i64], list: &mut [u32]) -> usize
 // Rule 5: the last free column of a fresh block.
 fn last_free(n: usize, lo: usize, hi: usize, list: &[u32], rows: &[u32]) -> LastFree
     requires { ⌜ (lo ≤ hi) × (hi ≤ n) × (length (now rows) ≡ n) × Permutation n (now list) ⌝ }
-    ensures { λ r. ⌜ r ≡ lastFree n (λ i j. pos 0) (λ j. pos 0) (at (now (rows .entry))) (now (list .entry)) lo hi ⌝ }
+    ensures { λ r. ⌜ r ≡ lastFree n (at (now (rows .entry))) (now (list .entry)) lo hi ⌝ }
 {
     let mut last = LastFree::NoneYet;
     let mut k = lo;

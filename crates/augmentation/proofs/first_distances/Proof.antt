@@ -2,7 +2,7 @@
 use mir.Syntax.{w32, w64}
 use Rattle.ints.specs.Parts.{Within}
 use Rattle.ints.proofs.Bits.{read-back}
-use Rattle.augmentation.specs.Ranges.{near}
+use Rattle.matrix.specs.Limits.{near}
 use mathlib.Core.Path.{ap₂}
 use Prim.Native.Nat.{ℕ, _+_, _-_, _≤_, _<_}
 use mathlib.Core.Path.{_≡_, refl, sym, ap, _∙_, subst}
@@ -16,7 +16,7 @@ use Rattle.augmentation.proofs.first_distances.Statement.{statement}
 use Rattle.augmentation.proofs.first_distances.Tie as tie
 use Rattle.augmentation.proofs.first_distances.Reads as reads
 use Rattle.augmentation.proofs.first_distances.Lts as lts
-use Rattle.augmentation.proofs.reduced_cost.Reads as reduced-cost-reads
+use Rattle.matrix.proofs.reduced_cost.Reads as reduced-cost-reads
 
 abbrev Inv-loop : tie.InvT-loop
 Inv-loop n row v d₀ j₀ d j = Filled n (λ i. price row i -ℤ price v i) d j

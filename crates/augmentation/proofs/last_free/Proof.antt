@@ -16,13 +16,13 @@ use Rattle.augmentation.proofs.last_free.Reads as reads
 use Rattle.augmentation.proofs.last_free.Lts as lts
 
 abbrev Inv-loop : tie.InvT-loop
-Inv-loop n lo hi list rows last₀ k₀ last k = (lo ≤ k) × (k ≤ hi) × (last ≡ lastFree n (λ i j. pos 0) (λ j. pos 0) (at rows) list lo k)
+Inv-loop n lo hi list rows last₀ k₀ last k = (lo ≤ k) × (k ≤ hi) × (last ≡ lastFree n (at rows) list lo k)
 
 abbrev μ-loop : tie.MeasureT-loop
 μ-loop n lo hi list rows last₀ k₀ last k = hi - k
 
 loop-holds : tie.Need-loop-holds Inv-loop μ-loop
-loop-holds c = (omega arith, c .pre .0, last-none _ _ _ _ _ _)
+loop-holds c = (omega arith, c .pre .0, last-none _ _ _ _)
 
 mul-j : tie.Need-mul-j Inv-loop μ-loop
 mul-j c = search needs
@@ -58,15 +58,15 @@ loop-again c =
     let l = c .before .before .before .before .loop in (
       omega arith,
       omega arith,
-      ⊎-elim (λ a. a .1 ∙ last-free _ _ _ _ _ _ _ (l .inv .0) (a .0 .taken))
-          (λ a. a .1 ∙ l .inv .2 ∙ last-taken _ _ _ _ _ _ _ (l .inv .0) (a .0 .left)) (c .if1 .came),
+      ⊎-elim (λ a. a .1 ∙ last-free _ _ _ _ _ (l .inv .0) (a .0 .taken))
+          (λ a. a .1 ∙ l .inv .2 ∙ last-taken _ _ _ _ _ (l .inv .0) (a .0 .left)) (c .if1 .came),
     )
 
 returns : tie.Need-returns Inv-loop μ-loop
 returns c =
     let s = c .before .before .args in
     let e : c .before .loop .k ≡ s .hi = omega arith in
-    c .before .loop .inv .2 ∙ ap (lastFree (s .n) (λ i j. pos 0) (λ j. pos 0) (at (s .rows .now)) (s .list .now) (s .lo)) e
+    c .before .loop .inv .2 ∙ ap (lastFree (s .n) (at (s .rows .now)) (s .list .now) (s .lo)) e
 
 pub last-free-spec : {M : Type 1} → statement M
 last-free-spec =

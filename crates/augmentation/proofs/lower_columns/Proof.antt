@@ -19,7 +19,7 @@ use Rattle.lists.specs.Permutations.{at}
 use Rattle.assignment.specs.Pairings.{price}
 use Rattle.matrix.specs.Limits.{side}
 use Rattle.matrix.proofs.Limits.{side-small}
-use Rattle.augmentation.specs.Ranges.{near}
+use Rattle.matrix.specs.Limits.{near}
 use Rattle.augmentation.specs.Scan.{Looked}
 use Rattle.augmentation.proofs.Look.{Looking, first-look, room-long, looked, column-below, pass-by, lower, swap-in, hit, looking-at, same-equal, same-other}
 use borrow.Author.Needs.{needs}

@@ -10,8 +10,7 @@ use mir.Facts.{toZ-ofZ}
 use Rattle.ints.specs.Parts.{Within}
 use Rattle.ints.proofs.Sums.{dif}
 use Rattle.ints.proofs.Shapes.{zlin}
-use Rattle.augmentation.specs.Ranges.{near}
-use Rattle.augmentation.proofs.Ranges.{near-small}
+use Rattle.matrix.specs.Limits.{near}
 use Rattle.augmentation.proofs.lowered.Statement.{statement}
 use Rattle.augmentation.proofs.lowered.Tie as tie
 
@@ -24,7 +23,7 @@ module _ (cost price h r : ℤ) (f : SFits w32 cost) (fp : SFits w64 price) (g :
   read = record { sfits = small }
 
   difference : SFits w64 (r -ℤ h)
-  difference = omega (zlin, f, near-small, within .0, within .1, is)
+  difference = omega (zlin, f, within .0, within .1, is)
 
   difference-fits : SFits w64 (toZ w64 (ofZ w64 r) -ℤ toZ w64 (ofZ w64 h))
   difference-fits = rw (toZ-ofZ read, toZ-ofZ g) difference

@@ -14,7 +14,7 @@ use Rattle.lists.specs.Permutations.{at}
 use Rattle.assignment.specs.Pairings.{price}
 use Rattle.matrix.specs.Limits.{side}
 use Rattle.matrix.proofs.Limits.{side-small}
-use Rattle.augmentation.specs.Ranges.{near}
+use Rattle.matrix.specs.Limits.{near}
 use Rattle.augmentation.proofs.Scan.{row-length, row-cost, spare-near, column-at, scanned}
 use borrow.Author.Needs.{needs}
 use Rattle.augmentation.proofs.scan_dense.Statement.{statement}
