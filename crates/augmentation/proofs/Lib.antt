@@ -5,3 +5,6 @@ pub mod Look
 pub mod Prices
 pub mod Scan
 pub mod Start
+pub mod Loops
+pub mod ScanLoop
+pub mod Search

@@ -9,7 +9,8 @@ use Rattle.ints.specs.Parts.{Within}
 use Rattle.lists.specs.Permutations.{at, Permutation}
 use Rattle.assignment.specs.Pairings.{price, square}
 use Rattle.matrix.specs.Limits.{side}
-use Rattle.rules.specs.Lowest.{reduced}
+use Rattle.rules.specs.declared.Reached.{Reached}
+use Rattle.rules.proofs.Prices.{Fair}
 use Rattle.rules.specs.Search.{Found, searchStart, search, newPrices}
 use Rattle.matrix.specs.Limits.{near}
 use Rattle.augmentation.specs.Room.{listIn, predecessorsIn, roomWith}
@@ -51,3 +52,33 @@ pub record CanChange (n lo : ℕ) (list : List ℕ) (d v : List ℤ) : Type 0 wh
   pub distances-size : length d ≡ n
   pub distances-near : (j : ℕ) → Within (2 * near) (price d j)
   pub prices-near : (j : ℕ) → Within near (price v j)
+
+-- Some column is free.
+pub record HasFree (n : ℕ) (rows : List ℕ) : Type 0 where
+  pub column : ℕ
+  pub below : column < n
+  pub free : n ≤ at rows column
+
+-- A search can be made from row `start`: fair prices, and a column that is free.
+pub record CanSearch (n : ℕ) (costs : List ℤ) (rows : List ℕ) (start : ℕ) (v : List ℤ) : Type 0 where
+  pub small : n ≤ side
+  pub start-below : start < n
+  pub costs-size : length costs ≡ n * n
+  pub prices-size : length v ≡ n
+  pub rows-size : length rows ≡ n
+  pub costs-near : (k : ℕ) → Within near (price costs k)
+  pub prices-near : (j : ℕ) → Within near (price v j)
+  pub fair : Fair n (square n costs .cost) (price v) (at rows)
+  pub has-free : HasFree n rows
+
+-- What a search finds.
+abbrev pub foundFrom : ℕ → List ℤ → List ℕ → ℕ → List ℤ → Found
+foundFrom n costs rows start v = search n (square n costs .cost) (price v) (at rows) start
+
+-- What a search leaves: its answer, the new prices, the distances, and the column list and the predecessors in the room.
+pub record Searched (n : ℕ) (f : Found) (v₀ : List ℤ) (room₀ : List ℕ) (r : Reached) (v d : List ℤ) (room : List ℕ) : Type 0 where
+  pub column : r .column ≡ f .column
+  pub scanned : r .scanned ≡ f .work .scanned
+  pub prices : v ≡ newPrices f v₀
+  pub distances : d ≡ f .work .distances
+  pub room-is : room ≡ roomWith n (f .work .list) (f .work .predecessors) room₀

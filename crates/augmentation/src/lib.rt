@@ -10,11 +10,12 @@ ghost use Rattle.matrix.specs.Limits.{side, near};
 ghost use Rattle.rules.specs.Block.{block};
 ghost use Rattle.rules.specs.Search.{lastFree, newPrices};
 ghost use Rattle.augmentation.specs.Scan.{Lent, Looked, Scanned};
-ghost use Rattle.augmentation.specs.Search.{CanStart, Started, CanScan, CanChange, readyAt};
+ghost use Rattle.augmentation.specs.Search.{CanStart, Started, CanScan, CanChange, readyAt, CanSearch, Searched, foundFrom};
 use matrix::reduced_cost;
 use matrix::row;
 use rules::Cursor;
 use rules::LastFree;
+use rules::Reached;
 use rules::ScanEnd;
 
 // The places a and b of a list change places.
@@ -201,4 +202,51 @@ fn change_prices(lo: usize, list: &[u32], d: &[i64], v: &mut [i64])
         v[j] = v[j] + (d[j] - minimum);
         k += 1;
     }
+}
+
+// Rule 5, the search: from the free row `start` to a free column, and then the new prices. The scan has a cursor of its own, which is stored
+// only where the scan was not left.
+pub fn find_path_dense(
+    n: usize,
+    costs: &[i32],
+    rows: &[u32],
+    start: u32,
+    v: &mut [i64],
+    d: &mut [i64],
+    room: &mut [u32],
+) -> Reached
+    requires { ⌜ CanSearch n (now costs) (now rows) start (now v) × (length (now d) ≡ n) × (length (now room) ≡ n + n + n + n) ⌝ }
+    ensures { λ r. ⌜ Searched n (foundFrom n (now (costs .entry)) (now (rows .entry)) start (now (v .entry))) (now (v .entry)) (now (room .entry)) r (now (v .exit)) (now (d .exit)) (now (room .exit)) ⌝ }
+{
+    let n2 = n + n;
+    start_search(n, costs, start, v, d, room);
+    let mut cursor = Cursor { lo: 0, hi: 0 };
+    let mut scanned: usize = 0;
+    let column = 'search: loop {
+        let lo = cursor.hi;
+        let hi = find_dense(n, lo, d, &mut room[n..n2]);
+        cursor = Cursor { lo, hi };
+        match last_free(n, lo, hi, &room[n..n2], rows) {
+            LastFree::At(j) => {
+                break j;
+            }
+            LastFree::NoneYet => {}
+        }
+        let mut scan = cursor;
+        while scan.lo != scan.hi {
+            let next = scan.lo + 1;
+            scanned += 1;
+            match scan_dense(n, costs, rows, scan, v, d, room) {
+                ScanEnd::On(end) => {
+                    scan = Cursor { lo: next, hi: end };
+                }
+                ScanEnd::Hit(free) => {
+                    break 'search free;
+                }
+            }
+        }
+        cursor = scan;
+    };
+    change_prices(cursor.lo, &room[n..n2], d, v);
+    Reached { column, scanned }
 }

@@ -1,0 +1,306 @@
+-- The turns of the search's loop: its start, a fresh block, the end of a scan, and how it is left. Assumes nothing.
+use mathlib.Core.Path.{_≡_, refl, sym, ap, ap₂, _∙_, subst}
+use mathlib.Core.Logic.{_≢_, inl, inr}
+use mathlib.Core.List.{List, _++_}
+use Prim.Native.Nat.{ℕ, zero, suc, _+_, _-_, _*_, _≤_, _<_}
+use native.Mathlib.Numerals.{add-one}
+use native.Mathlib.Omega.{arith}
+use lib.IntN.{ℤ, pos}
+use lib.ListN.{length, take, drop, List·getD-eq-default}
+use Rattle.ints.specs.Parts.{Within}
+use Rattle.lists.specs.Runs.{Turn, on, left, andThen}
+use Rattle.lists.specs.Permutations.{at, Permutation}
+use Rattle.lists.proofs.Tables.{length-table}
+use Rattle.assignment.specs.Pairings.{price, square}
+use Rattle.matrix.specs.Limits.{near}
+use Rattle.rules.specs.declared.Cursor.{Cursor}
+use Rattle.rules.specs.declared.LastFree.{LastFree}
+use Rattle.rules.specs.declared.LastFree.the-variants.{NoneYet, At}
+use Rattle.rules.specs.declared.ScanEnd.the-variants as ends
+use Rattle.rules.specs.Lowest.{reduced, lowest}
+use Rattle.rules.specs.Block.{Block, block}
+use Rattle.rules.specs.Search.{Work, workOf, Hit, Found, scanRow, scan, lastFree, freshBlock, found, afterScan, afterBlock, searchBlock, searchBlocks, searchStart, search, foundAt, newPrices}
+use Rattle.rules.proofs.Cases.{lt-or-le, Either, goes-on, is-left}
+use Rattle.rules.proofs.FreeColumns.{Sought, lastFree-ok}
+use Rattle.rules.proofs.Block.{IsBlock, block-ok}
+use Rattle.rules.proofs.Scan.{Sound}
+use Rattle.rules.proofs.Scans.{Counted, LeftAt, scanRow-ok, scan-ok}
+use Rattle.rules.proofs.Search.{Head, Good, to-scan, head-open, searchBlock-ok, start-head, search-left, search-ok}
+use Rattle.rules.proofs.Turns.{scan-more, scan-done, blocks-first}
+use Rattle.rules.proofs.Augment.{floor-under, distances-within}
+use Rattle.augmentation.specs.Room.{listIn, predecessorsIn, roomWith}
+use Rattle.augmentation.specs.Scan.{workIn, Seen, seenIn, seen, Lent, Scanned}
+use Rattle.augmentation.specs.Search.{CanSearch, CanChange, Started, Searched, readyAt}
+use Rattle.augmentation.proofs.Room.{list-length, predecessors-length, room-self, room-length, list-of, predecessors-of, list-back, room-room, lent-list}
+use Rattle.augmentation.proofs.Loops.{one, distances-near, either-on, Between, Within-scan, Leaving}
+use Rattle.augmentation.proofs.ScanLoop.{scan-over}
+
+module _ (n : ℕ) (costs : List ℤ) (rows : List ℕ) (start : ℕ) (v : List ℤ) where
+  abbrev cost : ℕ → ℕ → ℤ
+  cost = square n costs .cost
+
+  abbrev floor : ℤ
+  floor = lowest n (reduced cost (price v) start) .value
+
+  abbrev blocks : ℕ → Work → Turn Work Found
+  blocks m w = searchBlocks n cost (price v) (at rows) m w
+
+  abbrev rest : ℕ → Work → Turn Work Hit
+  rest k w = scan n cost (price v) (at rows) k w
+
+  module _ (C : CanSearch n costs rows start v) where
+    -- ---- the start
+
+    pub started-size : (room₀ : List ℕ) (d : List ℤ) (room : List ℕ) → Started n costs start v room₀ d room → length room₀ ≡ n + n + n + n
+        → length room ≡ n + n + n + n
+    started-size room₀ d room S size =
+        ap length (S .frame)
+        ∙ room-length n room₀ size (listIn n room) (predecessorsIn n room) (ap (λ (w : Work). length (w .list)) (S .same) ∙ length-table n (λ j. j))
+        (ap (λ (w : Work). length (w .predecessors)) (S .same) ∙ length-table n (λ j. start))
+
+    pub first-between : (room₀ : List ℕ) (d : List ℤ) (room : List ℕ) → Started n costs start v room₀ d room → length room ≡ n + n + n + n
+        → Between n costs rows start v d room d room 0 0
+    first-between room₀ d room S size = record {
+      room-size = size;
+      list = listIn n room;
+      predecessors = predecessorsIn n room;
+      fuel = n;
+      enough = omega arith;
+      room-is = room-self n room size;
+      head = subst (Head n cost (price v) (at rows) start floor) (sym (S .same)) (start-head n cost (price v) (at rows) start floor (floor-under n cost (price v) start (one n costs rows start v C)));
+      same = refl;
+    }
+
+    -- ---- a fresh block
+
+    module _ {d₀ : List ℤ} {room₀ : List ℕ} {d : List ℤ} {room : List ℕ} {lo m : ℕ} (B : Between n costs rows start v d₀ room₀ d room lo m) where
+      abbrev w : Work
+      w = workOf lo (B .list) d (B .predecessors) m
+
+      abbrev b : Block
+      b = block n d lo (B .list)
+
+      sizes : length (B .list) ≡ n
+      sizes = B .head .sound .permutation .size
+
+      pub lo-below : lo < n
+      lo-below = head-open n cost (price v) (at rows) start floor (C .fair) (C .has-free .column) (C .has-free .below) (C .has-free .free) w (B .head)
+
+      pub room-long : length room ≡ n + n + n + n
+      room-long = ap length (B .room-is) ∙ room-length n room₀ (B .room-size) (B .list) (B .predecessors) sizes (B .head .sound .predecessors-size)
+
+      pub lent-is : take (n + n - n) (drop n room) ≡ B .list
+      lent-is =
+          lent-list n room ∙ ap (listIn n) (B .room-is)
+          ∙ list-of n room₀ (B .room-size) (B .list) (B .predecessors) sizes (B .head .sound .predecessors-size)
+
+      pub lent-listed : Permutation n (take (n + n - n) (drop n room))
+      lent-listed = subst (Permutation n) (sym lent-is) (B .head .sound .permutation)
+
+      is-block : IsBlock n d lo (B .list) n b
+      is-block = block-ok n d lo (B .list) (B .head .sound .permutation) lo-below
+
+      -- The list came back with its block.
+      module _ (list′ : List ℕ) (hi : ℕ) (hi-is : hi ≡ block n d lo (take (n + n - n) (drop n room)) .hi)
+          (list-is : list′ ≡ block n d lo (take (n + n - n) (drop n room)) .list) where
+        abbrev pub room′ : List ℕ
+        room′ = take n room ++ (list′ ++ drop (n + n - n) (drop n room))
+
+        he : hi ≡ b .hi
+        he = hi-is ∙ ap (λ (l : List ℕ). block n d lo l .hi) lent-is
+
+        le : list′ ≡ b .list
+        le = list-is ∙ ap (λ (l : List ℕ). block n d lo l .list) lent-is
+
+        pub hi-in : (lo < hi) × (hi ≤ n)
+        hi-in = omega (arith, he, is-block .order)
+
+        fresh-room : room′ ≡ roomWith n (b .list) (B .predecessors) room₀
+        fresh-room =
+            ap₂ (λ (r l : List ℕ). take n r ++ (l ++ drop (n + n - n) (drop n r))) (B .room-is) le
+            ∙ list-back n room₀ (B .room-size) (B .list) (B .predecessors) sizes (B .head .sound .predecessors-size) (b .list) (is-block .permutation .size)
+
+        pub fresh-long : length room′ ≡ n + n + n + n
+        fresh-long =
+            ap length fresh-room ∙ room-length n room₀ (B .room-size) (b .list) (B .predecessors) (is-block .permutation .size) (B .head .sound .predecessors-size)
+
+        fresh-list : listIn n room′ ≡ b .list
+        fresh-list =
+            ap (listIn n) fresh-room ∙ list-of n room₀ (B .room-size) (b .list) (B .predecessors) (is-block .permutation .size) (B .head .sound .predecessors-size)
+
+        fresh-predecessors : predecessorsIn n room′ ≡ B .predecessors
+        fresh-predecessors =
+            ap (predecessorsIn n) fresh-room
+            ∙ predecessors-of n room₀ (B .room-size) (b .list) (B .predecessors) (is-block .permutation .size) (B .head .sound .predecessors-size)
+
+        fresh-lent : take (n + n - n) (drop n room′) ≡ b .list
+        fresh-lent = lent-list n room′ ∙ fresh-list
+
+        pub fresh-listed : Permutation n (take (n + n - n) (drop n room′))
+        fresh-listed = subst (Permutation n) (sym fresh-lent) (is-block .permutation)
+
+        -- One block of the search, and the rest.
+        spare : (f : ℕ) → B .fuel ≡ f → (g : ℕ) × (f ≡ suc g)
+        spare zero e = absurd (omega (arith, B .enough, lo-below))
+        spare (suc g) e = (g, refl)
+
+        fuel-left : ℕ
+        fuel-left = spare (B .fuel) refl .0
+
+        fuel-enough : {h : ℕ} → lo < h → n ≤ fuel-left + h
+        unfolding fuel-left
+        fuel-enough l = omega (arith, spare (B .fuel) refl .1, B .enough)
+
+        turn : andThen (searchBlock n cost (price v) (at rows) w) (blocks fuel-left) ≡ blocks n (workIn n 0 d₀ room₀ 0)
+        unfolding fuel-left
+        turn =
+            sym (blocks-first n cost (price v) (at rows) fuel-left w) ∙ ap (λ (f : ℕ). blocks f w) (sym (spare (B .fuel) refl .1)) ∙ B .same
+
+        -- The answer of last_free, over the definition's list.
+        module _ (o : LastFree) (answer : o ≡ lastFree n (at rows) (take (n + n - n) (drop n room′)) lo hi) where
+          sought : o ≡ lastFree n (at rows) (b .list) lo (b .hi)
+          sought = answer ∙ ap₂ (λ (l : List ℕ) (h : ℕ). lastFree n (at rows) l lo h) fresh-lent he
+
+          block-is : searchBlock n cost (price v) (at rows) w ≡ afterBlock n cost (price v) (at rows) lo (freshBlock n lo w) o
+          block-is = ap (afterBlock n cost (price v) (at rows) lo (freshBlock n lo w)) (sym sought)
+
+        -- The block has a free column.
+        pub leave-fresh : (j : ℕ) → At j ≡ lastFree n (at rows) (take (n + n - n) (drop n room′)) lo hi → Leaving n costs rows start v d₀ room₀ d room′ lo m j
+        leave-fresh j e = record {
+          list = b .list;
+          predecessors = B .predecessors;
+          end = b .hi;
+          hi = b .hi;
+          room-size = B .room-size;
+          room-is = fresh-room;
+          same = sym turn ∙ ap (λ (t : Turn Work Found). andThen t (blocks fuel-left)) (block-is (At j) e);
+        }
+
+        -- No column of the block is free.
+        module _ (none : NoneYet ≡ lastFree n (at rows) (take (n + n - n) (drop n room′)) lo hi) where
+          all-taken : (t : ℕ) → lo ≤ t → t < b .hi → at rows (at (b .list) t) < n
+          all-taken = subst (Sought n (at rows) (b .list) lo (b .hi)) (sym (sought NoneYet none)) (lastFree-ok n (at rows) (b .list) lo (b .hi) (omega (arith, is-block .order)))
+
+          -- The scan's work is the fresh block's.
+          work-is : workIn n hi d room′ m ≡ freshBlock n lo w
+          work-is = ap₂ (λ (l p : List ℕ). workOf hi l d p m) fresh-list fresh-predecessors ∙ ap (λ (h : ℕ). workOf h (b .list) d (B .predecessors) m) he
+
+          -- The scan begins.
+          pub first-scan : Within-scan n costs rows start v d room′ lo hi m d room′ lo hi m
+          first-scan = record {
+            room-size = fresh-long;
+            list = listIn n room′;
+            predecessors = predecessorsIn n room′;
+            minimum = b .minimum;
+            place = omega (arith, hi-in);
+            room-is = room-self n room′ fresh-long;
+            counted = rw work-is (to-scan n cost (price v) (at rows) start floor w (B .head) lo-below all-taken);
+            same = refl;
+          }
+
+          -- A scan that comes to t takes the search's block to what follows it.
+          scan-to : (t : Turn Work Hit) → rest lo (workIn n hi d room′ m) ≡ t → searchBlock n cost (price v) (at rows) w ≡ afterScan lo (b .hi) t
+          scan-to t e = block-is NoneYet none ∙ ap (afterScan lo (b .hi)) (ap (rest lo) (sym work-is) ∙ e)
+
+          back : (l p r : List ℕ) → length l ≡ n → length p ≡ n → r ≡ roomWith n l p room′ → r ≡ roomWith n l p room₀
+          back l p r sl sp e =
+              e ∙ ap (roomWith n l p) fresh-room
+              ∙ room-room n room₀ (B .room-size) (b .list) (B .predecessors) l p (is-block .permutation .size) (B .head .sound .predecessors-size) sl sp
+
+          -- The block was scanned to its end: the next one starts there.
+          pub next-between : {d″ : List ℤ} {room″ : List ℕ} {lo″ hi″ m″ : ℕ} → Within-scan n costs rows start v d room′ lo hi m d″ room″ lo″ hi″ m″ → lo″ ≡ hi″
+              → Between n costs rows start v d₀ room₀ d″ room″ hi″ m″ × (lo < hi″)
+          next-between {d″} {room″} {lo″} {hi″} {m″} M e =
+              let x : Work = workOf hi″ (M .list) d″ (M .predecessors) m″ in
+              let t : searchBlock n cost (price v) (at rows) w ≡ on x = scan-to (on x) (scan-over n costs rows start v C M e) in
+              let H = either-on (rw t at (searchBlock-ok n cost (price v) (at rows) start floor (C .fair) (C .has-free .column) (C .has-free .below) (C .has-free .free) w (B .head))) in (
+                record {
+                  room-size = B .room-size;
+                  list = M .list;
+                  predecessors = M .predecessors;
+                  fuel = fuel-left;
+                  enough = fuel-enough (H .1);
+                  room-is = back (M .list) (M .predecessors) room″ (H .0 .sound .permutation .size) (H .0 .sound .predecessors-size) (M .room-is);
+                  head = H .0;
+                  same = ap (λ (y : Turn Work Found). andThen y (blocks fuel-left)) (sym t) ∙ turn;
+                },
+                H .1,
+              )
+
+          -- The scan was left at a free column.
+          pub leave-scan : {d″ : List ℤ} {room″ : List ℕ} (e j m″ : ℕ)
+              → rest lo (workIn n hi d room′ m) ≡ left (record { column = j; work = workIn n e d″ room″ m″ })
+              → room″ ≡ roomWith n (listIn n room″) (predecessorsIn n room″) room′ → length (listIn n room″) ≡ n → length (predecessorsIn n room″) ≡ n
+              → Leaving n costs rows start v d₀ room₀ d″ room″ lo m″ j
+          leave-scan {d″} {room″} e j m″ q r sl sp = record {
+            list = listIn n room″;
+            predecessors = predecessorsIn n room″;
+            end = b .hi;
+            hi = e;
+            room-size = B .room-size;
+            room-is = back (listIn n room″) (predecessorsIn n room″) room″ sl sp r;
+            same = sym turn ∙ ap (λ (t : Turn Work Found). andThen t (blocks fuel-left)) (scan-to (left (record { column = j; work = workIn n e d″ room″ m″ })) q);
+          }
+
+    -- ---- the end
+
+    module _ {room₀ : List ℕ} {d₁ : List ℤ} {room₁ : List ℕ} (size : length room₀ ≡ n + n + n + n) (T : Started n costs start v room₀ d₁ room₁)
+        {d : List ℤ} {room : List ℕ} {lo m column : ℕ} (L : Leaving n costs rows start v d₁ room₁ d room lo m column) where
+      abbrev f : Found
+      f = found lo (record { lo = lo; hi = L .end }) column (workOf (L .hi) (L .list) d (L .predecessors) m)
+
+      left-same : (x y : Found) → _≡_ {A = Turn Work Found} (left x) (left y) → x ≡ y
+      left-same x y e = ap (foundAt) e
+
+      -- What was found is what the search finds.
+      found-is : f ≡ search n cost (price v) (at rows) start
+      found-is =
+          left-same f (search n cost (price v) (at rows) start)
+          (sym (L .same) ∙ ap (blocks n) (T .same)
+          ∙ search-left n cost (price v) (at rows) start floor (C .fair) (C .has-free .column) (C .has-free .below) (C .has-free .free)
+          (floor-under n cost (price v) start (one n costs rows start v C)))
+
+      good : Good n cost (price v) (at rows) start floor f
+      good =
+          subst (Good n cost (price v) (at rows) start floor) (sym found-is)
+          (search-ok n cost (price v) (at rows) start floor (C .fair) (C .has-free .column) (C .has-free .below) (C .has-free .free)
+          (floor-under n cost (price v) start (one n costs rows start v C)))
+
+      S : Sound n cost (price v) (at rows) start floor (f .work)
+      S = good .1 .sound
+
+      pub leave-long : length room ≡ n + n + n + n
+      leave-long = ap length (L .room-is) ∙ room-length n room₁ (L .room-size) (L .list) (L .predecessors) (S .permutation .size) (S .predecessors-size)
+
+      pub leave-distances : length d ≡ n
+      leave-distances = S .distances-size
+
+      lent-list-is : take (n + n - n) (drop n room) ≡ L .list
+      lent-list-is =
+          lent-list n room ∙ ap (listIn n) (L .room-is) ∙ list-of n room₁ (L .room-size) (L .list) (L .predecessors) (S .permutation .size) (S .predecessors-size)
+
+      -- The prices can be changed.
+      pub can-change : CanChange (length v) lo (take (n + n - n) (drop n room)) d v
+      can-change = rw (C .prices-size) (record {
+        small = C .small;
+        ready-below = good .1 .ready-below;
+        listed = subst (Permutation n) (sym lent-list-is) (S .permutation);
+        distances-size = S .distances-size;
+        distances-near = distances-near n costs rows start v C (f .work) S;
+        prices-near = C .prices-near;
+      })
+
+      pub searched : (v′ : List ℤ) → v′ ≡ newPrices (readyAt lo (take (n + n - n) (drop n room)) d) v
+          → Searched n (search n cost (price v) (at rows) start) v room₀ (record { column = column; scanned = m }) v′ d room
+      unfolding newPrices
+      searched v′ e = record {
+        column = ap (λ (x : Found). x .column) found-is;
+        scanned = ap (λ (x : Found). x .work .scanned) found-is;
+        prices = e ∙ ap (λ (l : List ℕ). newPrices (readyAt lo l d) v) lent-list-is ∙ ap (λ (x : Found). newPrices x v) found-is;
+        distances = ap (λ (x : Found). x .work .distances) found-is;
+        room-is =
+            L .room-is ∙ ap (roomWith n (L .list) (L .predecessors)) (T .frame)
+            ∙ room-room n room₀ size (listIn n room₁) (predecessorsIn n room₁) (L .list) (L .predecessors) (list-length n room₁ (L .room-size))
+            (predecessors-length n room₁ (L .room-size)) (S .permutation .size) (S .predecessors-size)
+            ∙ ap (λ (x : Found). roomWith n (x .work .list) (x .work .predecessors) room₀) found-is;
+      }
