@@ -8,3 +8,5 @@ pub mod Start
 pub mod Loops
 pub mod ScanLoop
 pub mod Search
+pub mod Flips
+pub mod Augmentation

@@ -1,3 +1,4 @@
 pub mod Room
 pub mod Scan
 pub mod Search
+pub mod Augmentation

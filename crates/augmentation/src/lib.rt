@@ -9,8 +9,10 @@ ghost use Rattle.assignment.specs.Pairings.{price, square};
 ghost use Rattle.matrix.specs.Limits.{side, near};
 ghost use Rattle.rules.specs.Block.{block};
 ghost use Rattle.rules.specs.Search.{lastFree, newPrices};
+ghost use Rattle.rules.specs.Augmentation.{flips, flipped};
 ghost use Rattle.augmentation.specs.Scan.{Lent, Looked, Scanned};
 ghost use Rattle.augmentation.specs.Search.{CanStart, Started, CanScan, CanChange, readyAt, CanSearch, Searched, foundFrom};
+ghost use Rattle.augmentation.specs.Augmentation.{CanFlip, CanAugment, Augmented, pairsOf, openAt};
 use matrix::reduced_cost;
 use matrix::row;
 use rules::Cursor;
@@ -249,4 +251,58 @@ pub fn find_path_dense(
     };
     change_prices(cursor.lo, &room[n..n2], d, v);
     Reached { column, scanned }
+}
+
+// Rule 6: pairs flip back along the predecessors, from `column` to the row `start`.
+fn flip_back(
+    n: usize,
+    start: u32,
+    column: usize,
+    predecessors: &[u32],
+    cols: &mut [u32],
+    rows: &mut [u32],
+)
+    requires { ⌜ CanFlip n start column (now predecessors) (now cols) (now rows) ⌝ }
+    ensures { λ r. ⌜ pairsOf (now (cols .exit)) (now (rows .exit)) ≡ flipped (flips n start (now (predecessors .entry)) (openAt column (now (cols .entry)) (now (rows .entry)))) ⌝ }
+{
+    let mut j = column;
+    loop {
+        let i = predecessors[j];
+        let row = i as usize;
+        let old = cols[row] as usize;
+        cols[row] = j as u32;
+        rows[j] = i;
+        if i == start {
+            break;
+        }
+        j = old;
+    }
+}
+
+// Rule 6, augmentation: the first `left` rows of the room get their columns, in list order. Answers how many columns were scanned.
+pub fn ca_dense(
+    n: usize,
+    costs: &[i32],
+    left: usize,
+    cols: &mut [u32],
+    rows: &mut [u32],
+    v: &mut [i64],
+    d: &mut [i64],
+    room: &mut [u32],
+) -> usize
+    requires { ⌜ CanAugment n (now costs) left (now cols) (now rows) (now v) (now d) (now room) ⌝ }
+    ensures { λ r. ⌜ Augmented n (now (costs .entry)) left (now (cols .entry)) (now (rows .entry)) (now (v .entry)) (now (room .entry)) (now (cols .exit)) (now (rows .exit)) (now (v .exit)) (now (room .exit)) r ⌝ }
+{
+    let n2 = n + n;
+    let n3 = n2 + n;
+    let mut scanned: usize = 0;
+    let mut k: usize = 0;
+    while k < left {
+        let start = room[k];
+        let reached = find_path_dense(n, costs, rows, start, v, d, room);
+        scanned += reached.scanned;
+        flip_back(n, start, reached.column, &room[n2..n3], cols, rows);
+        k += 1;
+    }
+    scanned
 }
