@@ -1,2 +1,3 @@
 pub mod Tests
 pub mod Ready
+pub mod Reducing

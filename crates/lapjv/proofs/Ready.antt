@@ -21,6 +21,7 @@ use Rattle.rules.proofs.RowReduction.{PassOf, rowReduction-ok, look-ready}
 use Rattle.reduction.specs.Ranges.{Square}
 use Rattle.reduction.specs.Columns.{Reducible, transfersTo}
 use Rattle.reduction.specs.Rows.{Passable}
+use Rattle.lapjv.specs.Stages.{Pairable}
 
 -- Every side within the limit lies below the free mark.
 pub side-free : side ≤ free
@@ -30,21 +31,14 @@ side-free = omega (arith, side-small)
 pub near-five : {z : ℤ} → Within (5 * K) z → Within near z
 near-five = within-mono (omega (arith, K-small))
 
--- A night that can be paired, of side 1 or more.
-pub record Pairable (n : ℕ) (costs : List ℤ) : Type 0 where
-  pub some : 1 ≤ n
-  pub small : n ≤ side
-  pub squared : length costs ≡ n * n
-  pub within : (k : ℕ) → Within K (price costs k)
-
 module _ (n : ℕ) (costs : List ℤ) (p : Pairable n costs) where
-  abbrev cost : ℕ → ℕ → ℤ
+  abbrev pub cost : ℕ → ℕ → ℤ
   cost = square n costs .cost
 
-  abbrev costs-within : (i j : ℕ) → Within K (cost i j)
+  abbrev pub costs-within : (i j : ℕ) → Within K (cost i j)
   costs-within i j = p .within (i * n + j)
 
-  abbrev GoodStage : Stage → Type 0
+  abbrev pub GoodStage : Stage → Type 0
   GoodStage = Good n cost (p .some) K costs-within
 
   square-ok : Square n costs

@@ -1,3 +1,4 @@
 pub mod Solve
 pub mod Passes
 pub mod Priced
+pub mod Stages

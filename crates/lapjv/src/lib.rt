@@ -6,6 +6,7 @@ ghost use lib.ListN.{length, replicate};
 ghost use Rattle.assignment.specs.Pairings.{Night, square};
 ghost use Rattle.rules.specs.Run.{rowPrices};
 ghost use Rattle.lapjv.specs.Priced.{Priced};
+ghost use Rattle.lapjv.specs.Stages.{Pairable, Sized, ReducedBy, PairedBy};
 ghost use Rattle.lapjv.specs.Solve.{Lent, tested};
 use matrix::Refusal;
 use rules::Counts;
@@ -26,6 +27,14 @@ pub enum Solved {
 pub enum Verdict {
     Passed,
     Fails(Refusal),
+}
+
+// Four of the five counts: those of column reduction and of both passes.
+pub struct Reduced {
+    pub free_rows: usize,
+    pub looks_one: usize,
+    pub looks_two: usize,
+    pub rows_left: usize,
 }
 
 // Refusals 1, 2, 3, 4, 5, in this order.
@@ -105,5 +114,22 @@ fn write_row_prices(n: usize, costs: &[i32], cols: &[u32], v: &[i64], row_prices
         row_prices[i] = matrix::reduced_cost(costs[at], v[j]);
         start += n;
         i += 1;
+    }
+}
+
+// Rules 3 and 4: column reduction and at most two passes; a pass over no rows makes no look.
+fn reduce(n: usize, costs: &[i32], cols: &mut [u32], rows: &mut [u32], v: &mut [i64], room: &mut [u32]) -> Reduced
+    requires { ⌜ Pairable n (now costs) × Sized n (now cols) (now rows) (now v) (now room) ⌝ }
+    ensures { λ r. ⌜ ReducedBy n (now (costs .entry)) (now (cols .exit)) (now (rows .exit)) (now (v .exit)) (now (room .exit)) r ⌝ }
+{
+    let free_rows = reduction::columns::ccrrt_dense(n, costs, cols, rows, v, room);
+    let one = reduction::rows::carr_dense(n, costs, cols, rows, v, &mut room[0..n], free_rows);
+    let left = one.left;
+    let two = reduction::rows::carr_dense(n, costs, cols, rows, v, &mut room[0..n], left);
+    Reduced {
+        free_rows,
+        looks_one: one.looks,
+        looks_two: two.looks,
+        rows_left: two.left,
     }
 }
