@@ -1,3 +1,4 @@
 pub mod Tests
 pub mod Ready
 pub mod Reducing
+pub mod Pairing

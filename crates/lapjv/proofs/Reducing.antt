@@ -38,10 +38,10 @@ module _ (n : ℕ) (costs : List ℤ) (p : Pairable n costs) where
   abbrev cost : ℕ → ℕ → ℤ
   cost = square n costs .cost
 
-  abbrev one-good : GoodStage n costs p (passEnd (passOne n costs))
+  abbrev pub one-good : GoodStage n costs p (passEnd (passOne n costs))
   one-good = rule-four-good n costs p (columnReduction n cost) (rule-three-good n costs p)
 
-  abbrev two-good : GoodStage n costs p (passEnd (passTwo n costs))
+  abbrev pub two-good : GoodStage n costs p (passEnd (passTwo n costs))
   two-good = rule-four-good n costs p (passEnd (passOne n costs)) one-good
 
   -- A stage that is good, as it lies in lent memory, can be passed over.

@@ -133,3 +133,36 @@ fn reduce(n: usize, costs: &[i32], cols: &mut [u32], rows: &mut [u32], v: &mut [
         rows_left: two.left,
     }
 }
+
+// The whole run on lists of n entries and a room of 4n. The rooms are cleared at the end.
+fn pair(
+    n: usize,
+    costs: &[i32],
+    cols: &mut [u32],
+    rows: &mut [u32],
+    row_prices: &mut [i64],
+    v: &mut [i64],
+    room: &mut [u32],
+    d: &mut [i64],
+) -> Night
+    requires { ⌜ Pairable n (now costs) × Sized n (now cols) (now rows) (now v) (now room) × (length (now «row_prices») ≡ n) × (length (now d) ≡ n) ⌝ }
+    ensures { λ r. ⌜ PairedBy n (now (costs .entry)) (now (cols .exit)) (now (rows .exit)) (now («row_prices» .exit)) (now (v .exit)) (now (room .exit)) (now (d .exit)) r ⌝ }
+{
+    let reduced = reduce(n, costs, cols, rows, v, room);
+    let left = reduced.rows_left;
+    let scanned = augmentation::ca_dense(n, costs, left, cols, rows, v, d, room);
+    write_row_prices(n, costs, cols, v, row_prices);
+    let total = matrix::total(n, costs, n, cols);
+    clear_indices(room);
+    clear_numbers(d);
+    Night {
+        total,
+        counts: Counts {
+            free_rows: reduced.free_rows,
+            looks_one: reduced.looks_one,
+            looks_two: reduced.looks_two,
+            rows_left: left,
+            columns_scanned: scanned,
+        },
+    }
+}
