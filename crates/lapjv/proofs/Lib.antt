@@ -2,3 +2,4 @@ pub mod Tests
 pub mod Ready
 pub mod Reducing
 pub mod Pairing
+pub mod Solving

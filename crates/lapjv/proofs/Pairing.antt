@@ -146,11 +146,15 @@ module _ (n : ℕ) (costs : List ℤ) (p : Pairable n costs) (cols rows : List �
       where
         a : ℕ
         a = r .«free_rows»
+
         b : ℕ
         b = r .«looks_one»
+
         e : ℕ
         e = r .«looks_two»
+
         f : ℕ
         f = r .«rows_left»
+
         x′ : State
         x′ = stateOf cols′ rows′ v′ scanned

@@ -26,6 +26,9 @@ pub record Lent : Type 0 where
   pub indices : List ℕ
   pub numbers : List ℤ
 
+abbrev pub lentOf : List ℕ → List ℕ → List ℤ → List ℤ → List ℕ → List ℤ → Lent
+lentOf cols rows us vs indices numbers = record { cols = cols; rows = rows; rowPrices = us; columnPrices = vs; indices = indices; numbers = numbers }
+
 -- The tests in their order: 1; 2; 3, the first output that is shorter than n, by its number; 4, work room 1 or 2; 5, the first cost
 -- outside. Where none applies, the rest is given.
 unfoldable pub tests : {A : Type 0} → ℕ → List ℤ → Lent → (Refusal → A) → A → A
@@ -43,9 +46,12 @@ pub record Outcome : Type 0 where
   pub answer : Solved
   pub lent : Lent
 
+abbrev pub outcomeOf : Solved → Lent → Outcome
+outcomeOf answer lent = record { answer = answer; lent = lent }
+
 -- "A refusal [..] changes no lent entry."
 abbrev pub refused : Lent → Refusal → Outcome
-refused lent refusal = record { answer = Refused refusal; lent = lent }
+refused lent refusal = outcomeOf (Refused refusal) lent
 
 -- "After acceptance the first n entries of each output hold the answer, the first 4n and n work entries are 0, and later entries are
 -- untouched. [..] The answer carries the total and five counts."

@@ -5,9 +5,10 @@ ghost use lib.IntN.{pos};
 ghost use lib.ListN.{length, replicate};
 ghost use Rattle.assignment.specs.Pairings.{Night, square};
 ghost use Rattle.rules.specs.Run.{rowPrices};
+ghost use Rattle.rules.specs.Nights.{five};
 ghost use Rattle.lapjv.specs.Priced.{Priced};
 ghost use Rattle.lapjv.specs.Stages.{Pairable, Sized, ReducedBy, PairedBy};
-ghost use Rattle.lapjv.specs.Solve.{Lent, tested};
+ghost use Rattle.lapjv.specs.Solve.{lentOf, outcomeOf, tested, solve};
 use matrix::Refusal;
 use rules::Counts;
 
@@ -48,7 +49,7 @@ fn tested(
     indices: &[u32],
     numbers: &[i64],
 ) -> Verdict
-    ensures { λ r. ⌜ r ≡ tested n (now (costs .entry)) (record { cols = now (cols .entry); rows = now (rows .entry); rowPrices = now («row_prices» .entry); columnPrices = now («col_prices» .entry); indices = now (indices .entry); numbers = now (numbers .entry) }) ⌝ }
+    ensures { λ r. ⌜ r ≡ tested n (now (costs .entry)) (lentOf (now (cols .entry)) (now (rows .entry)) (now («row_prices» .entry)) (now («col_prices» .entry)) (now (indices .entry)) (now (numbers .entry))) ⌝ }
 {
     if matrix::side_over(n) {
         return Verdict::Fails(Refusal::SideOver);
@@ -118,7 +119,14 @@ fn write_row_prices(n: usize, costs: &[i32], cols: &[u32], v: &[i64], row_prices
 }
 
 // Rules 3 and 4: column reduction and at most two passes; a pass over no rows makes no look.
-fn reduce(n: usize, costs: &[i32], cols: &mut [u32], rows: &mut [u32], v: &mut [i64], room: &mut [u32]) -> Reduced
+fn reduce(
+    n: usize,
+    costs: &[i32],
+    cols: &mut [u32],
+    rows: &mut [u32],
+    v: &mut [i64],
+    room: &mut [u32],
+) -> Reduced
     requires { ⌜ Pairable n (now costs) × Sized n (now cols) (now rows) (now v) (now room) ⌝ }
     ensures { λ r. ⌜ ReducedBy n (now (costs .entry)) (now (cols .exit)) (now (rows .exit)) (now (v .exit)) (now (room .exit)) r ⌝ }
 {
@@ -165,4 +173,65 @@ fn pair(
             columns_scanned: scanned,
         },
     }
+}
+
+// Side 0: total 0, counts 0.
+fn nothing() -> Night
+    ensures { λ r. ⌜ r ≡ record { total = pos 0; counts = five 0 0 0 0 0 } ⌝ }
+{
+    Night {
+        total: 0,
+        counts: Counts {
+            free_rows: 0,
+            looks_one: 0,
+            looks_two: 0,
+            rows_left: 0,
+            columns_scanned: 0,
+        },
+    }
+}
+
+// The solver. Outputs: the column of each row, the row of each column, row prices, column prices. Work room: 4n indices and n numbers.
+pub fn solve(
+    n: usize,
+    costs: &[i32],
+    cols: &mut [u32],
+    rows: &mut [u32],
+    row_prices: &mut [i64],
+    col_prices: &mut [i64],
+    indices: &mut [u32],
+    numbers: &mut [i64],
+) -> Solved
+    ensures { λ r. ⌜ outcomeOf r (lentOf (now (cols .exit)) (now (rows .exit)) (now («row_prices» .exit)) (now («col_prices» .exit)) (now (indices .exit)) (now (numbers .exit))) ≡ solve n (now (costs .entry)) (lentOf (now (cols .entry)) (now (rows .entry)) (now («row_prices» .entry)) (now («col_prices» .entry)) (now (indices .entry)) (now (numbers .entry))) ⌝ }
+{
+    match tested(
+        n,
+        costs,
+        cols,
+        rows,
+        row_prices,
+        col_prices,
+        indices,
+        numbers,
+    ) {
+        Verdict::Fails(refusal) => {
+            return Solved::Refused(refusal);
+        }
+        Verdict::Passed => {}
+    }
+    if n == 0 {
+        return Solved::Paired(nothing());
+    }
+    let n4 = 4 * n;
+    let night = pair(
+        n,
+        costs,
+        &mut cols[0..n],
+        &mut rows[0..n],
+        &mut row_prices[0..n],
+        &mut col_prices[0..n],
+        &mut indices[0..n4],
+        &mut numbers[0..n],
+    );
+    Solved::Paired(night)
 }

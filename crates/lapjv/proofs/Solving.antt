@@ -1,0 +1,75 @@
+-- The entry, over plain lists: a night that passes the tests can be paired on the fronts of the lent lists, and what comes back there is what the
+-- solver's definition says. Assumes nothing.
+use mathlib.Core.Path.{_≡_, refl, sym, ap, ap₂, _∙_}
+use mathlib.Core.List.{List, _++_}
+use Prim.Native.Nat.{ℕ, _+_, _-_, _*_, _≤_, _<_}
+use native.Mathlib.Nat.{sub-zero}
+use native.Mathlib.Omega.{arith}
+use lib.IntN.{ℤ, pos}
+use lib.ListN.{length, take, drop, replicate, length-take}
+use Rattle.rules.specs.Nights.{five}
+use Rattle.rules.specs.Run.{Answer, run}
+use Rattle.rules.proofs.Run.{side-zero}
+use Rattle.rules.proofs.Sizes.{within-everywhere}
+use Rattle.matrix.specs.Limits.{K}
+use Rattle.lapjv.specs.declared.Night.{Night}
+use Rattle.lapjv.specs.declared.Solved.the-variants.{Paired}
+use Rattle.lapjv.specs.Solve.{Lent, lentOf, Outcome, outcomeOf, paired, solve}
+use Rattle.lapjv.specs.Passes.{Passes}
+use Rattle.lapjv.specs.Stages.{Pairable, Sized, answerIn, PairedBy}
+use Rattle.lapjv.proofs.Tests.{passes-paired}
+
+-- The first m entries of a list, as they are lent; and the list when they came back as `new`.
+abbrev front : {A : Type 0} → ℕ → List A → List A
+front m l = take (m - 0) (drop 0 l)
+
+abbrev back : {A : Type 0} → ℕ → List A → List A → List A
+back m new l = take 0 l ++ (new ++ drop (m - 0) (drop 0 l))
+
+front-length : {A : Type 0} (m : ℕ) (l : List A) → m ≤ length l → length (front m l) ≡ m
+front-length m l h = omega (arith, length-take (m - 0) l)
+
+back-is : {A : Type 0} (m : ℕ) (new l : List A) → back m new l ≡ new ++ drop m l
+back-is m new l = ap (λ (k : ℕ). new ++ drop k l) (sub-zero m)
+
+module _ (n : ℕ) (costs : List ℤ) (cols rows : List ℕ) (us vs : List ℤ) (indices : List ℕ) (numbers : List ℤ)
+    (p : Passes n costs (lentOf cols rows us vs indices numbers)) where
+  pub pairable : (n ≡ 0 → ⊥) → Pairable n costs
+  pairable d = record { some = omega arith; small = p .small; squared = p .squared; within = within-everywhere K costs (p .costs-within) }
+
+  pub sized : Sized n (front n cols) (front n rows) (front n vs) (front (4 * n) indices)
+  sized = record {
+    cols-size = front-length n cols (p .cols-enough);
+    rows-size = front-length n rows (p .rows-enough);
+    prices-size = front-length n vs (p .column-prices-enough);
+    room-size = omega (arith, front-length (4 * n) indices (p .indices-enough));
+  }
+
+  pub others-sized : (length (front n us) ≡ n) × (length (front n numbers) ≡ n)
+  others-sized = (front-length n us (p .row-prices-enough), front-length n numbers (p .numbers-enough))
+
+  pub solved-by : (cols′ rows′ : List ℕ) (us′ vs′ : List ℤ) (room′ : List ℕ) (d′ : List ℤ) (night : Night) → PairedBy n costs cols′ rows′ us′ vs′ room′ d′ night
+      → outcomeOf (Paired night)
+      (lentOf (back n cols′ cols) (back n rows′ rows) (back n us′ us) (back n vs′ vs) (back (4 * n) room′ indices) (back n d′ numbers))
+      ≡ solve n costs (lentOf cols rows us vs indices numbers)
+  solved-by cols′ rows′ us′ vs′ room′ d′ night q =
+      cc (
+        back-is n cols′ cols,
+        back-is n rows′ rows,
+        back-is n us′ us,
+        back-is n vs′ vs,
+        back-is (4 * n) room′ indices,
+        back-is n d′ numbers,
+        q .room-cleared,
+        q .distances-cleared,
+      )
+      ∙ ap (paired n (lentOf cols rows us vs indices numbers)) (q .answer)
+      ∙ sym (passes-paired n costs (lentOf cols rows us vs indices numbers) p)
+
+  -- Side 0.
+  pub solved-nothing : n ≡ 0 → outcomeOf (Paired (record { total = pos 0; counts = five 0 0 0 0 0 })) (lentOf cols rows us vs indices numbers)
+      ≡ solve n costs (lentOf cols rows us vs indices numbers)
+  solved-nothing e =
+      sym (ap (λ (m : ℕ). paired m (lentOf cols rows us vs indices numbers) (run m costs)) e
+      ∙ ap (paired 0 (lentOf cols rows us vs indices numbers)) (side-zero costs))
+      ∙ sym (passes-paired n costs (lentOf cols rows us vs indices numbers) p)
