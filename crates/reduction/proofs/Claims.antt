@@ -1,7 +1,7 @@
 -- Claims as code makes them: what one claim leaves, and what a run of claims is from any column on. Assumes nothing.
 use mathlib.Core.Path.{_≡_, sym, ap, _∙_, subst}
 use mathlib.Core.Bool.{Bool, cond}
-use Prim.Native.Nat.{ℕ, suc, _-_, _≤_, _<_}
+use Prim.Native.Nat.{ℕ, suc, _≤_, _<_}
 use native.Mathlib.Omega.{arith}
 use borrow.Author.Tests.{eq-eqb, ne-eqb}
 use lib.Dec.{eqb}
@@ -9,7 +9,7 @@ use lib.ListN.{set, length-set}
 use lib.Seq.{getD-set-same, getD-set-other}
 use Rattle.lists.specs.Permutations.{at}
 use Rattle.lists.specs.Runs.{downward}
-use Rattle.lists.proofs.Runs.{downward-first}
+use Rattle.lists.proofs.Runs.{downward-none, downward-first}
 use Rattle.rules.specs.Columns.{Claims, claim, free}
 use Rattle.rules.proofs.Cases.{cond-cases, here-or-elsewhere}
 use Rattle.reduction.specs.Columns.{Claimable}
@@ -67,16 +67,24 @@ pub record Head (n : ℕ) (s₀ s : Claims) (j : ℕ) : Type 0 where
   pub claimable : Claimable n j s
   pub rest : downward j claim s ≡ downward n claim s₀
 
-module _ {n : ℕ} {s₀ s : Claims} {j : ℕ} (h : Head n s₀ s j) (more : 0 < j) where
-  same : suc (j - 1) ≡ j
-  same = omega arith
+pub head-start : (n j : ℕ) (s : Claims) → j ≡ n → Claimable n n s → Head n s s j
+head-start n j s e c = record {
+  most = omega arith;
+  claimable = subst (λ (m : ℕ). Claimable n m s) (sym e) c;
+  rest = ap (λ (m : ℕ). downward m claim s) e;
+}
 
-  pub head-claimable : Claimable n (suc (j - 1)) s
-  head-claimable = subst (λ (k : ℕ). Claimable n k s) (sym same) (h .claimable)
+pub head-ends : {n : ℕ} {s₀ s : Claims} {j : ℕ} → Head n s₀ s j → j ≡ 0 → s ≡ downward n claim s₀
+head-ends {n} {s₀} {s} h e = sym (downward-none claim s) ∙ ap (λ (m : ℕ). downward m claim s) (sym e) ∙ h .rest
 
-  pub head-next : (t : Claims) → t ≡ claim (j - 1) s → Head n s₀ t (j - 1)
+-- Column k is the next.
+module _ {n : ℕ} {s₀ s : Claims} {j : ℕ} (h : Head n s₀ s j) (k : ℕ) (next : j ≡ suc k) where
+  pub head-claimable : Claimable n (suc k) s
+  head-claimable = subst (λ (m : ℕ). Claimable n m s) next (h .claimable)
+
+  pub head-next : (t : Claims) → t ≡ claim k s → Head n s₀ t k
   head-next t e = record {
     most = omega (arith, h .most);
-    claimable = subst (Claimable n (j - 1)) (sym e) (claim-claimable n (j - 1) s (omega (arith, h .most)) head-claimable);
-    rest = ap (downward (j - 1) claim) e ∙ sym (downward-first (j - 1) claim s) ∙ ap (λ (k : ℕ). downward k claim s) same ∙ h .rest;
+    claimable = subst (Claimable n k) (sym e) (claim-claimable n k s (omega (arith, h .most)) head-claimable);
+    rest = ap (downward k claim) e ∙ sym (downward-first k claim s) ∙ ap (λ (m : ℕ). downward m claim s) (sym next) ∙ h .rest;
   }

@@ -107,10 +107,10 @@ fn claim_all(n: usize, cols: &mut [u32], rows: &mut [u32], marks: &mut [u32])
     requires { ⌜ (n ≤ side) × Claimable n n (claimsOf (now cols) (now rows) (now marks)) ⌝ }
     ensures { λ r. ⌜ claimsOf (now (cols .exit)) (now (rows .exit)) (now (marks .exit)) ≡ downward n claim (claimsOf (now (cols .entry)) (now (rows .entry)) (now (marks .entry))) ⌝ }
 {
-    let mut j = n;
-    while 0 < j {
-        j -= 1;
-        claim(n, j, cols, rows, marks);
+    let mut turn = 0;
+    while turn < n {
+        turn += 1;
+        claim(n, n - turn, cols, rows, marks);
     }
 }
 
