@@ -116,7 +116,9 @@ module _ {n : ℕ} {costs : List ℤ} {cols rows : List ℕ} {v : List ℤ} {fre
     pub sized : Sized n y
     sized =
         subst (Sized n) (sym (h .stands))
-        (looks-sized n cost count begin (record { cols-size = p .cols-size; rows-size = p .rows-size; prices-size = p .prices-size; frees-size = p .frees-size; left-most = omega arith }) (y .pass .looks))
+        (looks-sized n cost count begin
+        (record { cols-size = p .cols-size; rows-size = p .rows-size; prices-size = p .prices-size; frees-size = p .frees-size; left-most = omega arith })
+        (y .pass .looks))
 
     -- A row is left: the counter is below count * n.
     module _ (more : y .pass .current < count) where
@@ -124,6 +126,7 @@ module _ {n : ℕ} {costs : List ℤ} {cols rows : List ℕ} {v : List ℤ} {fre
       here = subst (λ (z : Passing). z .pass .current < count) (h .stands) more
 
       pub below : y .pass .looks < count * n
+      unfolding rowReduction
       below = by (decLt (y .pass .looks) (count * n))
         where
           by : Dec (y .pass .looks < count * n) → y .pass .looks < count * n

@@ -10,7 +10,7 @@ use Rattle.assignment.specs.Pairings.{square}
 use Rattle.rules.specs.declared.TwoLowest.{TwoLowest}
 use Rattle.rules.specs.declared.TwoLowest.the-variants.{One, Two}
 use Rattle.rules.specs.declared.Pass.{Pass}
-use Rattle.rules.specs.Rows.{Passing, Placed, looks, passStart}
+use Rattle.rules.specs.Rows.{Passing, Placed, looks, passStart, rowReduction}
 use Rattle.matrix.specs.Limits.{near}
 use Rattle.reduction.specs.Ranges.{Near, Square}
 use Rattle.reduction.specs.Columns.{stageAt}
@@ -45,7 +45,7 @@ pub record Ready (n : ℕ) (costs : List ℤ) (x : Passing) : Type 0 where
 abbrev pub looksTo : ℕ → List ℤ → List ℕ → List ℕ → List ℤ → List ℕ → ℕ → ℕ → Passing
 looksTo n costs cols rows v frees count m = looks n (square n costs .cost) count m (passStart (stageAt cols rows v frees count))
 
--- What a pass asks: lists of n entries; that count * n turns end it; and before every look a row in range and near prices.
+-- What a pass asks: lists of n entries; that its turns are enough for all of its rows; and before every look a row in range and near prices.
 pub record Passable (n : ℕ) (costs : List ℤ) (cols rows : List ℕ) (v : List ℤ) (frees : List ℕ) (count : ℕ) : Type 0 where
   pub squared : Square n costs
   pub cols-size : length cols ≡ n
@@ -53,7 +53,7 @@ pub record Passable (n : ℕ) (costs : List ℤ) (cols rows : List ℕ) (v : Lis
   pub prices-size : length v ≡ n
   pub frees-size : length frees ≡ n
   pub count-most : count ≤ n
-  pub ends : count ≤ looksTo n costs cols rows v frees count (count * n) .pass .current
+  pub ends : count ≤ rowReduction n (square n costs .cost) (stageAt cols rows v frees count) .pass .current
   pub row-below : (m : ℕ) → m < count * n → looksTo n costs cols rows v frees count m .pass .current < count
       → at (looksTo n costs cols rows v frees count m .frees) (looksTo n costs cols rows v frees count m .pass .current) < n
   pub near-prices : (m : ℕ) → m < count * n → looksTo n costs cols rows v frees count m .pass .current < count

@@ -48,7 +48,7 @@ fn lower(lowest: Low, h: Low) -> Low
 
 // Row i beside the minima of the rows before it, in every column.
 fn lower_minima(i: usize, row: &[i32], rows: &mut [u32], v: &mut [i64])
-    requires { ⌜ (i < 4294967296) × (length (now rows) ≡ length (now row)) × (length (now v) ≡ length (now row)) ⌝ }
+    requires { ⌜ (i < side) × (length (now rows) ≡ length (now row)) × (length (now v) ≡ length (now row)) ⌝ }
     ensures { λ r. ⌜ (now (rows .exit) ≡ table (length (now (row .entry))) (λ j. lowAt i (now (row .entry)) (now (v .entry)) (now (rows .entry)) j .place)) × (now (v .exit) ≡ table (length (now (row .entry))) (λ j. lowAt i (now (row .entry)) (now (v .entry)) (now (rows .entry)) j .value)) ⌝ }
 {
     let mut j = 0;

@@ -100,7 +100,8 @@ at-clear : (c : tie.After-zero3)
     (frontLent (u .n) (c .zero3 .last .0) (roomLent (u .n) (a .last .1 .1 .1 .0) (roomLent (u .n) (d .zero2 .last .0) (u .room .now))))
 at-clear c =
     let d = claiming c .before .before .before .before .before .before in
-    cleared (start d .pre) (d .before .before .before .before .zero .ensures) (minima-at d .minima .ensures .0) (minima-at d .minima .ensures .1) (d .zero2 .ensures) (claiming c .claim-all .ensures) _ (c .zero3 .ensures)
+    cleared (start d .pre) (d .before .before .before .before .zero .ensures) (minima-at d .minima .ensures .0) (minima-at d .minima .ensures .1) (d .zero2 .ensures)
+    (claiming c .claim-all .ensures) _ (c .zero3 .ensures)
 
 transfers-requires : tie.Need-transfers-requires
 transfers-requires c κs =

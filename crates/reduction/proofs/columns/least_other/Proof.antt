@@ -64,7 +64,9 @@ loop-again c =
     let k = l .k in (
       omega arith,
       ⊎-elim
-          (λ w. w .5 ∙ w .4 .ensures ∙ ap₂ least (l .inv .1) (reduced-back (price (u .row .now) k) (price (u .v .now) k) (w .3 .result) (w .1 .given) (w .2 .given) (w .3 .ok) (w .3 .ensures)) ∙ sym (leastBut-other f (u .j) k (w .0 .taken)))
+          (λ w. w .5 ∙ w .4 .ensures ∙ ap₂ least (l .inv .1)
+          (reduced-back (price (u .row .now) k) (price (u .v .now) k) (w .3 .result) (w .1 .given) (w .2 .given) (w .3 .ok) (w .3 .ensures)) ∙ sym
+          (leastBut-other f (u .j) k (w .0 .taken)))
           (λ w. w .1 ∙ l .inv .1 ∙ sym (leastBut-same f (u .j) k (w .0 .left)))
           (c .if1 .came),
     )

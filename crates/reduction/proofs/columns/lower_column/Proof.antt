@@ -38,8 +38,11 @@ slice-copy-out-less-least c = search needs
 less-least-requires : tie.Need-less-least-requires
 less-least-requires c κs =
     let s = c .before .before .before .before in
-    let u = s .args in
-    (rw (read-back w64 (price (u .v .now) (u .j)) (c .less-least-arg .given)) (s .pre .4 (u .j) (s .pre .2)), subst NearLeast (sym (least-is (c .before))) (leastBut-near (u .n) (u .costs .now) (u .v .now) (s .pre .0) (s .pre .4) (u .i) (s .pre .1) (u .j)))
+    let u = s .args in (
+      rw (read-back w64 (price (u .v .now) (u .j)) (c .less-least-arg .given)) (s .pre .4 (u .j) (s .pre .2)),
+      subst NearLeast (sym (least-is (c .before)))
+          (leastBut-near (u .n) (u .costs .now) (u .v .now) (s .pre .0) (s .pre .4) (u .i) (s .pre .1) (u .j)),
+    )
 
 mul-t14 : tie.Need-mul-t14
 mul-t14 c = search needs
@@ -54,7 +57,9 @@ returns : tie.Need-returns
 returns c =
     let u = c .before .before .before .before .before .args in
     let r = c .less-least in
-    ap (set (u .v .now) (u .j)) (read-back w64 (r .result) (r .ok) ∙ r .ensures ∙ ap₂ lessLeast (read-back w64 (price (u .v .now) (u .j)) (c .before .less-least-arg .given)) (least-is (c .before .before)))
+    ap (set (u .v .now) (u .j))
+    (read-back w64 (r .result) (r .ok) ∙ r .ensures ∙ ap₂ lessLeast (read-back w64 (price (u .v .now) (u .j)) (c .before .less-least-arg .given))
+    (least-is (c .before .before)))
 
 pub lower-column-spec : {M : Type 1} → statement M
 lower-column-spec =

@@ -17,6 +17,7 @@ use Rattle.assignment.specs.Pairings.{price}
 use Rattle.rules.specs.declared.Low.{Low}
 use Rattle.rules.specs.Lowest.{low, lower}
 use Rattle.rules.proofs.Cases.{cond-cases}
+use Rattle.matrix.proofs.Limits.{side-small}
 use Rattle.reduction.specs.Columns.{lowAt}
 use Rattle.reduction.proofs.Turns.{lower-cong}
 use Rattle.reduction.proofs.Fills.{filled-next}
@@ -77,7 +78,8 @@ found c =
     let there : j < length (u .rows .now) = omega (arith, s .pre .1) in
     c .lower .ensures
     ∙ lower-cong (u .i)
-    (read-back w64 (price (l .v) j) (c .before .before .before .t14 .given) ∙ ap (λ (x : List ℤ). price x j) (l .inv .4) ∙ filled-next (λ k. lowAt (u .i) (u .row .now) (u .v .now) (u .rows .now) k .value) (u .v .now) j (pos 0) here)
+    (read-back w64 (price (l .v) j) (c .before .before .before .t14 .given) ∙ ap (λ (x : List ℤ). price x j) (l .inv .4) ∙ filled-next
+    (λ k. lowAt (u .i) (u .row .now) (u .v .now) (u .rows .now) k .value) (u .v .now) j (pos 0) here)
     (ap (λ (x : List ℕ). at x j) (l .inv .3) ∙ filled-next (λ k. lowAt (u .i) (u .row .now) (u .v .now) (u .rows .now) k .place) (u .rows .now) j 0 there)
     (read-wide (price (u .row .now) j) (c .before .t20 .given))
 
@@ -89,7 +91,8 @@ place-fits c =
     let s = c .before .before .before .before .before .before .before in
     let l = c .before .before .before .before .before .loop in
     subst (λ (x : Low). x .place < 2 ^ 32) (sym (c .lower .ensures))
-    (lower-place (s .args .i) (at (l .rows) (l .j)) (2 ^ 32) (toZ w64 (ofZ w64 (price (l .v) (l .j)))) (toZ w64 (ofZ w64 (toZ w32 (ofZ w32 (price (s .args .row .now) (l .j)))))) (omega (arith, s .pre .0)) (omega (arith, c .before .before .slice-known2 .given (l .j))))
+    (lower-place (s .args .i) (at (l .rows) (l .j)) (2 ^ 32) (toZ w64 (ofZ w64 (price (l .v) (l .j))))
+    (toZ w64 (ofZ w64 (toZ w32 (ofZ w32 (price (s .args .row .now) (l .j)))))) (omega (arith, side-small, s .pre .0)) (omega (arith, c .before .before .slice-known2 .given (l .j))))
 
 mul-value-2 : tie.Need-mul-value-2 Inv-loop μ-loop
 mul-value-2 c = search needs

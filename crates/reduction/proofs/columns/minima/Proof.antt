@@ -6,7 +6,6 @@ use borrow.Author.Needs.{needs}
 use lib.ListN.{length}
 use Rattle.lists.specs.Permutations.{table}
 use Rattle.lists.proofs.Tables.{length-table}
-use Rattle.matrix.proofs.Limits.{side-small}
 use Rattle.reduction.proofs.Fills.{empty-table}
 use Rattle.reduction.proofs.RowParts.{row-length}
 use Rattle.reduction.proofs.Minima.{lowestOf, places, values, places-one, values-one, places-more, values-more}
@@ -23,8 +22,11 @@ returns : tie.Need-returns Inv-loop μ-loop
 returns c =
     let s = c .before .before in
     let u = s .args in
-    let n = u .n in
-    (empty-table (λ j. lowestOf n (u .costs .now) n j .place) (u .rows .now) n (c .if1 .taken) (s .pre .1), empty-table (λ j. lowestOf n (u .costs .now) n j .value) (u .v .now) n (c .if1 .taken) (s .pre .2))
+    let n = u .n in (
+      empty-table (λ j. lowestOf n (u .costs .now) n j .place) (u .rows .now) n (c .if1 .taken) (s .pre .1),
+      empty-table (λ j. lowestOf n (u .costs .now) n j .value)
+          (u .v .now) n (c .if1 .taken) (s .pre .2),
+    )
 
 zero-requires : tie.Need-zero-requires Inv-loop μ-loop
 zero-requires c κs = search needs
@@ -72,7 +74,7 @@ lower-minima-requires c κs =
     let a = d .before .before in
     let s = start a in
     let l = row-length (s .args .n) (a .loop .i) (s .args .costs .now) (d .row2 .result .now) (d .before .loop-test .taken) (s .pre .0 .size) (d .row2 .ensures) in
-    (omega (arith, side-small, s .pre .0 .small, a .loop .inv .1), rows-size a ∙ sym l, prices-size a ∙ sym l)
+    (omega (arith, s .pre .0 .small, a .loop .inv .1), rows-size a ∙ sym l, prices-size a ∙ sym l)
 
 add-i : tie.Need-add-i Inv-loop μ-loop
 add-i c = search needs

@@ -51,7 +51,8 @@ returns-2 c =
 returns-3 : tie.Need-returns-3
 returns-3 c =
     let u = c .before .before .before .args in
-    λ s em ej. transfer-passes (u .n) (square (u .n) (u .costs .now) .cost) s (u .i) (transferOf (u .v .now) (u .frees .now) (u .count)) (λ z. c .before .if1 .left (sym em ∙ z)) (λ z. c .if2 .left (sym em ∙ z))
+    λ s em ej. transfer-passes (u .n) (square (u .n) (u .costs .now) .cost) s (u .i) (transferOf (u .v .now) (u .frees .now) (u .count))
+    (λ z. c .before .if1 .left (sym em ∙ z)) (λ z. c .if2 .left (sym em ∙ z))
 
 pub transfer-spec : {M : Type 1} → statement M
 transfer-spec =

@@ -46,7 +46,14 @@ shared-slice-read-j : tie.Need-shared-slice-read-j Inv-loop μ-loop
 shared-slice-read-j c = omega (arith, start (c .before .before .before) .pre .cols-size)
 
 cast-j : tie.Need-cast-j Inv-loop μ-loop
-cast-j c = omega (arith, side-small, start (c .before .before .before) .pre .squared .small, start (c .before .before .before) .pre .col-below (c .before .before .before .loop .i) (c .before .before .loop-test .taken))
+cast-j c =
+    omega (
+      arith,
+      side-small,
+      start (c .before .before .before) .pre .squared .small,
+      start (c .before .before .before) .pre .col-below
+          (c .before .before .before .loop .i) (c .before .before .loop-test .taken),
+    )
 
 sub-transfer : tie.Need-sub-transfer Inv-loop μ-loop
 sub-transfer c = search needs
@@ -79,8 +86,14 @@ loop-again c =
     let t = start a .pre in
     let i = a .loop .i in
     let l = d .before .before .before .before .before .loop-test .taken in
-    let h = a .loop .inv .2 in
-    (omega arith, refl, run-next t i h _ _ _ (d .transfer .kept .1 .1 .1 .1 .1 .1 .0) (d .transfer .ensures (claimsOf (start a .args .cols .now) [] (part (start a .args .n + start a .args .n + start a .args .n) (start a .args .n) (start a .args .room .now))) (mark-is t i h l) refl))
+    let h = a .loop .inv .2 in (
+      omega arith,
+      refl,
+      run-next t i h _ _ _ (d .transfer .kept .1 .1 .1 .1 .1 .1 .0)
+          (d .transfer .ensures
+          (claimsOf (start a .args .cols .now) [] (part (start a .args .n + start a .args .n + start a .args .n) (start a .args .n) (start a .args .room .now)))
+          (mark-is t i h l) refl),
+    )
 
 same-length : tie.Need-same-length Inv-loop μ-loop
 same-length c = let t = start (c .before) .pre in prices-sized t (c .before .loop .i) (c .before .loop .inv .2) ∙ sym (t .prices-size)

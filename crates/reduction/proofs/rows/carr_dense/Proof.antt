@@ -33,12 +33,15 @@ look-requires c κs =
 loop-less : tie.Need-loop-less Inv-loop μ-loop
 loop-less c =
     let a = c .before .before .before .before .before .before .before .before .before .before .before .before .before .before in
-    nearer (start a .pre) (passing-at a) (a .loop .inv) (c .before .before .before .before .before .before .before .before .before .before .before .before .if1 .taken) _ (c .before .before .before .before .before .before .before .look .ensures)
+    nearer (start a .pre) (passing-at a) (a .loop .inv) (c .before .before .before .before .before .before .before .before .before .before .before .before .if1 .taken) _
+    (c .before .before .before .before .before .before .before .look .ensures)
 
 loop-again : tie.Need-loop-again Inv-loop μ-loop
 loop-again c =
     let a = c .before .before .before .before .before .before .before .before .before .before .before .before .before .before in
-    head-next (start a .pre) (passing-at a) (a .loop .inv) (c .before .before .before .before .before .before .before .before .before .before .before .before .if1 .taken) _ (c .before .before .before .before .before .before .before .look .ensures)
+    head-next (start a .pre) (passing-at a) (a .loop .inv)
+    (c .before .before .before .before .before .before .before .before .before .before .before .before .if1 .taken) _
+    (c .before .before .before .before .before .before .before .look .ensures)
 
 same-length : tie.Need-same-length Inv-loop μ-loop
 same-length c = let a = c .before .before in sized (start a .pre) (passing-at a) (a .loop .inv) .cols-size ∙ sym (start a .pre .cols-size)

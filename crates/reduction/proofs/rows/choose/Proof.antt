@@ -49,10 +49,22 @@ cast-h : tie.Need-cast-h
 cast-h c = omega (arith, c .shared-slice-known2 .given (c .before .before .before .before .before .before .two2 .given .0 .0 .place))
 
 keep-price-requires-2 : tie.Need-keep-price-requires-2
-keep-price-requires-2 c κs = omega (arith, c .before .before .before .before .before .before .before .before .before .before .pre .1, inside (c .before .before .before .before .before .before .before) .1)
+keep-price-requires-2 c κs =
+    omega (
+      arith,
+      c .before .before .before .before .before .before .before .before .before .before .pre .1,
+      inside
+          (c .before .before .before .before .before .before .before) .1,
+    )
 
 keep-price-requires-3 : tie.Need-keep-price-requires-3
-keep-price-requires-3 c κs = omega (arith, c .before .before .before .before .before .before .before .before .before .before .pre .1, inside (c .before .before .before .before .before .before .before) .0)
+keep-price-requires-3 c κs =
+    omega (
+      arith,
+      c .before .before .before .before .before .before .before .before .before .before .pre .1,
+      inside
+          (c .before .before .before .before .before .before .before) .0,
+    )
 
 keep-price-requires-4 : tie.Need-keep-price-requires-4
 keep-price-requires-4 c κs = omega (arith, c .before .before .before .before .before .before .before .pre .1, inside (c .before .before .before .before) .0)
@@ -69,19 +81,22 @@ returns-2 c =
     let u = t .before .before .before .args in
     c .lower-price .ensures
     ∙ rw (lowest-back t, second-back t)
-    (choose-lowers (u .n) (u .early) (u .v .now) (u .rows .now) (u .two) (t .two2 .given .0 .0) (t .two2 .given .0 .1 .0) (t .two2 .given .1) (c .before .before .if1 .taken) (rw (lowest-back t, second-back t) at (c .before .if2 .taken)))
+    (choose-lowers (u .n) (u .early) (u .v .now) (u .rows .now) (u .two) (t .two2 .given .0 .0) (t .two2 .given .0 .1 .0) (t .two2 .given .1)
+    (c .before .before .if1 .taken) (rw (lowest-back t, second-back t) at (c .before .if2 .taken)))
 
 returns-3 : tie.Need-returns-3
 returns-3 c =
     let t = c .before .before .before .before .before .before .before .before in
     let u = t .before .before .before .args in
-    c .keep-price2 .ensures ∙ choose-second (u .n) (u .early) (u .v .now) (u .rows .now) (u .two) (t .two2 .given .0 .0) (t .two2 .given .0 .1 .0) (t .two2 .given .1) (c .before .before .before .before .if1 .taken) (rw (lowest-back t, second-back t) at (c .before .before .before .if2 .left)) (c .before .if3 .taken)
+    c .keep-price2 .ensures ∙ choose-second (u .n) (u .early) (u .v .now) (u .rows .now) (u .two) (t .two2 .given .0 .0) (t .two2 .given .0 .1 .0) (t .two2 .given .1)
+    (c .before .before .before .before .if1 .taken) (rw (lowest-back t, second-back t) at (c .before .before .before .if2 .left)) (c .before .if3 .taken)
 
 returns-4 : tie.Need-returns-4
 returns-4 c =
     let t = c .before .before .before .before .before .before .before .before in
     let u = t .before .before .before .args in
-    c .keep-price3 .ensures ∙ choose-first (u .n) (u .early) (u .v .now) (u .rows .now) (u .two) (t .two2 .given .0 .0) (t .two2 .given .0 .1 .0) (t .two2 .given .1) (c .before .before .before .before .if1 .taken) (rw (lowest-back t, second-back t) at (c .before .before .before .if2 .left)) (c .before .if3 .left)
+    c .keep-price3 .ensures ∙ choose-first (u .n) (u .early) (u .v .now) (u .rows .now) (u .two) (t .two2 .given .0 .0) (t .two2 .given .0 .1 .0) (t .two2 .given .1)
+    (c .before .before .before .before .if1 .taken) (rw (lowest-back t, second-back t) at (c .before .before .before .if2 .left)) (c .before .if3 .left)
 
 returns-5 : tie.Need-returns-5
 returns-5 c =

@@ -62,8 +62,14 @@ is-early-requires c κs = search needs
 choose-requires : tie.Need-choose-requires
 choose-requires c κs =
     let d = c .before .before .before in
-    let s = d .before .before .before .before .before .before .before in
-    (s .pre .squared .small, s .pre .prices-size, s .pre .rows-size, s .pre .near-prices, subst (Inside (s .args .n)) (sym (two-is d)) (twoLowest-near (s .args .n) (s .args .costs .now) (s .args .v .now) (s .pre .squared) (s .pre .near-prices) (row-of s) (s .pre .row-below)))
+    let s = d .before .before .before .before .before .before .before in (
+      s .pre .squared .small,
+      s .pre .prices-size,
+      s .pre .rows-size,
+      s .pre .near-prices,
+      subst (Inside (s .args .n)) (sym (two-is d))
+          (twoLowest-near (s .args .n) (s .args .costs .now) (s .args .v .now) (s .pre .squared) (s .pre .near-prices) (row-of s) (s .pre .row-below)),
+    )
 
 abbrev start : tie.After-choose → tie.Start
 start c = c .before .before .before .before .before .before .before .before .before .before .before
@@ -139,7 +145,8 @@ returns c =
     let s = start a in
     let x = passing-at s in
     let w = a .choose .result in
-    ap (λ (z : ℤ). passingAt (set (x .pairs .cols) (row-of s) (w .column)) (set (x .pairs .rows) (w .column) (row-of s)) (set (x .prices) (w .column) z) (d .displace .last .1 .0) (d .displace .result)) (toZ-ofZ (price-fits (d .before .before .before)))
+    ap (λ (z : ℤ). passingAt (set (x .pairs .cols) (row-of s) (w .column)) (set (x .pairs .rows) (w .column) (row-of s)) (set (x .prices) (w .column) z)
+    (d .displace .last .1 .0) (d .displace .result)) (toZ-ofZ (price-fits (d .before .before .before)))
     ∙ look-is (s .args .n) (square (s .args .n) (s .args .costs .now) .cost) x w (choice-is a) (d .displace .last .1 .0) (d .displace .result) (d .displace .ensures)
 
 pub look-spec : {M : Type 1} → statement M
