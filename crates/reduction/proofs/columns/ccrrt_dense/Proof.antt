@@ -48,6 +48,9 @@ start c = c .before .before .before .before .before .before .before .before .bef
 abbrev minima-at : tie.After-zero2 → tie.After-minima
 minima-at c = c .before .before .before .before .before .before .before .before .before
 
+abbrev zeroing : tie.After-claim-all → tie.After-zero2
+zeroing c = c .before .before .before .before .before .before
+
 abbrev claiming : tie.After-zero3 → tie.After-claim-all
 claiming c = c .before .before .before .before .before .before .before .before
 
@@ -72,9 +75,11 @@ claim-all-requires c κs =
     let h = start d .pre in
     (h .squared .small, ready h (d .before .before .before .before .zero .ensures) (minima-at d .minima .ensures .0) (minima-at d .minima .ensures .1) (d .zero2 .ensures))
 
-claimed : (c : tie.After-claim-all) → let u = start (c .before .before .before .before .before .before) .args in claimsOf (c .claim-all .last .1 .0) (c .claim-all .last .1 .1 .0) (c .claim-all .last .1 .1 .1 .0) ≡ claims (u .n) (square (u .n) (u .costs .now) .cost)
+claimed : (c : tie.After-claim-all)
+    → let u = start (zeroing c) .args in
+    claimsOf (c .claim-all .last .1 .0) (c .claim-all .last .1 .1 .0) (c .claim-all .last .1 .1 .1 .0) ≡ claims (u .n) (square (u .n) (u .costs .now) .cost)
 claimed c =
-    let d = c .before .before .before .before .before .before in
+    let d = zeroing c in
     claims-are (start d .pre) (d .before .before .before .before .zero .ensures) (minima-at d .minima .ensures .0) (minima-at d .minima .ensures .1) (d .zero2 .ensures) (c .claim-all .ensures)
 
 sub-zero-2 : tie.Need-sub-zero-2
@@ -89,52 +94,54 @@ part-zero-end-2 c = search needs
 zero-requires-3 : tie.Need-zero-requires-3
 zero-requires-3 c κs = search needs
 
-rows-claimed : (c : tie.After-zero3) → let u = start (claiming c .before .before .before .before .before .before) .args in claiming c .claim-all .last .1 .1 .0 ≡ claims (u .n) (square (u .n) (u .costs .now) .cost) .rows
+rows-claimed : (c : tie.After-zero3)
+    → let u = start (zeroing (claiming c)) .args in
+    claiming c .claim-all .last .1 .1 .0 ≡ claims (u .n) (square (u .n) (u .costs .now) .cost) .rows
 rows-claimed c = ap (λ (x : Claims). x .rows) (claimed (claiming c))
 
 at-clear : (c : tie.After-zero3)
-    → let d = claiming c .before .before .before .before .before .before in
+    → let d = zeroing (claiming c) in
     let u = start d .args in
     let a = claiming c .claim-all in
     Cleared (u .n) (square (u .n) (u .costs .now) .cost) (u .room .now) (a .last .1 .0) (minima-at d .minima .last .1 .1 .1 .0)
     (frontLent (u .n) (c .zero3 .last .0) (roomLent (u .n) (a .last .1 .1 .1 .0) (roomLent (u .n) (d .zero2 .last .0) (u .room .now))))
 at-clear c =
-    let d = claiming c .before .before .before .before .before .before in
+    let d = zeroing (claiming c) in
     cleared (start d .pre) (d .before .before .before .before .zero .ensures) (minima-at d .minima .ensures .0) (minima-at d .minima .ensures .1) (d .zero2 .ensures)
     (claiming c .claim-all .ensures) _ (c .zero3 .ensures)
 
 transfers-requires : tie.Need-transfers-requires
 transfers-requires c κs =
     let d = c .before .before .before .before .before in
-    ready-to-transfer (start (claiming d .before .before .before .before .before .before) .pre) (at-clear d)
+    ready-to-transfer (start (zeroing (claiming d)) .pre) (at-clear d)
 
 same-length : tie.Need-same-length
 same-length c =
     let d = claiming (clearing c) in
-    let s = start (d .before .before .before .before .before .before) in
+    let s = start (zeroing d) in
     ap (λ (x : Claims). length (x .cols)) (claimed d) ∙ claims-claimable (s .args .n) (square (s .args .n) (s .args .costs .now) .cost) .cols-size ∙ sym (s .pre .cols-size)
 
 same-length-2 : tie.Need-same-length-2
 same-length-2 c =
     let d = claiming (clearing c) in
-    let s = start (d .before .before .before .before .before .before) in
+    let s = start (zeroing d) in
     ap (λ (x : Claims). length (x .rows)) (claimed d) ∙ claims-claimable (s .args .n) (square (s .args .n) (s .args .costs .now) .cost) .rows-size ∙ sym (s .pre .rows-size)
 
 same-length-3 : tie.Need-same-length-3
 same-length-3 c =
-    let d = claiming (clearing c) .before .before .before .before .before .before in
+    let d = zeroing (claiming (clearing c)) in
     c .before .before .before .transfers .kept .1 .1 .1 .0 ∙ minima-at d .minima .kept .1 .1 .1 .0
 
 same-length-4 : tie.Need-same-length-4
 same-length-4 c =
     let z = clearing c in
-    let s = start (claiming z .before .before .before .before .before .before) in
+    let s = start (zeroing (claiming z)) in
     after-length (s .pre) (at-clear z) (rows-claimed z) (c .before .before .before .transfers .ensures) ∙ sym (s .pre .room-size)
 
 returns : tie.Need-returns
 returns c =
     let z = clearing c in
-    let h = start (claiming z .before .before .before .before .before .before) .pre in
+    let h = start (zeroing (claiming z)) .pre in
     let t = c .before .before .before .transfers .ensures in
     (stage-ends h (at-clear z) (rows-claimed z) t, room-ends h (at-clear z) (rows-claimed z) t)
 

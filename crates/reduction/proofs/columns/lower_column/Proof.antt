@@ -23,7 +23,9 @@ least-other-requires c κs =
     let l = row-length (s .args .n) (s .args .i) (s .args .costs .now) (c .before .row .result .now) (s .pre .1) (s .pre .0 .size) (c .before .row .ensures) in
     (s .pre .3 ∙ sym l, λ k h. s .pre .4 k (omega arith))
 
-least-is : (c : tie.After-least-other) → let u = c .before .before .before .args in c .least-other .result ≡ leastBut (u .n) (reduced (square (u .n) (u .costs .now) .cost) (price (u .v .now)) (u .i)) (u .j)
+least-is : (c : tie.After-least-other)
+    → let u = c .before .before .before .args in
+    c .least-other .result ≡ leastBut (u .n) (reduced (square (u .n) (u .costs .now) .cost) (price (u .v .now)) (u .i)) (u .j)
 least-is c =
     let s = c .before .before .before in
     let u = s .args in
