@@ -3,9 +3,36 @@ use lib.IntN.{pos}
 use Rattle.matrix.specs.Refusals.{codeOf}
 use Rattle.matrix.specs.declared.Answer.{Answer}
 use Rattle.matrix.specs.declared.Answer.the-variants.{Total, Refused}
+use Rattle.rules.specs.declared.Counts.{Counts}
+use Rattle.lapjv.specs.declared.Night.{Night}
+use Rattle.lapjv.specs.declared.Solved.{Solved}
+use Rattle.lapjv.specs.declared.Solved.the-variants.{Paired}
+use Rattle.lapjv.specs.declared.Solved.the-variants as refused
+use Rattle.face.specs.declared.Solution.{Solution}
 use Rattle.face.specs.declared.Totalled.{Totalled}
 
 -- A total, or a refusal.
 abbrev pub totalled : Answer → Totalled
 totalled (Total total) = record { refusal = 0; total = total }
 totalled (Refused refusal) = record { refusal = codeOf refusal; total = pos 0 }
+
+-- A total with the five counts, or a refusal.
+abbrev pub solution : Solved → Solution
+solution (Paired night) = record {
+  refusal = 0;
+  total = night .total;
+  «free_rows» = night .counts .«free_rows»;
+  «looks_one» = night .counts .«looks_one»;
+  «looks_two» = night .counts .«looks_two»;
+  «rows_left» = night .counts .«rows_left»;
+  «columns_scanned» = night .counts .«columns_scanned»;
+}
+solution (refused.Refused refusal) = record {
+  refusal = codeOf refusal;
+  total = pos 0;
+  «free_rows» = 0;
+  «looks_one» = 0;
+  «looks_two» = 0;
+  «rows_left» = 0;
+  «columns_scanned» = 0;
+}

@@ -3,7 +3,10 @@ ghost use mathlib.Core.Path.{_≡_};
 ghost use Rattle.matrix.specs.Cost.{cost};
 ghost use Rattle.matrix.proofs.Codes.{PlaceSmall};
 ghost use Rattle.checker.specs.Check.{check};
-ghost use Rattle.face.specs.Face.{totalled};
+ghost use Rattle.lapjv.specs.Solve.{lentOf, solve};
+ghost use Rattle.lapjv.proofs.Codes as solved;
+ghost use Rattle.face.specs.Face.{totalled, solution};
+use lapjv::Solved;
 use matrix::Answer;
 
 // A total, or a refusal and 0. The refusal is 0 or number + 256*place.
@@ -11,6 +14,18 @@ use matrix::Answer;
 pub struct Totalled {
     pub refusal: u64,
     pub total: i64,
+}
+
+// A total and the five counts, or a refusal and zeros.
+#[repr(C)]
+pub struct Solution {
+    pub refusal: u64,
+    pub total: i64,
+    pub free_rows: u64,
+    pub looks_one: u64,
+    pub looks_two: u64,
+    pub rows_left: u64,
+    pub columns_scanned: u64,
 }
 
 // What a C caller gets of an answer.
@@ -48,4 +63,60 @@ pub extern "C" fn bristlefrost_check(
     ensures { λ r. ⌜ r ≡ totalled (check n (now (costs .entry)) (now (cols .entry)) (now (rows .entry)) (now («row_prices» .entry)) (now («col_prices» .entry))) ⌝ }
 {
     told(checker::check(n, costs, cols, rows, row_prices, col_prices))
+}
+
+// What a C caller gets of the solver's answer.
+fn told_solved(answer: Solved) -> Solution
+    requires { ⌜ solved.PlaceSmall answer ⌝ }
+    ensures { λ r. ⌜ r ≡ solution answer ⌝ }
+{
+    match answer {
+        Solved::Paired(night) => {
+            let counts = night.counts;
+            Solution {
+                refusal: 0,
+                total: night.total,
+                free_rows: counts.free_rows as u64,
+                looks_one: counts.looks_one as u64,
+                looks_two: counts.looks_two as u64,
+                rows_left: counts.rows_left as u64,
+                columns_scanned: counts.columns_scanned as u64,
+            }
+        }
+        Solved::Refused(refusal) => Solution {
+            refusal: matrix::code(refusal),
+            total: 0,
+            free_rows: 0,
+            looks_one: 0,
+            looks_two: 0,
+            rows_left: 0,
+            columns_scanned: 0,
+        },
+    }
+}
+
+// The solver.
+#[no_mangle]
+pub extern "C" fn bristlefrost_solve(
+    n: usize,
+    costs: &[i32],
+    cols: &mut [u32],
+    rows: &mut [u32],
+    row_prices: &mut [i64],
+    col_prices: &mut [i64],
+    indices: &mut [u32],
+    numbers: &mut [i64],
+) -> Solution
+    ensures { λ r. ⌜ (r ≡ solution (solve n (now (costs .entry)) (lentOf (now (cols .entry)) (now (rows .entry)) (now («row_prices» .entry)) (now («col_prices» .entry)) (now (indices .entry)) (now (numbers .entry))) .answer)) × (lentOf (now (cols .exit)) (now (rows .exit)) (now («row_prices» .exit)) (now («col_prices» .exit)) (now (indices .exit)) (now (numbers .exit)) ≡ solve n (now (costs .entry)) (lentOf (now (cols .entry)) (now (rows .entry)) (now («row_prices» .entry)) (now («col_prices» .entry)) (now (indices .entry)) (now (numbers .entry))) .lent) ⌝ }
+{
+    told_solved(lapjv::solve(
+        n,
+        costs,
+        cols,
+        rows,
+        row_prices,
+        col_prices,
+        indices,
+        numbers,
+    ))
 }

@@ -3,3 +3,5 @@ pub mod Ready
 pub mod Reducing
 pub mod Pairing
 pub mod Solving
+pub mod Codes
+pub mod Determined
