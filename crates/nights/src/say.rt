@@ -1,0 +1,31 @@
+// One line for a night: its name, and the answer with the paper's number and place.
+use matrix::Answer;
+
+// How far a total is from 0.
+fn size(total: i64) -> u64 {
+    if total < 0 {
+        (-(total + 1)) as u64 + 1
+    } else {
+        total as u64
+    }
+}
+
+pub fn answer(name: &[u8], answer: Answer) {
+    io::write_all(1, name);
+    match answer {
+        Answer::Total(total) => {
+            io::write_all(1, b": accepted total ");
+            if total < 0 {
+                io::write_all(1, b"-");
+            }
+            io::print_decimal(1, size(total));
+        }
+        Answer::Refused(refusal) => {
+            io::write_all(1, b": refused ");
+            io::print_decimal(1, matrix::number(refusal));
+            io::write_all(1, b" place ");
+            io::print_decimal(1, matrix::place(refusal) as u64);
+        }
+    }
+    io::write_all(1, b"\n");
+}
