@@ -110,13 +110,15 @@ fn check_prices(n: usize, costs: &[i32], cols: &[u32], us: &[i64], vs: &[i64]) -
     }
     let dear_column = matrix::first_price_outside(n, vs);
     if dear_column < n {
-        return Answer::Refused(Refusal::PriceOutside(n + dear_column));
+        let place = n + dear_column;
+        return Answer::Refused(Refusal::PriceOutside(place));
     }
     let i = first_row_over(n, costs, us, vs);
     if i < n {
         let row = matrix::row(costs, n, i);
         let j = first_column_over(row, us[i], vs);
-        return Answer::Refused(Refusal::PricesOverCost(i * n + j));
+        let place = i * n + j;
+        return Answer::Refused(Refusal::PricesOverCost(place));
     }
     let unmet = first_row_loose(n, costs, cols, us, vs);
     if unmet < n {
@@ -137,7 +139,8 @@ pub fn check(n: usize, costs: &[i32], cols: &[u32], rows: &[u32], us: &[i64], vs
     }
     let list = matrix::first_list_short(n, cols.len(), rows.len(), us.len(), vs.len());
     if list < 4 {
-        return Answer::Refused(Refusal::ListLength(list + 1));
+        let number = list + 1;
+        return Answer::Refused(Refusal::ListLength(number));
     }
     let k = matrix::first_cost_outside(costs);
     if k < costs.len() {

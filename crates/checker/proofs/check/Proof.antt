@@ -53,8 +53,8 @@ returns-2 c = passed _ _ _ (side-kept (c .before .before)) (refused _ _ _ (sym (
 first-list-short-requires : tie.Need-first-list-short-requires
 first-list-short-requires c κs = search needs
 
-add-t20 : tie.Need-add-t20
-add-t20 c = search needs
+add-number : tie.Need-add-number
+add-number c = search needs
 
 returns-3 : tie.Need-returns-3
 unfolding check
@@ -146,7 +146,7 @@ check-spec =
     not-square-requires
     returns-2
     first-list-short-requires
-    add-t20
+    add-number
     returns-3
     first-cost-outside-requires
     returns-4

@@ -32,8 +32,8 @@ returns c = refused-at _ _ _ _ (c .before .first-price-outside .ensures) (c .if1
 first-price-outside-requires-2 : tie.Need-first-price-outside-requires-2
 first-price-outside-requires-2 c κs = search needs
 
-add-t14 : tie.Need-add-t14
-add-t14 c = omega (arith, c .before .before .before .before .before .pre .0 .small, side-small)
+add-place : tie.Need-add-place
+add-place c = omega (arith, c .before .before .before .before .before .pre .0 .small, side-small)
 
 returns-2 : tie.Need-returns-2
 unfolding checkPrices
@@ -102,11 +102,11 @@ place-small c =
     let n : s .args .n ≤ 2 ^ 16 = omega (arith, s .pre .0 .small, side-small) in
     omega (arith, mul-le-mul i n, first-le (over (s .args .n) (s .args .costs .now) (s .args .us .now) (s .args .vs .now) (c .before .before .before .before .first-row-over .result)) (s .args .n))
 
-mul-t16 : tie.Need-mul-t16
-mul-t16 c = omega (arith, place-small c)
+mul-place : tie.Need-mul-place
+mul-place c = omega (arith, place-small c)
 
-add-t19 : tie.Need-add-t19
-add-t19 c = omega (arith, place-small c)
+add-place-2 : tie.Need-add-place-2
+add-place-2 c = omega (arith, place-small c)
 
 returns-3 : tie.Need-returns-3
 unfolding checkPrices
@@ -152,15 +152,15 @@ check-prices-spec =
     first-price-outside-requires
     returns
     first-price-outside-requires-2
-    add-t14
+    add-place
     returns-2
     first-row-over-requires
     row-requires
     mul-first-column-over
     shared-slice-copy-out-first-column-over
     first-column-over-requires
-    mul-t16
-    add-t19
+    mul-place
+    add-place-2
     returns-3
     first-row-loose-requires
     returns-4
