@@ -3,14 +3,13 @@
 use mathlib.Core.Path.{_≡_, refl, sym, ap, ap₂, _∙_, subst}
 use mathlib.Core.Logic.{⊎-elim}
 use mathlib.Core.List.{List}
-use Prim.Native.Nat.{ℕ, zero, suc, _+_, _-_, _*_, _^_, _≤_, _<_}
+use Prim.Native.Nat.{ℕ, _+_, _-_, _*_, _^_, _≤_, _<_}
 use native.Mathlib.Nat.{zero-add}
 use native.Mathlib.Numerals.{add-one}
 use native.Mathlib.Omega.{arith}
 use lib.IntN.{ℤ}
 use lib.ListN.{length, getD, take, drop}
 use Rattle.ints.specs.Parts.{Within}
-use Rattle.lists.specs.Runs.{left}
 use Rattle.lists.proofs.Runs.{upward-none, upward-last}
 use Rattle.lists.specs.Permutations.{at}
 use Rattle.lists.proofs.Injections.{reached}
@@ -20,16 +19,16 @@ use Rattle.matrix.specs.Limits.{side, near}
 use Rattle.matrix.proofs.Limits.{side-small}
 use Rattle.rules.specs.declared.Reached.{Reached}
 use Rattle.rules.specs.Columns.{Pairs}
-use Rattle.rules.specs.Search.{Work, Found, search, newPrices}
-use Rattle.rules.specs.Augmentation.{Open, flips, flipped, State, augment, augments, augmentation}
+use Rattle.rules.specs.Search.{Found}
+use Rattle.rules.specs.Augmentation.{flips, flipped, State, augment, augments, augmentation}
 use Rattle.rules.proofs.Pairs.{free-column}
-use Rattle.rules.proofs.Scan.{place, far, FromColumn}
+use Rattle.rules.proofs.Scan.{place}
 use Rattle.rules.proofs.Search.{Ended}
 use Rattle.rules.proofs.Flips.{flips-left}
 use Rattle.rules.proofs.Augment.{Can, one, floorOf, found-good, Tree, rank, rooted, flipping, column-below}
-use Rattle.augmentation.specs.Room.{freesIn, predecessorsIn, marksIn, roomWith}
+use Rattle.augmentation.specs.Room.{freesIn, predecessorsIn, marksIn}
 use Rattle.augmentation.specs.Search.{CanSearch, Searched, foundFrom}
-use Rattle.augmentation.specs.Augmentation.{pairsOf, openAt, CanFlip, stageIn, stateOf, CanTurn, CanAugment, Augmented}
+use Rattle.augmentation.specs.Augmentation.{pairsOf, openAt, CanFlip, stateOf, CanTurn, CanAugment, Augmented}
 use Rattle.augmentation.proofs.Room.{room-length, predecessors-of, frees-kept, marks-kept}
 use Rattle.augmentation.proofs.Start.{lent-predecessors}
 

@@ -1,9 +1,9 @@
 -- The turns of the loops over a block: a column restarts the block, joins it or is passed by; and a column of a fresh block is free or
 -- taken. Assumes nothing.
-use mathlib.Core.Path.{_≡_, refl, sym, ap, _∙_, subst}
-use mathlib.Core.List.{List}
+use mathlib.Core.Path.{_≡_, sym, ap, _∙_}
 use mathlib.Core.Bool.{true, false}
-use Prim.Native.Nat.{ℕ, suc, _+_, _≤_, _<_}
+use mathlib.Core.List.{List}
+use Prim.Native.Nat.{ℕ, _+_, _≤_, _<_}
 use native.Mathlib.Numerals.{add-one}
 use native.Mathlib.Omega.{arith}
 use borrow.Author.Tests.{lt-ltb, le-ltb}
@@ -15,7 +15,6 @@ use Rattle.lists.proofs.Runs.{upward-none, upward-last}
 use Rattle.lists.specs.Permutations.{at, exchange, Permutation}
 use Rattle.lists.proofs.Permutations.{exchange-permutation}
 use Rattle.assignment.specs.Pairings.{price}
-use Rattle.rules.specs.declared.LastFree.{LastFree}
 use Rattle.rules.specs.declared.LastFree.the-variants.{NoneYet, At}
 use Rattle.rules.specs.Block.{Block, blockStep, blockStart, block}
 use Rattle.rules.specs.Search.{lastFree}

@@ -1,18 +1,17 @@
 -- The turns of the flips' loop, over plain variables: the last flip, the next one, and that fewer are left after each. Assumes nothing.
-use mathlib.Core.Path.{_≡_, refl, sym, ap, _∙_, subst}
+use mathlib.Core.Path.{_≡_, refl, sym, ap, _∙_}
 use mathlib.Core.Logic.{_≢_}
-use mathlib.Core.List.{List}
 use mathlib.Core.Bool.{Bool, true, false, true≢false}
-use Prim.Native.Nat.{ℕ, zero, suc, _+_, _≤_, _<_}
+use mathlib.Core.List.{List}
+use Prim.Native.Nat.{ℕ, zero, suc, _≤_, _<_}
 use native.Mathlib.Decide.{decLt}
 use native.Mathlib.Omega.{arith}
 use borrow.Author.Tests.{eq-eqb, ne-eqb}
 use lib.ListN.{length, set, length-set}
 use Rattle.lists.specs.Runs.{Turn, on, left, andThen, first}
-use Rattle.lists.proofs.Runs.{until-none, first-le, first-holds, first-before}
+use Rattle.lists.proofs.Runs.{until-none, first-holds, first-before}
 use Rattle.lists.specs.Permutations.{at}
 use Rattle.rules.specs.Columns.{Pairs}
-use Rattle.rules.specs.Rows.{takeColumn}
 use Rattle.rules.specs.Augmentation.{Open, flip, flips, flipped}
 use Rattle.rules.proofs.Pairs.{taken-below}
 use Rattle.rules.proofs.Turns.{flips-first}

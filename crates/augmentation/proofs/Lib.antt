@@ -1,5 +1,4 @@
 pub mod Room
-pub mod Filled
 pub mod Block
 pub mod Look
 pub mod Prices

@@ -1,16 +1,15 @@
 -- The turns of one row's look at the columns after the block: a column is passed by, lowered, swapped to the block's end, or hit. The list
 -- and the predecessors are parts of a room. Assumes nothing.
-use mathlib.Core.Path.{_≡_, refl, sym, ap, ap₂, _∙_, subst}
-use mathlib.Core.List.{List}
+use mathlib.Core.Path.{_≡_, refl, sym, ap, ap₂, _∙_}
 use mathlib.Core.Bool.{Bool, true, false, cond}
-use Prim.Native.Nat.{ℕ, suc, _+_, _≤_, _<_}
+use mathlib.Core.List.{List}
+use Prim.Native.Nat.{ℕ, _+_, _≤_, _<_}
 use native.Mathlib.Numerals.{add-one}
 use native.Mathlib.Omega.{arith}
-use lib.IntN.{ℤ, pos, _-ℤ_}
-use lib.Signed.{ltZ, leZ}
 use lib.Dec.{ltb}
+use lib.IntN.{ℤ, _-ℤ_}
+use lib.Signed.{ltZ}
 use lib.ListN.{length, getD, set, length-set}
-use lib.Seq.{getD-set-same}
 use Rattle.ints.proofs.Ranges.{zarith}
 use Rattle.ints.proofs.Tests.{not-true-false, le-leZ}
 use Rattle.lists.specs.Runs.{Turn, on, left, andThen, until}
@@ -18,13 +17,12 @@ use Rattle.lists.proofs.Runs.{until-none, until-last}
 use Rattle.lists.specs.Permutations.{at, exchange, Permutation}
 use Rattle.lists.proofs.Permutations.{exchange-permutation}
 use Rattle.assignment.specs.Pairings.{price}
-use Rattle.rules.specs.declared.ScanEnd.the-variants as ends
-use Rattle.rules.specs.Search.{Work, Hit, same, reachBy, join, afterLowering, scanColumn}
+use Rattle.rules.specs.Search.{Work, Hit, same, reachBy, join, afterLowering, scanColumn, workOf}
 use Rattle.rules.proofs.Cases.{same-true, until-longer}
+use Rattle.rules.specs.declared.ScanEnd.the-variants as ends
 use Rattle.augmentation.specs.Room.{listIn, predecessorsIn, roomWith}
-use Rattle.augmentation.specs.Scan.{workIn, Seen, seenIn, seen, Looked}
-use Rattle.rules.specs.Search.{workOf}
-use Rattle.augmentation.proofs.Room.{list-length, predecessors-length, room-self, room-length, list-of, predecessors-of, get-list, set-predecessor, exchange-list}
+use Rattle.augmentation.specs.Scan.{workIn, seen, Looked}
+use Rattle.augmentation.proofs.Room.{predecessors-length, room-self, room-length, list-of, predecessors-of, get-list, set-predecessor, exchange-list}
 
 pub same-equal : (x y : ℤ) → x ≡ y → same x y ≡ true
 same-equal x y e = rw (le-leZ x y (omega zarith), le-leZ y x (omega zarith))

@@ -1,36 +1,27 @@
 -- The search's two loops, over plain variables: what each knows at its head, and what is known where the search is left. Assumes nothing.
-use mathlib.Core.Path.{_≡_, refl, sym, ap, ap₂, _∙_, subst}
-use mathlib.Core.Logic.{_≢_, inl, inr}
-use mathlib.Core.List.{List, _++_}
-use Prim.Native.Nat.{ℕ, zero, suc, _+_, _-_, _*_, _≤_, _<_}
-use native.Mathlib.Numerals.{add-one}
+use mathlib.Core.Path.{_≡_, refl, sym, ap, ap₂}
+use mathlib.Core.List.{List}
+use Prim.Native.Nat.{ℕ, _+_, _*_, _≤_}
 use native.Mathlib.Omega.{arith}
-use lib.IntN.{ℤ, pos}
-use lib.ListN.{length, take, drop, List·getD-eq-default}
+use lib.IntN.{ℤ}
+use lib.ListN.{length}
 use Rattle.ints.specs.Parts.{Within}
-use Rattle.lists.specs.Runs.{Turn, on, left, andThen}
-use Rattle.lists.specs.Permutations.{at, Permutation}
+use Rattle.lists.specs.Runs.{Turn, on, left}
+use Rattle.lists.specs.Permutations.{at}
 use Rattle.assignment.specs.Pairings.{price, square}
 use Rattle.matrix.specs.Limits.{near}
-use Rattle.rules.specs.declared.Cursor.{Cursor}
-use Rattle.rules.specs.declared.LastFree.{LastFree}
-use Rattle.rules.specs.declared.LastFree.the-variants.{NoneYet, At}
-use Rattle.rules.specs.declared.ScanEnd.the-variants as ends
 use Rattle.rules.specs.Lowest.{reduced, lowest}
-use Rattle.rules.specs.Block.{Block, block}
-use Rattle.rules.specs.Search.{Work, workOf, Hit, Found, scanRow, scan, lastFree, freshBlock, found, afterScan, afterBlock, searchBlock, searchBlocks, searchStart, search}
-use Rattle.rules.proofs.Cases.{lt-or-le, Either, goes-on, is-left}
-use Rattle.rules.proofs.FreeColumns.{Sought, lastFree-ok}
-use Rattle.rules.proofs.Block.{IsBlock, block-ok}
+use Rattle.rules.specs.Search.{Work, workOf, Hit, Found, scan, found, searchBlocks}
+use Rattle.rules.proofs.Cases.{Either, goes-on, is-left}
 use Rattle.rules.proofs.Scan.{Sound}
-use Rattle.rules.proofs.Scans.{Counted, LeftAt, scanRow-ok, scan-ok}
-use Rattle.rules.proofs.Search.{Head, to-scan, head-open, searchBlock-ok, start-head}
-use Rattle.rules.proofs.Turns.{scan-more, scan-done, blocks-first}
-use Rattle.rules.proofs.Augment.{floor-under, distances-within}
-use Rattle.augmentation.specs.Room.{listIn, predecessorsIn, roomWith}
-use Rattle.augmentation.specs.Scan.{workIn, Seen, seenIn, seen, Lent, Scanned}
-use Rattle.augmentation.specs.Search.{CanSearch, CanScan, Started}
-use Rattle.augmentation.proofs.Room.{list-length, predecessors-length, room-self, room-length, list-of, predecessors-of, list-back, room-room, lent-list}
+use Rattle.rules.proofs.Scans.{Counted}
+use Rattle.rules.proofs.Search.{Head}
+use Rattle.rules.proofs.Sizes.{within-everywhere}
+use Rattle.rules.proofs.Augment.{distances-within}
+use Rattle.rules.specs.declared.ScanEnd.the-variants as ends
+use Rattle.augmentation.specs.Room.{roomWith}
+use Rattle.augmentation.specs.Scan.{workIn, Seen, seenIn, seen}
+use Rattle.augmentation.specs.Search.{CanSearch}
 
 -- ---- what the look of one row leaves, taken apart
 
@@ -125,13 +116,12 @@ module _ (n : ℕ) (costs : List ℤ) (rows : List ℕ) (start : ℕ) (v : List 
     one = omega (arith, C .start-below)
 
     pub distances-near : (w : Work) → Sound n cost (price v) (at rows) start floor w → (j : ℕ) → Within (2 * near) (price (w .distances) j)
-    distances-near w S j = elim (lt-or-le j n) [
-      | inl l ↦ distances-within n cost (price v) start one (at rows) near near (λ i k. C .costs-near (i * n + k)) (C .prices-near) w S j l
-      | inr l ↦ rw (List·getD-eq-default (w .distances) (pos 0) {n = j} (omega (arith, S .distances-size))) (record { low = omega arith; high = omega arith })
-    ]
+    distances-near w S =
+        within-everywhere (2 * near) (w .distances)
+        (λ j l. distances-within n cost (price v) start one (at rows) near near (λ i k. C .costs-near (i * n + k)) (C .prices-near) w S j (omega (arith, S .distances-size)))
 
 -- The same, at equal values.
 pub leaving-at : {n : ℕ} {costs : List ℤ} {rows : List ℕ} {start : ℕ} {v d₀ : List ℤ} {room₀ : List ℕ} {d : List ℤ} {room : List ℕ} {lo scanned column : ℕ}
-    → Leaving n costs rows start v d₀ room₀ d room lo scanned column → {d′ : List ℤ} {room′ : List ℕ} {scanned′ column′ : ℕ} → d′ ≡ d → room′ ≡ room
-    → scanned′ ≡ scanned → column′ ≡ column → Leaving n costs rows start v d₀ room₀ d′ room′ lo scanned′ column′
-leaving-at L a b c e = rw (a, b, c, e) L
+    → Leaving n costs rows start v d₀ room₀ d room lo scanned column → {d′ : List ℤ} {room′ : List ℕ} {lo′ scanned′ column′ : ℕ} → d′ ≡ d → room′ ≡ room
+    → lo′ ≡ lo → scanned′ ≡ scanned → column′ ≡ column → Leaving n costs rows start v d₀ room₀ d′ room′ lo′ scanned′ column′
+leaving-at L a b c e f = rw (a, b, c, e, f) L

@@ -1,12 +1,11 @@
 -- The price change of the ready columns: its turns, and how far the prices come, so that no sum wraps. Assumes nothing.
 use mathlib.Core.Path.{_≡_, refl, sym, ap, _∙_, subst}
-use mathlib.Core.Logic.{_⊎_, inl, inr}
 use mathlib.Core.List.{List}
 use Prim.Native.Nat.{ℕ, suc, _+_, _*_, _^_, _≤_, _<_}
 use native.Mathlib.Numerals.{add-one}
 use native.Mathlib.Omega.{arith}
 use lib.IntN.{ℤ, pos, _+ℤ_, _-ℤ_}
-use lib.ListN.{length, set, length-set, List·getD-eq-default}
+use lib.ListN.{length, set, length-set}
 use lib.Seq.{getD-set-same, getD-set-other}
 use mir.Syntax.{w64}
 use mir.Val.{SFits, toZ, ofZ}
@@ -18,21 +17,20 @@ use Rattle.lists.specs.Runs.{upward}
 use Rattle.lists.proofs.Runs.{upward-none, upward-last, upward-keeps}
 use Rattle.lists.specs.Permutations.{at}
 use Rattle.assignment.specs.Pairings.{price}
-use Rattle.matrix.specs.Limits.{side}
+use Rattle.matrix.specs.Limits.{near}
 use Rattle.matrix.proofs.Limits.{side-small}
 use Rattle.rules.specs.Search.{raise, newPrices}
-use Rattle.rules.proofs.Cases.{here-or-elsewhere, lt-or-le}
-use Rattle.matrix.specs.Limits.{near}
+use Rattle.rules.proofs.Cases.{here-or-elsewhere}
+use Rattle.rules.proofs.Sizes.{within-everywhere}
 use Rattle.augmentation.specs.Search.{readyAt, CanChange}
 
--- A store of a near number in a list of near numbers. Past the end of the list the number is 0.
-pub set-within : (b : ℕ) (l : List ℤ) (j : ℕ) (x : ℤ) → ((k : ℕ) → Within b (price l k)) → Within b x → (k : ℕ) → Within b (price (set l j x) k)
+-- A store of a near number in a list of near numbers.
+set-within : (b : ℕ) (l : List ℤ) (j : ℕ) (x : ℤ) → ((k : ℕ) → Within b (price l k)) → Within b x → (k : ℕ) → Within b (price (set l j x) k)
 set-within b l j x h w =
-    here-or-elsewhere (λ k. Within b (price (set l j x) k)) j (here (lt-or-le j (length l))) (λ k d. rw (getD-set-other l j k x (pos 0) d) (h k))
-  where
-    here : (j < length l) ⊎ (length l ≤ j) → Within b (price (set l j x) j)
-    here (inl s) = rw (getD-set-same l j x (pos 0) s) w
-    here (inr s) = rw (List·getD-eq-default (set l j x) (pos 0) {n = j} (omega (arith, length-set l j x))) (record { low = omega arith; high = omega arith })
+    within-everywhere b (set l j x)
+    (here-or-elsewhere (λ k. k < length (set l j x) → Within b (price (set l j x) k)) j
+    (λ s. let a : j < length l = omega (arith, length-set l j x) in rw (getD-set-same l j x (pos 0) a) w)
+    (λ k d s. rw (getD-set-other l j k x (pos 0) d) (h k)))
 
 module _ (list : List ℕ) (d : List ℤ) (minimum : ℤ) (v₀ : List ℤ) where
   -- The prices after the first k columns.

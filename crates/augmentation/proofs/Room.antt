@@ -1,15 +1,15 @@
 -- The parts of the lent room: what a store in the column list or in the predecessors leaves, and what a list that was lent leaves when it
 -- comes back. Assumes nothing.
-use mathlib.Core.Path.{_≡_, refl, sym, ap, ap₂, _∙_}
+use mathlib.Core.Path.{_≡_, sym, ap, ap₂, _∙_}
 use mathlib.Core.List.{List, [], _∷_, _++_, append-assoc}
-use Prim.Native.Nat.{ℕ, _+_, _-_, _≤_, _<_}
+use Prim.Native.Nat.{ℕ, _+_, _-_, _<_}
 use native.Mathlib.Nat.{zero-add, suc-add}
 use native.Mathlib.Omega.{arith}
 use lib.ListN.{length, getD, set, take, drop, length-append, length-drop, length-set}
 use lib.Seq.{length-take-le, take-at, drop-at, take-append-le, take-append-add, set-append-left, take-take, drop-drop}
-use Rattle.lists.specs.Parts.{part, replaced}
+use Rattle.lists.specs.Parts.{replaced}
 use Rattle.lists.specs.Permutations.{at, exchange}
-use Rattle.lists.proofs.Parts.{part-length, part-at, part-drop, replaced-self, lent-back}
+use Rattle.lists.proofs.Parts.{part-length, part-at, replaced-self}
 use Rattle.augmentation.specs.Room.{freesIn, listIn, predecessorsIn, marksIn, roomWith}
 
 set-append-add : (s t : List ℕ) (i : ℕ) (x : ℕ) → set (s ++ t) (length s + i) x ≡ s ++ set t i x

@@ -1,7 +1,7 @@
 -- A row of the costs as code has it, and the scan of one column put together from its parts. Assumes nothing.
-use mathlib.Core.Path.{_≡_, refl, sym, ap, ap₂, _∙_, subst}
+use mathlib.Core.Path.{_≡_, sym, ap, _∙_}
 use mathlib.Core.List.{List}
-use Prim.Native.Nat.{ℕ, _+_, _*_, _^_, _≤_, _<_}
+use Prim.Native.Nat.{ℕ, _+_, _*_, _<_}
 use native.Mathlib.Nat.{mul-le-mul-right}
 use native.Mathlib.Omega.{arith}
 use lib.IntN.{ℤ, pos, _-ℤ_}
@@ -11,16 +11,15 @@ use mir.Val.{SFits}
 use Rattle.ints.specs.Parts.{Within}
 use Rattle.ints.proofs.Sums.{dif}
 use Rattle.ints.proofs.Shapes.{zlin}
-use Rattle.lists.specs.Parts.{part}
 use Rattle.lists.specs.Runs.{until}
 use Rattle.lists.proofs.Parts.{part-length, part-at}
 use Rattle.lists.specs.Permutations.{at}
 use Rattle.assignment.specs.Pairings.{price, square}
+use Rattle.matrix.specs.Limits.{near}
 use Rattle.rules.specs.declared.ScanEnd.{ScanEnd}
 use Rattle.rules.specs.Search.{scanRow, scanColumn}
-use Rattle.matrix.specs.Limits.{near}
 use Rattle.augmentation.specs.Room.{listIn}
-use Rattle.augmentation.specs.Scan.{workIn, seenIn, seen, Looked, Scanned}
+use Rattle.augmentation.specs.Scan.{workIn, seen, Looked, Scanned}
 
 -- Row i of n * n costs in row order.
 abbrev pub rowOf : ℕ → List ℤ → ℕ → List ℤ

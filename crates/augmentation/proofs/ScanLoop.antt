@@ -1,40 +1,30 @@
 -- The turns of the scan's loop: what a scan of one column is asked with, and what it leaves. Assumes nothing.
 use mathlib.Core.Path.{_≡_, refl, sym, ap, ap₂, _∙_, subst}
-use mathlib.Core.Logic.{_≢_, inl, inr}
-use mathlib.Core.List.{List, _++_}
-use Prim.Native.Nat.{ℕ, zero, suc, _+_, _-_, _*_, _≤_, _<_}
+use mathlib.Core.Logic.{_≢_}
+use mathlib.Core.Bool.{cond}
+use mathlib.Core.List.{List}
+use Prim.Native.Nat.{ℕ, suc, _+_, _≤_, _<_}
 use native.Mathlib.Numerals.{add-one}
 use native.Mathlib.Omega.{arith}
-use mathlib.Core.Bool.{cond}
 use lib.Dec.{ltb}
+use lib.IntN.{ℤ, _-ℤ_}
 use lib.Signed.{ltZ}
-use lib.IntN.{ℤ, pos, _-ℤ_}
-use lib.ListN.{length, take, drop, List·getD-eq-default}
-use Rattle.ints.specs.Parts.{Within}
+use lib.ListN.{length}
 use Rattle.lists.specs.Runs.{Turn, on, left, andThen}
 use Rattle.lists.specs.Permutations.{at, Permutation}
 use Rattle.assignment.specs.Pairings.{price, square}
-use Rattle.matrix.specs.Limits.{near}
-use Rattle.rules.specs.declared.Cursor.{Cursor}
-use Rattle.rules.specs.declared.LastFree.{LastFree}
-use Rattle.rules.specs.declared.LastFree.the-variants.{NoneYet, At}
 use Rattle.rules.specs.declared.ScanEnd.{ScanEnd}
-use Rattle.rules.specs.declared.ScanEnd.the-variants as ends
 use Rattle.rules.specs.Lowest.{reduced, lowest}
-use Rattle.rules.specs.Block.{Block, block}
-use Rattle.rules.specs.Search.{same, reachBy, join, countOne, afterLowering, scanColumn, Work, workOf, Hit, Found, scanRow, scan, lastFree, freshBlock, found, afterScan, afterBlock, searchBlock, searchBlocks, searchStart, search}
-use Rattle.rules.proofs.Cases.{cond-cases, until-keeps, lt-or-le, Either, goes-on, is-left}
-use Rattle.rules.proofs.FreeColumns.{Sought, lastFree-ok}
-use Rattle.rules.proofs.Block.{IsBlock, block-ok}
+use Rattle.rules.specs.Search.{same, reachBy, join, countOne, afterLowering, scanColumn, Work, workOf, Hit, Found, scanRow, scan, searchBlocks}
+use Rattle.rules.proofs.Cases.{cond-cases, until-keeps, Either, goes-on, is-left}
 use Rattle.rules.proofs.Scan.{Sound}
-use Rattle.rules.proofs.Scans.{Counted, LeftAt, scanRow-ok, scan-ok}
-use Rattle.rules.proofs.Search.{Head, to-scan, head-open, searchBlock-ok, start-head}
-use Rattle.rules.proofs.Turns.{scan-more, scan-done, blocks-first}
-use Rattle.rules.proofs.Augment.{floor-under, distances-within}
+use Rattle.rules.proofs.Scans.{Counted, LeftAt, scanRow-ok}
+use Rattle.rules.proofs.Turns.{scan-more, scan-done}
+use Rattle.rules.specs.declared.ScanEnd.the-variants as ends
 use Rattle.augmentation.specs.Room.{listIn, predecessorsIn, roomWith}
-use Rattle.augmentation.specs.Scan.{workIn, Seen, seenIn, seen, Lent, Scanned}
-use Rattle.augmentation.specs.Search.{CanSearch, CanScan, Started}
-use Rattle.augmentation.proofs.Room.{list-length, predecessors-length, room-self, room-length, list-of, predecessors-of, list-back, room-room, lent-list}
+use Rattle.augmentation.specs.Scan.{workIn, seenIn, seen, Scanned}
+use Rattle.augmentation.specs.Search.{CanSearch, CanScan}
+use Rattle.augmentation.proofs.Room.{room-length, list-of, predecessors-of, room-room}
 use Rattle.augmentation.proofs.Loops.{distances-near, seen-on, seen-hit, either-on, either-left, Within-scan}
 
 -- ---- a block only grows while it is scanned

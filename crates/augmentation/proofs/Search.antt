@@ -1,35 +1,27 @@
 -- The turns of the search's loop: its start, a fresh block, the end of a scan, and how it is left. Assumes nothing.
 use mathlib.Core.Path.{_≡_, refl, sym, ap, ap₂, _∙_, subst}
-use mathlib.Core.Logic.{_≢_, inl, inr}
 use mathlib.Core.List.{List, _++_}
-use Prim.Native.Nat.{ℕ, zero, suc, _+_, _-_, _*_, _≤_, _<_}
-use native.Mathlib.Numerals.{add-one}
+use Prim.Native.Nat.{ℕ, zero, suc, _+_, _-_, _≤_, _<_}
 use native.Mathlib.Omega.{arith}
-use lib.IntN.{ℤ, pos}
-use lib.ListN.{length, take, drop, List·getD-eq-default}
-use Rattle.ints.specs.Parts.{Within}
+use lib.IntN.{ℤ}
+use lib.ListN.{length, take, drop}
 use Rattle.lists.specs.Runs.{Turn, on, left, andThen}
 use Rattle.lists.specs.Permutations.{at, Permutation}
 use Rattle.lists.proofs.Tables.{length-table}
 use Rattle.assignment.specs.Pairings.{price, square}
-use Rattle.matrix.specs.Limits.{near}
-use Rattle.rules.specs.declared.Cursor.{Cursor}
 use Rattle.rules.specs.declared.LastFree.{LastFree}
 use Rattle.rules.specs.declared.LastFree.the-variants.{NoneYet, At}
-use Rattle.rules.specs.declared.ScanEnd.the-variants as ends
 use Rattle.rules.specs.Lowest.{reduced, lowest}
 use Rattle.rules.specs.Block.{Block, block}
-use Rattle.rules.specs.Search.{Work, workOf, Hit, Found, scanRow, scan, lastFree, freshBlock, found, afterScan, afterBlock, searchBlock, searchBlocks, searchStart, search, foundAt, newPrices}
-use Rattle.rules.proofs.Cases.{lt-or-le, Either, goes-on, is-left}
+use Rattle.rules.specs.Search.{Work, workOf, Hit, Found, scan, lastFree, freshBlock, found, afterScan, afterBlock, searchBlock, searchBlocks, search, foundAt, newPrices}
 use Rattle.rules.proofs.FreeColumns.{Sought, lastFree-ok}
 use Rattle.rules.proofs.Block.{IsBlock, block-ok}
 use Rattle.rules.proofs.Scan.{Sound}
-use Rattle.rules.proofs.Scans.{Counted, LeftAt, scanRow-ok, scan-ok}
 use Rattle.rules.proofs.Search.{Head, Good, to-scan, head-open, searchBlock-ok, start-head, search-left, search-ok}
-use Rattle.rules.proofs.Turns.{scan-more, scan-done, blocks-first}
-use Rattle.rules.proofs.Augment.{floor-under, distances-within}
+use Rattle.rules.proofs.Turns.{blocks-first}
+use Rattle.rules.proofs.Augment.{floor-under}
 use Rattle.augmentation.specs.Room.{listIn, predecessorsIn, roomWith}
-use Rattle.augmentation.specs.Scan.{workIn, Seen, seenIn, seen, Lent, Scanned}
+use Rattle.augmentation.specs.Scan.{workIn}
 use Rattle.augmentation.specs.Search.{CanSearch, CanChange, Started, Searched, readyAt}
 use Rattle.augmentation.proofs.Room.{list-length, predecessors-length, room-self, room-length, list-of, predecessors-of, list-back, room-room, lent-list}
 use Rattle.augmentation.proofs.Loops.{one, distances-near, either-on, Between, Within-scan, Leaving}

@@ -1,7 +1,7 @@
 -- The start of a search, put together from the lists that are lent for it one after the other. Assumes nothing.
-use mathlib.Core.Path.{_≡_, refl, sym, ap, ap₂, _∙_}
+use mathlib.Core.Path.{_≡_, sym, ap, ap₂, _∙_}
 use mathlib.Core.List.{List, _++_}
-use Prim.Native.Nat.{ℕ, _+_, _-_, _*_, _<_}
+use Prim.Native.Nat.{ℕ, _+_, _-_}
 use native.Mathlib.Omega.{arith}
 use lib.IntN.{ℤ, _-ℤ_}
 use lib.ListN.{length, take, drop}
@@ -9,8 +9,8 @@ use Rattle.lists.specs.Permutations.{table}
 use Rattle.lists.proofs.Tables.{length-table, table-cong}
 use Rattle.assignment.specs.Pairings.{price, square}
 use Rattle.rules.specs.Lowest.{reduced}
-use Rattle.augmentation.specs.Room.{listIn, predecessorsIn, roomWith}
 use Rattle.rules.specs.Search.{workOf}
+use Rattle.augmentation.specs.Room.{listIn, predecessorsIn, roomWith}
 use Rattle.augmentation.specs.Search.{Started}
 use Rattle.augmentation.proofs.Room.{list-length, predecessors-length, room-self, room-length, list-of, predecessors-of, list-back, predecessors-back, lent-list}
 use Rattle.augmentation.proofs.Scan.{rowOf, row-cost}

@@ -1,18 +1,17 @@
 -- The work of a search as it lies in lent memory, and what the look of one row leaves there.
 use mathlib.Core.Path.{_≡_}
 use mathlib.Core.List.{List}
-use Prim.Native.Nat.{ℕ, _+_, _*_, _≤_, _<_}
+use Prim.Native.Nat.{ℕ, _+_, _≤_, _<_}
 use lib.IntN.{ℤ}
 use lib.ListN.{length}
 use Rattle.ints.specs.Parts.{Within}
 use Rattle.lists.specs.Runs.{Turn, on, left, until}
 use Rattle.lists.specs.Permutations.{at, Permutation}
 use Rattle.assignment.specs.Pairings.{price, square}
-use Rattle.matrix.specs.Limits.{side}
+use Rattle.matrix.specs.Limits.{side, near}
 use Rattle.rules.specs.declared.ScanEnd.{ScanEnd}
-use Rattle.rules.specs.declared.ScanEnd.the-variants as ends
 use Rattle.rules.specs.Search.{Work, workOf, Hit, scanColumn, scanRow}
-use Rattle.matrix.specs.Limits.{near}
+use Rattle.rules.specs.declared.ScanEnd.the-variants as ends
 use Rattle.augmentation.specs.Room.{listIn, predecessorsIn, roomWith}
 
 -- The work whose list and predecessors are parts of a room.

@@ -3,19 +3,16 @@ use mathlib.Core.Path.{_≡_}
 use mathlib.Core.List.{List, []}
 use Prim.Native.Nat.{ℕ, _+_, _*_, _≤_, _<_}
 use lib.IntN.{ℤ}
-use lib.Signed.{_≤ℤ_}
 use lib.ListN.{length}
 use Rattle.ints.specs.Parts.{Within}
 use Rattle.lists.specs.Permutations.{at, Permutation}
 use Rattle.assignment.specs.Pairings.{price, square}
-use Rattle.matrix.specs.Limits.{side}
+use Rattle.matrix.specs.Limits.{side, near}
 use Rattle.rules.specs.declared.Reached.{Reached}
 use Rattle.rules.proofs.Prices.{Fair}
-use Rattle.rules.specs.Search.{Found, searchStart, search, newPrices}
-use Rattle.matrix.specs.Limits.{near}
+use Rattle.rules.specs.Search.{Found, searchStart, search, newPrices, workOf}
 use Rattle.augmentation.specs.Room.{listIn, predecessorsIn, roomWith}
 use Rattle.augmentation.specs.Scan.{Lent, workIn}
-use Rattle.rules.specs.Search.{workOf}
 
 -- Before a search starts.
 pub record CanStart (n : ℕ) (costs : List ℤ) (start : ℕ) (v d : List ℤ) (room : List ℕ) : Type 0 where

@@ -1,11 +1,11 @@
 // Rules 2, 5 and 6: the block of minima, the search with its scan, and augmentation, under the crate's names.
 ghost use mathlib.Core.Path.{_≡_};
 ghost use Prim.Native.Nat.{ℕ, _+_, _*_, _<_, _≤_};
-ghost use lib.IntN.{pos, _-ℤ_};
+ghost use lib.IntN.{_-ℤ_};
 ghost use lib.ListN.{length};
 ghost use Rattle.ints.specs.Parts.{Within};
 ghost use Rattle.lists.specs.Permutations.{at, table, exchange, Permutation};
-ghost use Rattle.assignment.specs.Pairings.{price, square};
+ghost use Rattle.assignment.specs.Pairings.{price};
 ghost use Rattle.matrix.specs.Limits.{side, near};
 ghost use Rattle.rules.specs.Block.{block};
 ghost use Rattle.rules.specs.Search.{lastFree, newPrices};
@@ -206,8 +206,8 @@ fn change_prices(lo: usize, list: &[u32], d: &[i64], v: &mut [i64])
     }
 }
 
-// Rule 5, the search: from the free row `start` to a free column, and then the new prices. The scan has a cursor of its own, which is stored
-// only where the scan was not left.
+// Rule 5, the search: from the free row `start` to a free column, and then the new prices. The scan has a cursor of its own; where it is left
+// at a free column, lo and hi keep their values from before it.
 pub fn find_path_dense(
     n: usize,
     costs: &[i32],
@@ -227,14 +227,14 @@ pub fn find_path_dense(
     let column = 'search: loop {
         let lo = cursor.hi;
         let hi = find_dense(n, lo, d, &mut room[n..n2]);
-        cursor = Cursor { lo, hi };
         match last_free(n, lo, hi, &room[n..n2], rows) {
             LastFree::At(j) => {
+                cursor = Cursor { lo, hi };
                 break j;
             }
             LastFree::NoneYet => {}
         }
-        let mut scan = cursor;
+        let mut scan = Cursor { lo, hi };
         while scan.lo != scan.hi {
             let next = scan.lo + 1;
             scanned += 1;
@@ -243,6 +243,7 @@ pub fn find_path_dense(
                     scan = Cursor { lo: next, hi: end };
                 }
                 ScanEnd::Hit(free) => {
+                    cursor = Cursor { lo, hi };
                     break 'search free;
                 }
             }

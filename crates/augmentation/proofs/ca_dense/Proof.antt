@@ -1,18 +1,13 @@
 -- `ca_dense` is the augmentation: the loop is the definition's, a free row a turn. Assumes nothing.
-use mathlib.Core.Path.{_≡_, refl, sym, _∙_}
-use Prim.Native.Nat.{ℕ, _-_, _<_}
+use mathlib.Core.Path.{_≡_, refl}
+use Prim.Native.Nat.{_-_}
 use native.Mathlib.Omega.{arith}
-use lib.ListN.{length}
-use Rattle.matrix.specs.Limits.{side}
-use Rattle.matrix.proofs.Limits.{side-small}
-use Rattle.augmentation.proofs.Augmentation.{Augmenting, first-turn, augmented, turn, can-search, found-few, long, way-back, next-turn}
 use borrow.Author.Needs.{needs}
+use lib.ListN.{length}
+use Rattle.matrix.proofs.Limits.{side-small}
+use Rattle.augmentation.proofs.Augmentation.{Augmenting, first-turn, augmented, turn, can-search, found-few, way-back, next-turn}
 use Rattle.augmentation.proofs.ca_dense.Statement.{statement}
 use Rattle.augmentation.proofs.ca_dense.Tie as tie
-use Rattle.augmentation.proofs.ca_dense.Reads as reads
-use Rattle.augmentation.proofs.ca_dense.Lts as lts
-use Rattle.augmentation.proofs.find_path_dense.Reads as find-path-dense-reads
-use Rattle.augmentation.proofs.flip_back.Reads as flip-back-reads
 
 abbrev Inv-loop : tie.InvT-loop
 Inv-loop n costs left cols₀ rows₀ v₀ d₀ room₀ n2 n3 scanned₀ k₀ cols rows v d room scanned k =

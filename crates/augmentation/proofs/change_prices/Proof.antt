@@ -1,22 +1,19 @@
 -- `change_prices` adds to the price of each ready column its distance minus the last block's: the loop is the definition's, a column a turn.
 -- Assumes nothing.
-use mathlib.Core.Path.{_≡_, refl, sym, ap, _∙_}
-use Prim.Native.Nat.{ℕ, _+_, _-_, _^_, _≤_, _<_}
+use mathlib.Core.Path.{_≡_, refl}
+use Prim.Native.Nat.{ℕ, _-_, _^_, _<_}
 use native.Mathlib.Omega.{arith}
+use borrow.Author.Needs.{needs}
 use lib.ListN.{length}
 use mir.Syntax.{w64}
-use mir.Val.{toZ, ofZ}
+use mir.Val.{toZ}
 use Rattle.ints.proofs.Bits.{read-back}
 use Rattle.lists.specs.Permutations.{at}
 use Rattle.assignment.specs.Pairings.{price}
-use Rattle.matrix.specs.Limits.{side}
 use Rattle.matrix.proofs.Limits.{side-small}
 use Rattle.augmentation.proofs.Prices.{Changing, first-change, size, changed, column-below, sub-fits, add-fits, next}
-use borrow.Author.Needs.{needs}
 use Rattle.augmentation.proofs.change_prices.Statement.{statement}
 use Rattle.augmentation.proofs.change_prices.Tie as tie
-use Rattle.augmentation.proofs.change_prices.Reads as reads
-use Rattle.augmentation.proofs.change_prices.Lts as lts
 
 abbrev Inv-loop : tie.InvT-loop
 Inv-loop lo list d v₀ first minimum k₀ v k = Changing (length v₀) lo list d v₀ (toZ w64 minimum) v k

@@ -1,44 +1,55 @@
 -- `fill` leaves the same row at every place: the first j are filled. Assumes nothing.
-use Prim.Native.Nat.{ℕ, _+_, _-_, _≤_, _<_}
-use mathlib.Core.Path.{_≡_, refl, sym, ap, _∙_, subst}
+use mathlib.Core.Path.{_≡_, ap, _∙_}
+use mathlib.Core.List.{_++_}
+use Prim.Native.Nat.{_-_, _≤_, _<_}
 use native.Mathlib.Omega.{arith}
-use lib.ListN.{length}
-use Rattle.augmentation.proofs.Filled.{Filled, filled-none, filled-more, filled-all}
 use borrow.Author.Needs.{needs}
+use lib.ListN.{length, drop}
+use Rattle.lists.specs.Permutations.{table}
+use Rattle.lists.proofs.Tables.{filled-none, filled-more, filled-length, filled-all}
 use Rattle.augmentation.proofs.fill.Statement.{statement}
 use Rattle.augmentation.proofs.fill.Tie as tie
-use Rattle.augmentation.proofs.fill.Reads as reads
-use Rattle.augmentation.proofs.fill.Lts as lts
 
 abbrev Inv-loop : tie.InvT-loop
-Inv-loop list₀ row j₀ list j = Filled (length list₀) (λ i. row) list j
+Inv-loop list₀ row j₀ list j = (j ≤ length list₀) × (list ≡ table j (λ i. row) ++ drop j list₀)
 
 abbrev μ-loop : tie.MeasureT-loop
 μ-loop list₀ row j₀ list j = length list₀ - j
 
+-- the list keeps its length
+size : (c : tie.At-loop Inv-loop μ-loop) → length (c .loop .list) ≡ length (c .before .args .list .now)
+size c = ap length (c .loop .inv .1) ∙ filled-length (c .loop .j) _ (c .before .args .list .now) (c .loop .inv .0)
+
 loop-holds : tie.Need-loop-holds Inv-loop μ-loop
-loop-holds c = filled-none _ _
+loop-holds c = (omega arith, filled-none _ _)
 
 mul-list : tie.Need-mul-list Inv-loop μ-loop
 mul-list c = search needs
 
 slice-write-list : tie.Need-slice-write-list Inv-loop μ-loop
-slice-write-list c = search needs
+slice-write-list c = omega (arith, size (c .before))
 
 add-j : tie.Need-add-j Inv-loop μ-loop
 add-j c = search needs
 
 loop-less : tie.Need-loop-less Inv-loop μ-loop
-loop-less c = search needs
+loop-less c = omega (arith, size (c .before))
 
 loop-again : tie.Need-loop-again Inv-loop μ-loop
-loop-again c = filled-more (c .before .loop .inv) (omega (arith, c .before .loop .inv .size)) _ refl
+loop-again c =
+    let l = c .before .loop in
+    let l₀ = c .before .before .args .list .now in
+    let h : l .j < length l₀ = omega (arith, size (c .before)) in
+    (omega arith, rw (l .inv .1) (filled-more (l .j) _ l₀ h))
 
 same-length : tie.Need-same-length Inv-loop μ-loop
-same-length c = search needs
+same-length c = size (c .before)
 
 returns : tie.Need-returns Inv-loop μ-loop
-returns c = filled-all (c .before .loop .inv) (omega (arith, c .before .loop .inv .size))
+returns c =
+    let l = c .before .loop in
+    let e : l .j ≡ length (c .before .before .args .list .now) = omega (arith, size (c .before), l .inv .0) in
+    l .inv .1 ∙ filled-all (l .j) _ (c .before .before .args .list .now) e
 
 pub fill-spec : {M : Type 1} → statement M
 fill-spec =

@@ -1,27 +1,20 @@
 -- `find_dense` makes the block of minima: the loop is the definition's, a place a turn. Assumes nothing.
-use Rattle.augmentation.proofs.Block.{blocked-at}
-use Rattle.lists.specs.Permutations.{exchange}
-use Rattle.lists.proofs.Permutations.{length-exchange}
+use mathlib.Core.Path.{_≡_, ap, _∙_}
 use mathlib.Core.Logic.{⊎-elim}
-use mathlib.Core.Bool.{true, false}
-use lib.IntN.{ℤ}
-use lib.Signed.{ltZ, leZ}
-use Rattle.ints.proofs.Bits.{read-back}
-use Rattle.lists.specs.Permutations.{at, Permutation}
-use Rattle.assignment.specs.Pairings.{price}
-use Rattle.rules.specs.Block.{Block, block}
-use Prim.Native.Nat.{ℕ, _+_, _-_, _≤_, _<_}
-use mathlib.Core.Path.{_≡_, refl, sym, ap, _∙_, subst}
+use mathlib.Core.Bool.{true}
+use Prim.Native.Nat.{ℕ, _+_, _-_, _<_}
 use native.Mathlib.Omega.{arith}
+use borrow.Author.Needs.{needs}
+use lib.Signed.{leZ}
 use mir.Syntax.{w64}
 use mir.Val.{toZ, ofZ}
-use Rattle.augmentation.proofs.Block.{Blocked, first-block, whole-block, here-below, restart, join, pass-by}
-use borrow.Author.Needs.{needs}
+use Rattle.ints.proofs.Bits.{read-back}
+use Rattle.lists.specs.Permutations.{exchange, at}
+use Rattle.assignment.specs.Pairings.{price}
+use Rattle.rules.specs.Block.{Block}
+use Rattle.augmentation.proofs.Block.{blocked-at, Blocked, first-block, whole-block, here-below, restart, join, pass-by}
 use Rattle.augmentation.proofs.find_dense.Statement.{statement}
 use Rattle.augmentation.proofs.find_dense.Tie as tie
-use Rattle.augmentation.proofs.find_dense.Reads as reads
-use Rattle.augmentation.proofs.find_dense.Lts as lts
-use Rattle.augmentation.proofs.exchange.Reads as exchange-reads
 
 abbrev Inv-loop : tie.InvT-loop
 Inv-loop n lo d list₀ hi₀ first minimum₀ k₀ list hi minimum k = Blocked n lo d list₀ list hi (toZ w64 minimum) k

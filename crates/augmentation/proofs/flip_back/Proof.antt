@@ -1,18 +1,14 @@
 -- `flip_back` flips the pairs back to the start row: the loop is the definition's, a flip a turn, and each leaves fewer to go. Assumes nothing.
-use mathlib.Core.Path.{_≡_, refl, sym, _∙_}
+use mathlib.Core.Path.{_≡_, sym, _∙_}
 use Prim.Native.Nat.{ℕ, _^_, _<_}
 use native.Mathlib.Omega.{arith}
 use lib.ListN.{length, length-set}
 use Rattle.lists.specs.Permutations.{at}
-use Rattle.matrix.specs.Limits.{side}
 use Rattle.matrix.proofs.Limits.{side-small}
 use Rattle.augmentation.specs.Augmentation.{openAt}
 use Rattle.augmentation.proofs.Flips.{togo, Flipping, first-flip, row-below, last-flip, next-flip, fewer}
-use borrow.Author.Needs.{needs}
 use Rattle.augmentation.proofs.flip_back.Statement.{statement}
 use Rattle.augmentation.proofs.flip_back.Tie as tie
-use Rattle.augmentation.proofs.flip_back.Reads as reads
-use Rattle.augmentation.proofs.flip_back.Lts as lts
 
 abbrev Inv-loop : tie.InvT-loop
 Inv-loop n start column predecessors cols₀ rows₀ j₀ cols rows j = Flipping n start predecessors column cols₀ rows₀ cols rows j

@@ -1,19 +1,14 @@
 -- `last_free` answers the last free column of a fresh block. Assumes nothing.
+use mathlib.Core.Path.{_≡_, ap, _∙_}
 use mathlib.Core.Logic.{⊎-elim}
-use Rattle.lists.specs.Permutations.{Permutation}
-use Rattle.rules.specs.declared.LastFree.{LastFree}
-use Prim.Native.Nat.{ℕ, _+_, _-_, _≤_, _<_}
-use mathlib.Core.Path.{_≡_, refl, sym, ap, _∙_, subst}
+use Prim.Native.Nat.{_-_, _≤_, _<_}
 use native.Mathlib.Omega.{arith}
-use lib.IntN.{pos}
+use borrow.Author.Needs.{needs}
 use Rattle.lists.specs.Permutations.{at}
 use Rattle.rules.specs.Search.{lastFree}
 use Rattle.augmentation.proofs.Block.{last-none, last-free, last-taken}
-use borrow.Author.Needs.{needs}
 use Rattle.augmentation.proofs.last_free.Statement.{statement}
 use Rattle.augmentation.proofs.last_free.Tie as tie
-use Rattle.augmentation.proofs.last_free.Reads as reads
-use Rattle.augmentation.proofs.last_free.Lts as lts
 
 abbrev Inv-loop : tie.InvT-loop
 Inv-loop n lo hi list rows last₀ k₀ last k = (lo ≤ k) × (k ≤ hi) × (last ≡ lastFree n (at rows) list lo k)

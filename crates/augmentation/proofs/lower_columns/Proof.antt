@@ -1,14 +1,11 @@
 -- `lower_columns` is the look of one row at the columns after the block: the loop is the definition's, a place a turn. Assumes nothing.
-use Rattle.rules.specs.declared.ScanEnd.{ScanEnd}
-use mathlib.Core.Path.{_≡_, refl, sym, ap, ap₂, _∙_, subst}
+use mathlib.Core.Path.{_≡_, sym, ap, ap₂, _∙_, subst}
 use mathlib.Core.Logic.{⊎-elim}
 use mathlib.Core.List.{List}
-use mathlib.Core.Bool.{true, false}
 use Prim.Native.Nat.{ℕ, _+_, _-_, _*_, _^_, _≤_, _<_}
 use native.Mathlib.Omega.{arith}
 use borrow.Author.Tests.{lt-ltb, le-ltb}
 use lib.IntN.{ℤ, _-ℤ_}
-use lib.Signed.{ltZ}
 use lib.ListN.{length, getD, length-set}
 use mir.Syntax.{w32, w64}
 use mir.Val.{toZ, ofZ}
@@ -17,18 +14,13 @@ use Rattle.ints.specs.Parts.{Within}
 use Rattle.ints.proofs.Bits.{read-back}
 use Rattle.lists.specs.Permutations.{at}
 use Rattle.assignment.specs.Pairings.{price}
-use Rattle.matrix.specs.Limits.{side}
-use Rattle.matrix.proofs.Limits.{side-small}
 use Rattle.matrix.specs.Limits.{near}
+use Rattle.matrix.proofs.Limits.{side-small}
+use Rattle.rules.specs.declared.ScanEnd.{ScanEnd}
 use Rattle.augmentation.specs.Scan.{Looked}
 use Rattle.augmentation.proofs.Look.{Looking, first-look, room-long, looked, column-below, pass-by, lower, swap-in, hit, looking-at, same-equal, same-other}
-use borrow.Author.Needs.{needs}
 use Rattle.augmentation.proofs.lower_columns.Statement.{statement}
 use Rattle.augmentation.proofs.lower_columns.Tie as tie
-use Rattle.augmentation.proofs.lower_columns.Reads as reads
-use Rattle.augmentation.proofs.lower_columns.Lts as lts
-use Rattle.augmentation.proofs.exchange.Reads as exchange-reads
-use Rattle.augmentation.proofs.lowered.Reads as lowered-reads
 
 abbrev Inv-loop : tie.InvT-loop
 Inv-loop n i row v rows h minimum from d₀ room₀ n2 hi₀ k₀ d room hi k =

@@ -8,7 +8,6 @@ use mir.Syntax.{w32, w64}
 use mir.Val.{SFits, toZ, ofZ}
 use mir.Facts.{toZ-ofZ}
 use Rattle.ints.specs.Parts.{Within}
-use Rattle.ints.proofs.Sums.{dif}
 use Rattle.ints.proofs.Shapes.{zlin}
 use Rattle.matrix.specs.Limits.{near}
 use Rattle.augmentation.proofs.lowered.Statement.{statement}

@@ -1,29 +1,22 @@
 -- `scan_dense` is the scan of one column: its row's costs, what it has to spare, and the row's look. Assumes nothing.
 use mathlib.Core.Path.{_≡_, refl, sym, ap, ap₂, _∙_, subst}
-use Prim.Native.Nat.{ℕ, _+_, _*_, _^_, _≤_, _<_}
+use Prim.Native.Nat.{ℕ, _+_, _*_, _^_, _<_}
 use native.Mathlib.Omega.{arith}
+use borrow.Author.Needs.{needs}
 use lib.IntN.{ℤ, _-ℤ_}
 use lib.ListN.{length, getD}
 use mir.Syntax.{w32, w64}
-use mir.Val.{SFits, toZ, ofZ}
-use mir.Facts.{toZ-ofZ}
+use mir.Val.{toZ, ofZ}
 use Rattle.ints.specs.Parts.{Within}
 use Rattle.ints.proofs.Bits.{read-back}
 use Rattle.ints.proofs.Ranges.{within-mono}
 use Rattle.lists.specs.Permutations.{at}
 use Rattle.assignment.specs.Pairings.{price}
-use Rattle.matrix.specs.Limits.{side}
-use Rattle.matrix.proofs.Limits.{side-small}
 use Rattle.matrix.specs.Limits.{near}
-use Rattle.augmentation.proofs.Scan.{row-length, row-cost, spare-near, column-at, scanned}
-use borrow.Author.Needs.{needs}
+use Rattle.matrix.proofs.Limits.{side-small}
+use Rattle.augmentation.proofs.Scan.{row-length, spare-near, column-at, scanned}
 use Rattle.augmentation.proofs.scan_dense.Statement.{statement}
 use Rattle.augmentation.proofs.scan_dense.Tie as tie
-use Rattle.augmentation.proofs.scan_dense.Reads as reads
-use Rattle.augmentation.proofs.scan_dense.Lts as lts
-use Rattle.augmentation.proofs.lower_columns.Reads as lower-columns-reads
-use Rattle.augmentation.proofs.lowered.Reads as lowered-reads
-use Rattle.matrix.proofs.row.Reads as row-reads
 
 -- what every index need asks
 record Facts (n lo j i v rows d room costs : ℕ) : Type 0 where

@@ -1,22 +1,12 @@
 -- `start_search` leaves the columns in their order, each as far as the start row makes it, and the start row as every predecessor. Assumes
 -- nothing.
-use Rattle.augmentation.proofs.Start.{started}
-use mathlib.Core.Path.{_≡_, refl, sym, ap, ap₂, _∙_, subst}
-use Prim.Native.Nat.{ℕ, _+_, _-_, _*_, _^_, _≤_, _<_}
-use native.Mathlib.Omega.{arith}
-use lib.ListN.{length}
-use Rattle.matrix.specs.Limits.{side}
-use Rattle.matrix.proofs.Limits.{side-small}
-use Rattle.augmentation.proofs.Scan.{row-length, row-cost}
+use mathlib.Core.Path.{ap, _∙_}
 use borrow.Author.Needs.{needs}
+use lib.ListN.{length}
+use Rattle.augmentation.proofs.Start.{started}
+use Rattle.augmentation.proofs.Scan.{row-length}
 use Rattle.augmentation.proofs.start_search.Statement.{statement}
 use Rattle.augmentation.proofs.start_search.Tie as tie
-use Rattle.augmentation.proofs.start_search.Reads as reads
-use Rattle.augmentation.proofs.start_search.Lts as lts
-use Rattle.augmentation.proofs.fill.Reads as fill-reads
-use Rattle.augmentation.proofs.first_distances.Reads as first-distances-reads
-use Rattle.augmentation.proofs.number_columns.Reads as number-columns-reads
-use Rattle.matrix.proofs.row.Reads as row-reads
 
 add-n2 : tie.Need-add-n2
 add-n2 c = search needs
