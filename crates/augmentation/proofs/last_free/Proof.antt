@@ -1,7 +1,8 @@
 -- `last_free` answers the last free column of a fresh block. Assumes nothing.
 use mathlib.Core.Path.{_≡_, ap, _∙_}
 use mathlib.Core.Logic.{⊎-elim}
-use Prim.Native.Nat.{_-_, _≤_, _<_}
+use Prim.Native.Nat.{_+_, _-_, _≤_, _<_}
+use native.Mathlib.Decide.{decLe}
 use native.Mathlib.Omega.{arith}
 use borrow.Author.Needs.{needs}
 use Rattle.lists.specs.Permutations.{at}
@@ -48,14 +49,22 @@ add-k c = search needs
 loop-less : tie.Need-loop-less Inv-loop μ-loop
 loop-less c = search needs
 
+-- with one place more
+found : (c : tie.Joined1 Inv-loop μ-loop)
+    → let u = c .before .before .before .before .before .args in
+    c .if1 .last ≡ lastFree (u .n) (at (u .rows .now)) (u .list .now) (u .lo) (c .before .before .before .before .loop .k + 1)
+found c =
+    let u = c .before .before .before .before .before .args in
+    let l = c .before .before .before .before .loop in
+    elim (decLe (u .n) (at (u .rows .now) (at (u .list .now) (l .k)))) [
+      | yes h ↦ let e = last-free (u .n) (at (u .rows .now)) (u .list .now) (u .lo) (l .k) (l .inv .0) h in
+          ⊎-elim (λ a. cc) (λ a. absurd (omega arith)) (c .if1 .came)
+      | no h ↦ let e = last-taken (u .n) (at (u .rows .now)) (u .list .now) (u .lo) (l .k) (l .inv .0) (omega arith) in
+          ⊎-elim (λ a. absurd (omega arith)) (λ a. cc) (c .if1 .came)
+    ]
+
 loop-again : tie.Need-loop-again Inv-loop μ-loop
-loop-again c =
-    let l = c .before .before .before .before .loop in (
-      omega arith,
-      omega arith,
-      ⊎-elim (λ a. a .1 ∙ last-free _ _ _ _ _ (l .inv .0) (a .0 .taken))
-          (λ a. a .1 ∙ l .inv .2 ∙ last-taken _ _ _ _ _ (l .inv .0) (a .0 .left)) (c .if1 .came),
-    )
+loop-again c = (omega arith, omega arith, found c)
 
 returns : tie.Need-returns Inv-loop μ-loop
 returns c =
