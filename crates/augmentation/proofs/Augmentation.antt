@@ -72,13 +72,13 @@ module _ (n : ℕ) (costs : List ℤ) (small : n ≤ side) (size : length costs 
   E : Ended n cost (price v) (at rows) s fl f μ
   E = found-good n cost x s C .1
 
-  pub list-size : length (f .work .list) ≡ n
+  list-size : length (f .work .list) ≡ n
   list-size = E .sound .permutation .size
 
-  pub predecessors-size : length (f .work .predecessors) ≡ n
+  predecessors-size : length (f .work .predecessors) ≡ n
   predecessors-size = E .sound .predecessors-size
 
-  pub scanned-few : f .work .scanned < n
+  scanned-few : f .work .scanned < n
   scanned-few = E .counted-few
 
   -- The row that leads to a column is the start row, or that of a column.
@@ -91,7 +91,7 @@ module _ (n : ℕ) (costs : List ℤ) (small : n ≤ side) (size : length costs 
       go t m = ⊎-elim (λ a. omega (arith, a .leads, C .start-below)) (λ a. omega (arith, a .3 .leads, a .2 .0)) (E .root t m)
 
   -- The pairs can flip back.
-  pub can-flip : CanFlip n s (f .column) (f .work .predecessors) cols rows
+  can-flip : CanFlip n s (f .column) (f .work .predecessors) cols rows
   can-flip =
       let p = pairsOf cols rows in
       let ls = C .start-below in
@@ -178,7 +178,7 @@ module _ {n : ℕ} {costs : List ℤ} {count : ℕ} {cols₀ rows₀ : List ℕ}
       pub found-few : r .scanned < n
       found-few = omega (arith, S .scanned, scanned-few n costs (A .can .small) (A .can .costs-size) (A .can .costs-near) cols rows v scanned s turn)
 
-      pub long : length room′ ≡ n + n + n + n
+      long : length room′ ≡ n + n + n + n
       long = ap length (S .room-is) ∙ room-length n room (A .room-size) (g .work .list) (g .work .predecessors) ls ps
 
       lent-is : take (n + n + n - (n + n)) (drop (n + n) room′) ≡ g .work .predecessors

@@ -47,9 +47,6 @@ module _ {n lo : ℕ} {d : List ℤ} {list₀ list : List ℕ} {hi : ℕ} {minim
   whole-block l = let e : k ≡ n = omega (arith, B .within) in B .same ∙ ap (λ (m : ℕ). upward (lo + 1) m (blockStep d lo) (blockStart d lo list₀)) e
 
   module _ (l : k < n) where
-    h : ℤ
-    h = price d (at list k)
-
     pub here-below : at list k < n
     here-below = B .listed .injective .below k l
 

@@ -44,7 +44,7 @@ module _ (n s : ℕ) (predecessors : List ℕ) where
       by (no l) = omega arith
 
   -- One flip makes them fewer.
-  pub togo-less : (o x : Open) → flip s predecessors o ≡ on x → (m : ℕ) (p : Pairs) → m ≤ n → flips m s predecessors o ≡ left p → togo x < togo o
+  togo-less : (o x : Open) → flip s predecessors o ≡ on x → (m : ℕ) (p : Pairs) → m ≤ n → flips m s predecessors o ≡ left p → togo x < togo o
   unfolding isLeft togo
   togo-less o x e m p l q = by (togo o) refl
     where

@@ -7,5 +7,6 @@ pub mod Start
 pub mod Loops
 pub mod ScanLoop
 pub mod Search
+pub mod Leave
 pub mod Flips
 pub mod Augmentation

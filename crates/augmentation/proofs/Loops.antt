@@ -90,7 +90,7 @@ module _ (n : ℕ) (costs : List ℤ) (rows : List ℕ) (start : ℕ) (v : List 
     pub same : blocks fuel (workOf hi list d predecessors scanned) ≡ blocks n (workIn n 0 d₀ room₀ 0)
 
   -- At the head of the scan's loop, which began with d₁, room₁, lo₁, hi₁ and scanned₁: what is left of the scan is the scan.
-  pub record Within-scan (d₁ : List ℤ) (room₁ : List ℕ) (lo₁ hi₁ scanned₁ : ℕ) (d : List ℤ) (room : List ℕ) (lo hi scanned : ℕ) : Type 0 where
+  pub record InScan (d₁ : List ℤ) (room₁ : List ℕ) (lo₁ hi₁ scanned₁ : ℕ) (d : List ℤ) (room : List ℕ) (lo hi scanned : ℕ) : Type 0 where
     pub room-size : length room₁ ≡ n + n + n + n
     pub list : List ℕ
     pub predecessors : List ℕ

@@ -37,12 +37,12 @@ module _ (list : List ℕ) (d : List ℤ) (minimum : ℤ) (v₀ : List ℤ) wher
   abbrev pub prices : ℕ → List ℤ
   prices k = upward 0 k (λ k. raise d minimum (at list k)) v₀
 
-  pub prices-length : (k : ℕ) → length (prices k) ≡ length v₀
+  prices-length : (k : ℕ) → length (prices k) ≡ length v₀
   prices-length k =
       upward-keeps (λ m v. length v ≡ length v₀) 0 k (λ m. raise d minimum (at list m)) v₀ (omega arith) refl
       (λ m v l g e. length-set v (at list m) (price v (at list m) +ℤ (price d (at list m) -ℤ minimum)) ∙ e)
 
-  pub prices-within : ((j : ℕ) → Within near (price v₀ j)) → ((j : ℕ) → Within (2 * near) (price d j)) → Within (2 * near) minimum
+  prices-within : ((j : ℕ) → Within near (price v₀ j)) → ((j : ℕ) → Within (2 * near) (price d j)) → Within (2 * near) minimum
       → (k j : ℕ) → Within (near * (4 * k + 1)) (price (prices k) j)
   prices-within h g m k =
       upward-keeps (λ i v. (j : ℕ) → Within (near * (4 * i + 1)) (price v j)) 0 k (λ i. raise d minimum (at list i)) v₀ (omega arith) (λ j. h j)

@@ -76,7 +76,7 @@ module _ (n : ℕ) (r : List ℕ) (size : length r ≡ n + n + n + n) where
     pub get-list : (k : ℕ) → k < n → getD (roomWith n l p r) (n + k) 0 ≡ at l k
     get-list k h = sym (part-at n n (roomWith n l p r) k 0 h) ∙ ap (λ (x : List ℕ). at x k) list-of
 
-    pub set-list : (k x : ℕ) → k < n → set (roomWith n l p r) (n + k) x ≡ roomWith n (set l k x) p r
+    set-list : (k x : ℕ) → k < n → set (roomWith n l p r) (n + k) x ≡ roomWith n (set l k x) p r
     set-list k x h =
         ap (λ (y : List ℕ). set y (n + k) x) (flat l p sl sp)
         ∙ ap (λ (m : ℕ). set (take n r ++ (l ++ (p ++ drop (n + n + n) r))) (m + k) x) (sym front)

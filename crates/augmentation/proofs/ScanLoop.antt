@@ -25,7 +25,7 @@ use Rattle.augmentation.specs.Room.{listIn, predecessorsIn, roomWith}
 use Rattle.augmentation.specs.Scan.{workIn, seenIn, seen, Scanned}
 use Rattle.augmentation.specs.Search.{CanSearch, CanScan}
 use Rattle.augmentation.proofs.Room.{room-length, list-of, predecessors-of, room-room}
-use Rattle.augmentation.proofs.Loops.{distances-near, seen-on, seen-hit, either-on, either-left, Within-scan}
+use Rattle.augmentation.proofs.Loops.{distances-near, seen-on, seen-hit, either-on, either-left, InScan}
 
 -- ---- a block only grows while it is scanned
 
@@ -67,14 +67,14 @@ module _ (n : ℕ) (costs : List ℤ) (rows : List ℕ) (start : ℕ) (v : List 
   rest k w = scan n cost (price v) (at rows) k w
 
   module _ (C : CanSearch n costs rows start v) {d₁ : List ℤ} {room₁ : List ℕ} {lo₁ hi₁ m₁ : ℕ} {d : List ℤ} {room : List ℕ} {lo hi m : ℕ}
-      (M : Within-scan n costs rows start v d₁ room₁ lo₁ hi₁ m₁ d room lo hi m) where
+      (M : InScan n costs rows start v d₁ room₁ lo₁ hi₁ m₁ d room lo hi m) where
     abbrev w : Work
     w = workOf hi (M .list) d (M .predecessors) m
 
     S : Sound n cost (price v) (at rows) start floor w
     S = M .counted .scanning .sound
 
-    pub scan-room-long : length room ≡ n + n + n + n
+    scan-room-long : length room ≡ n + n + n + n
     scan-room-long = ap length (M .room-is) ∙ room-length n room₁ (M .room-size) (M .list) (M .predecessors) (S .permutation .size) (S .predecessors-size)
 
     list-is : listIn n room ≡ M .list
@@ -87,11 +87,11 @@ module _ (n : ℕ) (costs : List ℤ) (rows : List ℕ) (start : ℕ) (v : List 
     work-is : workIn n hi d room m ≡ w
     work-is = ap₂ (λ (a b : List ℕ). workOf hi a d b m) list-is predecessors-is
 
-    pub hi-below : hi ≤ n
+    hi-below : hi ≤ n
     hi-below = M .counted .scanning .order .2
 
     module _ (go : lo ≢ hi) where
-      pub lo-in : (lo < hi) × (lo < n)
+      lo-in : (lo < hi) × (lo < n)
       lo-in = omega (arith, M .place, hi-below)
 
       pub can-scan : CanScan n costs rows lo hi v d room
@@ -129,7 +129,7 @@ module _ (n : ℕ) (costs : List ℤ) (rows : List ℕ) (start : ℕ) (v : List 
 
       -- The scan goes on, with the block's end e.
       pub scan-on : {r : ScanEnd} {d′ : List ℤ} {room′ : List ℕ} (e : ℕ) → r ≡ ends.On e → Scanned n costs v rows lo hi d room r d′ room′
-          → Within-scan n costs rows start v d₁ room₁ lo₁ hi₁ m₁ d′ room′ (lo + 1) e (m + 1)
+          → InScan n costs rows start v d₁ room₁ lo₁ hi₁ m₁ d′ room′ (lo + 1) e (m + 1)
       scan-on {r} {d′} {room′} e q R =
           let x : Work = workIn n e d′ room′ (m + 1) in
           let t : scanRow n cost (price v) (at rows) lo w ≡ on x = seen-on n e d′ room′ (m + 1) (scanRow n cost (price v) (at rows) lo w) (ap (λ (y : ScanEnd). seenIn y n d′ room′ (m + 1)) (sym q) ∙ same-row R) in

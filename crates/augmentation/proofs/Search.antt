@@ -13,18 +13,17 @@ use Rattle.rules.specs.declared.LastFree.{LastFree}
 use Rattle.rules.specs.declared.LastFree.the-variants.{NoneYet, At}
 use Rattle.rules.specs.Lowest.{reduced, lowest}
 use Rattle.rules.specs.Block.{Block, block}
-use Rattle.rules.specs.Search.{Work, workOf, Hit, Found, scan, lastFree, freshBlock, found, afterScan, afterBlock, searchBlock, searchBlocks, search, foundAt, newPrices}
+use Rattle.rules.specs.Search.{Work, workOf, Hit, Found, scan, lastFree, freshBlock, afterScan, afterBlock, searchBlock, searchBlocks}
 use Rattle.rules.proofs.FreeColumns.{Sought, lastFree-ok}
 use Rattle.rules.proofs.Block.{IsBlock, block-ok}
-use Rattle.rules.proofs.Scan.{Sound}
-use Rattle.rules.proofs.Search.{Head, Good, to-scan, head-open, searchBlock-ok, start-head, search-left, search-ok}
+use Rattle.rules.proofs.Search.{Head, to-scan, head-open, searchBlock-ok, start-head}
 use Rattle.rules.proofs.Turns.{blocks-first}
 use Rattle.rules.proofs.Augment.{floor-under}
 use Rattle.augmentation.specs.Room.{listIn, predecessorsIn, roomWith}
 use Rattle.augmentation.specs.Scan.{workIn}
-use Rattle.augmentation.specs.Search.{CanSearch, CanChange, Started, Searched, readyAt}
-use Rattle.augmentation.proofs.Room.{list-length, predecessors-length, room-self, room-length, list-of, predecessors-of, list-back, room-room, lent-list}
-use Rattle.augmentation.proofs.Loops.{one, distances-near, either-on, Between, Within-scan, Leaving}
+use Rattle.augmentation.specs.Search.{CanSearch, Started}
+use Rattle.augmentation.proofs.Room.{room-self, room-length, list-of, predecessors-of, list-back, room-room, lent-list}
+use Rattle.augmentation.proofs.Loops.{one, either-on, Between, InScan, Leaving}
 use Rattle.augmentation.proofs.ScanLoop.{scan-over}
 
 module _ (n : ℕ) (costs : List ℤ) (rows : List ℕ) (start : ℕ) (v : List ℤ) where
@@ -178,7 +177,7 @@ module _ (n : ℕ) (costs : List ℤ) (rows : List ℕ) (start : ℕ) (v : List 
           work-is = ap₂ (λ (l p : List ℕ). workOf hi l d p m) fresh-list fresh-predecessors ∙ ap (λ (h : ℕ). workOf h (b .list) d (B .predecessors) m) he
 
           -- The scan begins.
-          pub first-scan : Within-scan n costs rows start v d room′ lo hi m d room′ lo hi m
+          pub first-scan : InScan n costs rows start v d room′ lo hi m d room′ lo hi m
           first-scan = record {
             room-size = fresh-long;
             list = listIn n room′;
@@ -200,7 +199,7 @@ module _ (n : ℕ) (costs : List ℤ) (rows : List ℕ) (start : ℕ) (v : List 
               ∙ room-room n room₀ (B .room-size) (b .list) (B .predecessors) l p (is-block .permutation .size) (B .head .sound .predecessors-size) sl sp
 
           -- The block was scanned to its end: the next one starts there.
-          pub next-between : {d″ : List ℤ} {room″ : List ℕ} {lo″ hi″ m″ : ℕ} → Within-scan n costs rows start v d room′ lo hi m d″ room″ lo″ hi″ m″ → lo″ ≡ hi″
+          pub next-between : {d″ : List ℤ} {room″ : List ℕ} {lo″ hi″ m″ : ℕ} → InScan n costs rows start v d room′ lo hi m d″ room″ lo″ hi″ m″ → lo″ ≡ hi″
               → Between n costs rows start v d₀ room₀ d″ room″ hi″ m″ × (lo < hi″)
           next-between {d″} {room″} {lo″} {hi″} {m″} M e =
               let x : Work = workOf hi″ (M .list) d″ (M .predecessors) m″ in
@@ -233,66 +232,3 @@ module _ (n : ℕ) (costs : List ℤ) (rows : List ℕ) (start : ℕ) (v : List 
             room-is = back (listIn n room″) (predecessorsIn n room″) room″ sl sp r;
             same = sym turn ∙ ap (λ (t : Turn Work Found). andThen t (blocks fuel-left)) (scan-to (left (record { column = j; work = workIn n e d″ room″ m″ })) q);
           }
-
-    -- ---- the end
-
-    module _ {room₀ : List ℕ} {d₁ : List ℤ} {room₁ : List ℕ} (size : length room₀ ≡ n + n + n + n) (T : Started n costs start v room₀ d₁ room₁)
-        {d : List ℤ} {room : List ℕ} {lo m column : ℕ} (L : Leaving n costs rows start v d₁ room₁ d room lo m column) where
-      abbrev f : Found
-      f = found lo (record { lo = lo; hi = L .end }) column (workOf (L .hi) (L .list) d (L .predecessors) m)
-
-      left-same : (x y : Found) → _≡_ {A = Turn Work Found} (left x) (left y) → x ≡ y
-      left-same x y e = ap (foundAt) e
-
-      -- What was found is what the search finds.
-      found-is : f ≡ search n cost (price v) (at rows) start
-      found-is =
-          left-same f (search n cost (price v) (at rows) start)
-          (sym (L .same) ∙ ap (blocks n) (T .same)
-          ∙ search-left n cost (price v) (at rows) start floor (C .fair) (C .has-free .column) (C .has-free .below) (C .has-free .free)
-          (floor-under n cost (price v) start (one n costs rows start v C)))
-
-      good : Good n cost (price v) (at rows) start floor f
-      good =
-          subst (Good n cost (price v) (at rows) start floor) (sym found-is)
-          (search-ok n cost (price v) (at rows) start floor (C .fair) (C .has-free .column) (C .has-free .below) (C .has-free .free)
-          (floor-under n cost (price v) start (one n costs rows start v C)))
-
-      S : Sound n cost (price v) (at rows) start floor (f .work)
-      S = good .1 .sound
-
-      pub leave-long : length room ≡ n + n + n + n
-      leave-long = ap length (L .room-is) ∙ room-length n room₁ (L .room-size) (L .list) (L .predecessors) (S .permutation .size) (S .predecessors-size)
-
-      pub leave-distances : length d ≡ n
-      leave-distances = S .distances-size
-
-      lent-list-is : take (n + n - n) (drop n room) ≡ L .list
-      lent-list-is =
-          lent-list n room ∙ ap (listIn n) (L .room-is) ∙ list-of n room₁ (L .room-size) (L .list) (L .predecessors) (S .permutation .size) (S .predecessors-size)
-
-      -- The prices can be changed.
-      pub can-change : CanChange (length v) lo (take (n + n - n) (drop n room)) d v
-      can-change = rw (C .prices-size) (record {
-        small = C .small;
-        ready-below = good .1 .ready-below;
-        listed = subst (Permutation n) (sym lent-list-is) (S .permutation);
-        distances-size = S .distances-size;
-        distances-near = distances-near n costs rows start v C (f .work) S;
-        prices-near = C .prices-near;
-      })
-
-      pub searched : (v′ : List ℤ) → v′ ≡ newPrices (readyAt lo (take (n + n - n) (drop n room)) d) v
-          → Searched n (search n cost (price v) (at rows) start) v room₀ (record { column = column; scanned = m }) v′ d room
-      unfolding newPrices
-      searched v′ e = record {
-        column = ap (λ (x : Found). x .column) found-is;
-        scanned = ap (λ (x : Found). x .work .scanned) found-is;
-        prices = e ∙ ap (λ (l : List ℕ). newPrices (readyAt lo l d) v) lent-list-is ∙ ap (λ (x : Found). newPrices x v) found-is;
-        distances = ap (λ (x : Found). x .work .distances) found-is;
-        room-is =
-            L .room-is ∙ ap (roomWith n (L .list) (L .predecessors)) (T .frame)
-            ∙ room-room n room₀ size (listIn n room₁) (predecessorsIn n room₁) (L .list) (L .predecessors) (list-length n room₁ (L .room-size))
-            (predecessors-length n room₁ (L .room-size)) (S .permutation .size) (S .predecessors-size)
-            ∙ ap (λ (x : Found). roomWith n (x .work .list) (x .work .predecessors) room₀) found-is;
-      }

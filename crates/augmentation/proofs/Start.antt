@@ -36,7 +36,7 @@ module _ (n : ℕ) (costs : List ℤ) (start : ℕ) (v : List ℤ) (room₀ : Li
         ap (λ (r : List ℕ). take n r ++ (l ++ drop (n + n - n) (drop n r))) (room-self n room₀ size)
         ∙ list-back n room₀ size (listIn n room₀) (predecessorsIn n room₀) (list-length n room₀ size) (predecessors-length n room₀ size) l list-size
 
-    pub with-list-length : length (withList l) ≡ n + n + n + n
+    with-list-length : length (withList l) ≡ n + n + n + n
     with-list-length = ap length with-list ∙ room-length n room₀ size l (predecessorsIn n room₀) list-size (predecessors-length n room₀ size)
 
     pub started : (row d : List ℤ) (p : List ℕ) → row ≡ rowOf n costs start → d ≡ table n (λ j. price row j -ℤ price v j)

@@ -116,8 +116,8 @@ fn first_distances(n: usize, row: &[i32], v: &[i64], d: &mut [i64])
     }
 }
 
-// Row i looks at the columns from place hi on; h is what it has to spare. Distances change only when strictly lower. A column that comes to
-// the block's minimum is swapped to the block's end, or ends the search if it is free.
+// Row i looks at the columns from place `from` on; h is how far its reduced cost at its own column is above the block's minimum. Distances
+// change only when strictly lower. A column that comes to the minimum is swapped to the block's end, or ends the search if it is free.
 fn lower_columns(
     n: usize,
     i: u32,

@@ -5,15 +5,16 @@ use Prim.Native.Nat.{_-_}
 use native.Mathlib.Omega.{arith}
 use borrow.Author.Needs.{needs}
 use Rattle.rules.specs.declared.Cursor.{Cursor}
-use Rattle.augmentation.proofs.Loops.{Between, Within-scan, Leaving, leaving-at}
+use Rattle.augmentation.proofs.Loops.{Between, InScan, Leaving, leaving-at}
 use Rattle.augmentation.proofs.ScanLoop as scans
 use Rattle.augmentation.proofs.Search as laws
+use Rattle.augmentation.proofs.Leave as leave
 use Rattle.augmentation.proofs.find_path_dense.Statement.{statement}
 use Rattle.augmentation.proofs.find_path_dense.Tie as tie
 
 abbrev Inv-loop : tie.InvT-loop
 Inv-loop n costs rows start v d₀ room₀ n2 scanned₀ lo hi scan₀ d room scanned scan =
-    Within-scan n costs rows start v d₀ room₀ (scan₀ .lo) (scan₀ .hi) scanned₀ d room (scan .lo) (scan .hi) scanned
+    InScan n costs rows start v d₀ room₀ (scan₀ .lo) (scan₀ .hi) scanned₀ d room (scan .lo) (scan .hi) scanned
 
 abbrev μ-loop : tie.MeasureT-loop
 μ-loop n costs rows start v d₀ room₀ n2 scanned₀ lo hi scan₀ d room scanned scan = n - scan .lo
@@ -183,14 +184,14 @@ part-change-prices-end c =
     let m = c .before in
     let b = begun (head (c .before .before .before .before .before .before .before)) in
     let s = entry b in
-    omega (arith, laws.leave-long _ _ _ _ _ (s .pre .0) (s .pre .2) (b .start-search .ensures) (exit m))
+    omega (arith, leave.leave-long _ _ _ _ _ (s .pre .0) (s .pre .2) (b .start-search .ensures) (exit m))
 
 change-prices-requires : tie.Need-change-prices-requires Inv-loop μ-loop Inv-search μ-search
 change-prices-requires c κs =
     let m = c .before .before .before .before in
     let b = begun (head (c .before .before .before .before .before .before .before .before .before .before)) in
     let s = entry b in
-    laws.can-change _ _ _ _ _ (s .pre .0) (s .pre .2) (b .start-search .ensures) (exit m)
+    leave.can-change _ _ _ _ _ (s .pre .0) (s .pre .2) (b .start-search .ensures) (exit m)
 
 same-length : tie.Need-same-length Inv-loop μ-loop Inv-search μ-search
 same-length c = search needs
@@ -200,21 +201,21 @@ same-length-2 c =
     let m = c .before .before .before .before .before .before in
     let b = begun (head (c .before .before .before .before .before .before .before .before .before .before .before .before)) in
     let s = entry b in
-    laws.leave-distances _ _ _ _ _ (s .pre .0) (s .pre .2) (b .start-search .ensures) (exit m) ∙ sym (s .pre .1)
+    leave.leave-distances _ _ _ _ _ (s .pre .0) (s .pre .2) (b .start-search .ensures) (exit m) ∙ sym (s .pre .1)
 
 same-length-3 : tie.Need-same-length-3 Inv-loop μ-loop Inv-search μ-search
 same-length-3 c =
     let m = c .before .before .before .before .before .before in
     let b = begun (head (c .before .before .before .before .before .before .before .before .before .before .before .before)) in
     let s = entry b in
-    laws.leave-long _ _ _ _ _ (s .pre .0) (s .pre .2) (b .start-search .ensures) (exit m) ∙ sym (s .pre .2)
+    leave.leave-long _ _ _ _ _ (s .pre .0) (s .pre .2) (b .start-search .ensures) (exit m) ∙ sym (s .pre .2)
 
 returns : tie.Need-returns Inv-loop μ-loop Inv-search μ-search
 returns c =
     let m = c .before .before .before .before .before .before in
     let b = begun (head (c .before .before .before .before .before .before .before .before .before .before .before .before)) in
     let s = entry b in
-    laws.searched _ _ _ _ _ (s .pre .0) (s .pre .2) (b .start-search .ensures) (exit m) _ (c .before .change-prices .ensures)
+    leave.searched _ _ _ _ _ (s .pre .0) (s .pre .2) (b .start-search .ensures) (exit m) _ (c .before .change-prices .ensures)
 
 pub find-path-dense-spec : {M : Type 1} → statement M
 find-path-dense-spec =
