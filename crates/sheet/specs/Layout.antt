@@ -1,0 +1,32 @@
+-- The layout of sheets and slips, byte for byte.
+use mathlib.Core.List.{List, [], _∷_, _++_, flatMap}
+use Prim.Native.Nat.{ℕ, _+_, _*_}
+use lib.IntN.{ℤ}
+use Rattle.sheet.specs.Numbers.{bytesOf, signedBytes}
+
+-- "mark "MTCH"": `4D 54 43 48`.
+abbrev pub sheetMark : List ℕ
+sheetMark = 77 ∷ 84 ∷ 67 ∷ 72 ∷ []
+
+-- "mark "SLIP"": `53 4C 49 50`.
+abbrev pub slipMark : List ℕ
+slipMark = 83 ∷ 76 ∷ 73 ∷ 80 ∷ []
+
+-- "a 12-byte trailer pointing back: distance from the trailer to the first cost (4 bytes), side (2), edition 1 (2), mark".
+abbrev pub trailer : ℕ → ℕ → List ℕ → List ℕ
+trailer distance side mark = bytesOf 4 distance ++ (bytesOf 2 side ++ (bytesOf 2 1 ++ mark))
+
+-- "A sheet is any note bytes, then costs (little-endian, two's complement), then a 12-byte trailer".
+abbrev pub sheetOf : List ℕ → ℕ → List ℤ → List ℕ
+sheetOf note side costs = note ++ (flatMap (signedBytes 4) costs ++ trailer (4 * (side * side)) side sheetMark)
+
+-- "A slip is columns by row (2 bytes each), row prices (8 each), column prices (8 each), total (8), and the same trailer with distance 18n+8 and
+-- mark "SLIP"."
+abbrev pub slipOf : ℕ → List ℕ → List ℤ → List ℤ → ℤ → List ℕ
+slipOf side cols rowPrices columnPrices total =
+    flatMap (bytesOf 2) cols
+    ++ (flatMap (signedBytes 8) rowPrices ++ (flatMap (signedBytes 8) columnPrices ++ (signedBytes 8 total ++ trailer (18 * side + 8) side slipMark)))
+
+-- "Slip room past 18n+20 is untouched": how long a slip is.
+abbrev pub slipLength : ℕ → ℕ
+slipLength side = 18 * side + 20
