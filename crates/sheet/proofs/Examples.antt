@@ -7,8 +7,8 @@ use Rattle.lists.specs.Permutations.{table}
 use Rattle.lists.specs.Runs.{turns, upward, first}
 use Rattle.matrix.specs.Limits.{K}
 use Rattle.sheet.specs.Numbers.{bytesOf, valueOf}
-use Rattle.sheet.specs.Layout.{sheetOf, slipOf}
-use Rattle.sheet.specs.Reading.{sheetSide, sheetMost, fields, tested, Read, night, read}
+use Rattle.sheet.specs.Layout.{sheetOf, slipOf, fields}
+use Rattle.sheet.specs.Reading.{sheetSide, sheetMost, tested, night, read}
 
 -- "Side 1, cost 7, no note, is `07 00 00 00 04 00 00 00 01 00 01 00 4D 54 43 48`."
 sheet : List ℕ

@@ -1,1 +1,7 @@
-pub mod Examples
+pub mod Numbers
+pub mod Fields
+pub mod Limits
+pub mod Chain
+pub mod Slips
+pub mod Sheets
+mod Examples

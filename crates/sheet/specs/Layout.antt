@@ -1,8 +1,10 @@
--- The layout of sheets and slips, byte for byte.
+-- The layout of sheets and slips, byte for byte, and where a slip's fields are found again.
 use mathlib.Core.List.{List, [], _∷_, _++_, flatMap}
 use Prim.Native.Nat.{ℕ, _+_, _*_}
 use lib.IntN.{ℤ}
-use Rattle.sheet.specs.Numbers.{bytesOf, signedBytes}
+use Rattle.lists.specs.Parts.{part}
+use Rattle.lists.specs.Permutations.{table}
+use Rattle.sheet.specs.Numbers.{bytesOf, valueOf, signedBytes, signedValue}
 
 -- "mark "MTCH"": `4D 54 43 48`.
 abbrev pub sheetMark : List ℕ
@@ -30,3 +32,20 @@ slipOf side cols rowPrices columnPrices total =
 -- "Slip room past 18n+20 is untouched": how long a slip is.
 abbrev pub slipLength : ℕ → ℕ
 slipLength side = 18 * side + 20
+
+-- The n fields of a width each, from the place `base` on.
+unfoldable pub fields : {A : Type 0} → (List ℕ → A) → ℕ → ℕ → ℕ → List ℕ → List A
+fields decode base width n bytes = table n (λ i. decode (part (base + i * width) width bytes))
+
+-- What a slip of side n says: columns by row, row prices, column prices, total.
+abbrev pub slipColumns : ℕ → List ℕ → List ℕ
+slipColumns n slip = fields valueOf 0 2 n slip
+
+abbrev pub slipRowPrices : ℕ → List ℕ → List ℤ
+slipRowPrices n slip = fields (signedValue 8) (2 * n) 8 n slip
+
+abbrev pub slipColumnPrices : ℕ → List ℕ → List ℤ
+slipColumnPrices n slip = fields (signedValue 8) (10 * n) 8 n slip
+
+abbrev pub slipTotal : ℕ → List ℕ → ℤ
+slipTotal n slip = signedValue 8 (part (18 * n) 8 slip)

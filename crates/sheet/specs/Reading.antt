@@ -1,12 +1,11 @@
 -- How a sheet is read: its refusals in order, else its side and costs.
 use mathlib.Core.Bool.{Bool, cond, not, _||_}
 use mathlib.Core.List.{List}
-use Prim.Native.Nat.{ℕ, _+_, _*_, _-_}
+use Prim.Native.Nat.{ℕ, _*_, _-_}
 use lib.Dec.{ltb, eqb}
 use lib.IntN.{ℤ, pos}
 use lib.ListN.{length}
 use Rattle.lists.specs.Parts.{part}
-use Rattle.lists.specs.Permutations.{table}
 use Rattle.lists.specs.Runs.{first}
 use Rattle.assignment.specs.Pairings.{price}
 use Rattle.matrix.specs.Limits.{K}
@@ -16,7 +15,7 @@ use Rattle.matrix.specs.declared.Refusal.the-variants.{CostOutside, NoMark, Edi
 use Rattle.sheet.specs.declared.Tested.{Tested}
 use Rattle.sheet.specs.declared.Tested.the-variants.{Side, Refused}
 use Rattle.sheet.specs.Numbers.{valueOf, signedValue}
-use Rattle.sheet.specs.Layout.{sheetMark, slipLength}
+use Rattle.sheet.specs.Layout.{sheetMark, slipLength, fields}
 
 -- "Side n: [..] on a sheet, 0 to 64."
 unfoldable pub sheetSide : ℕ
@@ -25,10 +24,6 @@ sheetSide = 64
 -- "sheet over 65,536 bytes".
 unfoldable pub sheetMost : ℕ
 sheetMost = 65536
-
--- The n fields of a width each, from the place `base` on.
-unfoldable pub fields : {A : Type 0} → (List ℕ → A) → ℕ → ℕ → ℕ → List ℕ → List A
-fields decode base width n bytes = table n (λ i. decode (part (base + i * width) width bytes))
 
 -- The parts of the trailer, which is the last 12 bytes.
 abbrev pub distanceOf : List ℕ → ℕ
