@@ -6,6 +6,7 @@ use lib.IntN.{pos}
 use Rattle.lists.specs.Permutations.{table}
 use Rattle.lists.specs.Runs.{turns, upward, first}
 use Rattle.matrix.specs.Limits.{K}
+use Rattle.matrix.specs.Refusals.{refuseIf, refuseAt}
 use Rattle.sheet.specs.Numbers.{bytesOf, valueOf}
 use Rattle.sheet.specs.Layout.{sheetOf, slipOf, fields}
 use Rattle.sheet.specs.Reading.{sheetSide, sheetMost, tested, night, read}
@@ -19,7 +20,7 @@ unfolding sheet bytesOf flatMap
 sheet-bytes = refl
 
 sheet-read : read 38 sheet ≡ night 1 (pos 7 ∷ [])
-unfolding sheet bytesOf valueOf fields table turns upward first K sheetSide sheetMost tested read
+unfolding sheet bytesOf valueOf fields table turns upward first K refuseIf refuseAt sheetSide sheetMost tested read
 sheet-read = refl
 
 -- "Its slip: `00 00`, eight `00`, `07` and seven `00`, `07` and seven `00`, then `1A 00 00 00 01 00 01 00 53 4C 49 50`."

@@ -1,7 +1,6 @@
 pub mod Numbers
 pub mod Fields
 pub mod Limits
-pub mod Chain
 pub mod Slips
 pub mod Sheets
 mod Examples

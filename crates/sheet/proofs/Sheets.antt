@@ -1,6 +1,6 @@
 -- A sheet made of costs reads as these costs, whatever its note. Assumes nothing.
 use mathlib.Core.Path.{_≡_, refl, sym, ap, ap₂, _∙_}
-use mathlib.Core.Bool.{false, not, _||_}
+use mathlib.Core.Bool.{Bool, false, not, _||_}
 use mathlib.Core.List.{List, _++_, flatMap, append-assoc}
 use Prim.Native.Nat.{ℕ, _+_, _*_, _-_, _/_, _^_, _≤_, _<_}
 use native.Mathlib.Nat.{mul-le-mul}
@@ -21,13 +21,14 @@ use Rattle.assignment.specs.Pairings.{price}
 use Rattle.matrix.specs.Limits.{K}
 use Rattle.matrix.specs.Refusals.{outside}
 use Rattle.matrix.proofs.Limits.{K-small}
+use Rattle.matrix.proofs.Refusals.{passed, passed-at}
+use Rattle.matrix.specs.declared.Refusal.the-variants.{CostOutside}
 use Rattle.sheet.specs.Numbers.{bytesOf, valueOf, signedBytes, signedValue}
 use Rattle.sheet.specs.Layout.{sheetMark, trailer, sheetOf, slipLength, fields}
-use Rattle.sheet.specs.Reading.{sheetSide, sheetMost, distanceOf, sideOf, editionOf, markOf, costsOf, tested, readAfter, costsTested, night, read}
+use Rattle.sheet.specs.Reading.{sheetSide, sheetMost, distanceOf, sideOf, editionOf, markOf, costsOf, tested, readAfter, costsTested, refused, night, read}
 use Rattle.sheet.specs.declared.Tested.the-variants.{Side}
 use Rattle.sheet.proofs.Numbers.{value-bytesOf, signedValue-signedBytes}
 use Rattle.sheet.proofs.Fields.{length-flatMap, fields-flatMap}
-use Rattle.sheet.proofs.Chain.{passed}
 use Rattle.sheet.proofs.Limits.{sheetSide-small}
 use Rattle.sheet.proofs.Slips.{length-signedBytes, length-trailer}
 
@@ -123,5 +124,6 @@ module _ (note : List ℕ) (n : ℕ) (costs : List ℤ) where
     pub read-sheet : read room sheet ≡ night n costs
     unfolding read
     read-sheet =
-        let clear : n * n ≤ first (n * n) (λ k. outside (pos K) (price costs k)) = omega (arith, first-none (λ k. outside (pos K) (price costs k)) (n * n) (λ k l. inside-passes (price costs k) (g .inside k l))) in
-        ap (readAfter sheet) (sym passes) ∙ ap (costsTested n) costs-read ∙ sym (passed _ _ _ (le-ltb _ _ clear) refl)
+        let test : ℕ → Bool = λ k. outside (pos K) (price costs k) in
+        let clear : n * n ≤ first (n * n) test = omega (arith, first-none test (n * n) (λ k l. inside-passes (price costs k) (g .inside k l))) in
+        ap (readAfter sheet) (sym passes) ∙ ap (costsTested n) costs-read ∙ sym (passed-at (n * n) test (λ k. refused (CostOutside k)) (night n costs) refl clear refl)

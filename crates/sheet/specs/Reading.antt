@@ -9,7 +9,7 @@ use Rattle.lists.specs.Parts.{part}
 use Rattle.lists.specs.Runs.{first}
 use Rattle.assignment.specs.Pairings.{price}
 use Rattle.matrix.specs.Limits.{K}
-use Rattle.matrix.specs.Refusals.{outside}
+use Rattle.matrix.specs.Refusals.{refuseIf, refuseAt, outside}
 use Rattle.matrix.specs.declared.Refusal.{Refusal}
 use Rattle.matrix.specs.declared.Refusal.the-variants.{CostOutside, NoMark, EditionNotOne, SheetSideOver, DistanceNotCosts, DistancePastBytes, SlipRoomShort, SheetOver}
 use Rattle.sheet.specs.declared.Tested.{Tested}
@@ -50,13 +50,13 @@ unmarked sheet = ltb (length sheet) 12 || not (eqb (markOf sheet) (valueOf sheet
 -- else the side.
 unfoldable pub tested : ℕ → List ℕ → Tested
 tested room sheet =
-    cond (ltb sheetMost (length sheet)) (Refused SheetOver)
-    (cond (unmarked sheet) (Refused NoMark)
-    (cond (not (eqb (editionOf sheet) 1)) (Refused EditionNotOne)
-    (cond (ltb sheetSide (sideOf sheet)) (Refused SheetSideOver)
-    (cond (not (eqb (distanceOf sheet) (4 * (sideOf sheet * sideOf sheet)))) (Refused DistanceNotCosts)
-    (cond (ltb (length sheet - 12) (distanceOf sheet)) (Refused DistancePastBytes)
-    (cond (ltb room (slipLength (sideOf sheet))) (Refused SlipRoomShort)
+    refuseIf (ltb sheetMost (length sheet)) (Refused SheetOver)
+    (refuseIf (unmarked sheet) (Refused NoMark)
+    (refuseIf (not (eqb (editionOf sheet) 1)) (Refused EditionNotOne)
+    (refuseIf (ltb sheetSide (sideOf sheet)) (Refused SheetSideOver)
+    (refuseIf (not (eqb (distanceOf sheet) (4 * (sideOf sheet * sideOf sheet)))) (Refused DistanceNotCosts)
+    (refuseIf (ltb (length sheet - 12) (distanceOf sheet)) (Refused DistancePastBytes)
+    (refuseIf (ltb room (slipLength (sideOf sheet))) (Refused SlipRoomShort)
     (Side (sideOf sheet))))))))
 
 -- What a sheet reads as.
@@ -64,11 +64,9 @@ pub data Read : Type 0 where
   refused : Refusal → Read
   night : ℕ → List ℤ → Read
 
--- The eighth: 5, "a cost outside -K..K", at the first in row order.
+-- The eighth: 5, "a cost outside -K..K", at the "first, in row order".
 abbrev pub costsTested : ℕ → List ℤ → Read
-costsTested n costs =
-    let k = first (n * n) (λ k. outside (pos K) (price costs k)) in
-    cond (ltb k (n * n)) (refused (CostOutside k)) (night n costs)
+costsTested n costs = refuseAt (n * n) (λ k. outside (pos K) (price costs k)) (λ k. refused (CostOutside k)) (night n costs)
 
 -- A sheet, read for a slip room of so many bytes.
 abbrev pub readAfter : List ℕ → Tested → Read
