@@ -1,12 +1,13 @@
 -- Numbers as bytes, there and back, for any width. Assumes nothing.
 use mathlib.Core.Path.{_≡_, refl, ap, _∙_}
-use mathlib.Core.List.{List, [], _∷_}
-use Prim.Native.Nat.{ℕ, zero, suc, _-_, _/_, _^_, _≤_, _<_}
+use mathlib.Core.List.{List}
+use Prim.Native.Nat.{ℕ, zero, suc, _+_, _*_, _-_, _/_, _^_, _≤_, _<_}
 use native.Mathlib.Nat.{pow-succ', div-lt-iff-lt-mul, mul-comm, mod-add-div, div-mul-le-self, mul-le-mul-left}
 use native.Mathlib.Omega.{arith}
 use borrow.Author.Tests.{lt-ltb, le-ltb}
 use lib.IntN.{ℤ, pos, negsuc}
-use lib.ListN.{length, getD}
+use lib.ListN.{length, getD, drop}
+use lib.Seq.{drop-cons}
 use lib.Signed.{mag}
 use Rattle.sheet.specs.Numbers.{bytesOf, valueOf, wrapped, unwrapped, signedBytes, signedValue}
 
@@ -23,12 +24,13 @@ value-bytesOf (suc k) x h =
     let below : x / 256 < 256 ^ k = div-lt-iff-lt-mul {k = 256} {x = x} {y = 256 ^ k} (omega arith) .1 (omega (arith, pow-succ' 256 k, mul-comm 256 (256 ^ k))) in
     omega (arith, value-bytesOf k (x / 256) below, mod-add-div x 256)
 
--- Bytes stand for a number that fits as many bytes.
-pub valueOf-below : (l : List ℕ) → ((i : ℕ) → getD l i 0 < 256) → valueOf l < 256 ^ length l
+-- One byte more, the lowest: the value of what stands from k on, and how large it is.
+pub value-more : (l : List ℕ) (k v b : ℕ) → k < length l → v ≡ valueOf (drop (suc k) l) → b ≡ getD l k 0 → v * 256 + b ≡ valueOf (drop k l)
 unfolding valueOf
-valueOf-below [] h = omega arith
-valueOf-below (b ∷ rest) h =
-    omega (arith, h 0, mul-le-mul-left 256 (valueOf-below rest (λ i. h (suc i))), pow-succ' 256 (length rest))
+value-more l k v b h e f = rw (drop-cons l k 0 h) (omega arith)
+
+pub more-below : (m v b : ℕ) → v < 256 ^ m → b < 256 → v * 256 + b < 256 ^ suc m
+more-below m v b h l = omega (arith, pow-succ' 256 m, mul-le-mul-left 256 h)
 
 -- ---- two's complement
 

@@ -1,7 +1,9 @@
 -- The layout of sheets and slips, byte for byte, and where a slip's fields are found again.
+use mathlib.Core.Path.{_≡_}
 use mathlib.Core.List.{List, [], _∷_, _++_, flatMap}
-use Prim.Native.Nat.{ℕ, _+_, _*_}
+use Prim.Native.Nat.{ℕ, _+_, _*_, _≤_}
 use lib.IntN.{ℤ}
+use lib.ListN.{length}
 use Rattle.lists.specs.Parts.{part}
 use Rattle.lists.specs.Permutations.{table}
 use Rattle.sheet.specs.Numbers.{bytesOf, valueOf, signedBytes, signedValue}
@@ -49,3 +51,9 @@ slipColumnPrices n slip = fields (signedValue 8) (10 * n) 8 n slip
 
 abbrev pub slipTotal : ℕ → List ℕ → ℤ
 slipTotal n slip = signedValue 8 (part (18 * n) 8 slip)
+
+-- What a slip is written from: as many prices of each kind as columns, and a room that is long enough.
+pub record Listed (cols : List ℕ) (rowPrices columnPrices : List ℤ) (room : List ℕ) : Type 0 where
+  pub rows : length rowPrices ≡ length cols
+  pub columns : length columnPrices ≡ length cols
+  pub roomy : slipLength (length cols) ≤ length room

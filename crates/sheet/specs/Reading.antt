@@ -1,12 +1,11 @@
 -- How a sheet is read: its refusals in order, else its side and costs.
-use mathlib.Core.Bool.{Bool, cond, not, _||_}
+use mathlib.Core.Bool.{Bool, not, _||_}
 use mathlib.Core.List.{List}
 use Prim.Native.Nat.{ℕ, _*_, _-_}
 use lib.Dec.{ltb, eqb}
 use lib.IntN.{ℤ, pos}
 use lib.ListN.{length}
 use Rattle.lists.specs.Parts.{part}
-use Rattle.lists.specs.Runs.{first}
 use Rattle.assignment.specs.Pairings.{price}
 use Rattle.matrix.specs.Limits.{K}
 use Rattle.matrix.specs.Refusals.{refuseIf, refuseAt, outside}
