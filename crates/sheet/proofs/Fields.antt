@@ -11,6 +11,10 @@ use Rattle.lists.specs.Permutations.{table}
 use Rattle.lists.proofs.Tables.{length-table, getD-table}
 use Rattle.sheet.specs.Layout.{fields}
 
+pub length-fields : {A : Type 0} (decode : List ℕ → A) (base width n : ℕ) (bytes : List ℕ) → length (fields decode base width n bytes) ≡ n
+unfolding fields
+length-fields decode base width n bytes = length-table n (λ i. decode (part (base + i * width) width bytes))
+
 module _ {A : Type 0} (encode : A → List ℕ) (width : ℕ) (size : (a : A) → length (encode a) ≡ width) where
   pub length-flatMap : (l : List A) → length (flatMap encode l) ≡ length l * width
   unfolding flatMap

@@ -1,19 +1,16 @@
 -- A sheet made of costs reads as these costs, whatever its note. Assumes nothing.
 use mathlib.Core.Path.{_≡_, refl, sym, ap, ap₂, _∙_}
-use mathlib.Core.Bool.{Bool, false, not, _||_}
+use mathlib.Core.Bool.{Bool, not, _||_}
 use mathlib.Core.List.{List, _++_, flatMap, append-assoc}
 use Prim.Native.Nat.{ℕ, _+_, _*_, _-_, _/_, _^_, _≤_, _<_}
 use native.Mathlib.Nat.{mul-le-mul}
 use native.Mathlib.Omega.{arith}
 use borrow.Author.Tests.{le-ltb, eq-eqb}
-use lib.IntN.{ℤ, pos, negsuc, negℤ}
+use lib.IntN.{ℤ, pos, negsuc}
 use lib.ListN.{length, take, length-append}
 use lib.Seq.{drop-append-add}
 use lib.Signed.{mag}
 use Rattle.ints.specs.Parts.{Within}
-use Rattle.ints.proofs.Tests.{le-ltZ}
-use Rattle.ints.proofs.Sums.{up-neg, down-neg}
-use Rattle.ints.proofs.Shapes.{zlin}
 use Rattle.lists.specs.Parts.{part}
 use Rattle.lists.specs.Runs.{first}
 use Rattle.lists.proofs.Runs.{first-none}
@@ -21,6 +18,7 @@ use Rattle.assignment.specs.Pairings.{price}
 use Rattle.matrix.specs.Limits.{K}
 use Rattle.matrix.specs.Refusals.{outside}
 use Rattle.matrix.proofs.Limits.{K-small}
+use Rattle.matrix.proofs.Bounds.{outside-within}
 use Rattle.matrix.proofs.Refusals.{passed, passed-at}
 use Rattle.matrix.specs.declared.Refusal.the-variants.{CostOutside}
 use Rattle.sheet.specs.Numbers.{bytesOf, valueOf, signedBytes, signedValue}
@@ -37,11 +35,6 @@ part-of-end : (p t : List ℕ) (a k w : ℕ) → length t ≡ 12 → a + k ≡ 1
 part-of-end p t a k w s e =
     let at : length (p ++ t) - k ≡ length p + a = omega (arith, length-append p t) in
     ap (λ (m : ℕ). part m w (p ++ t)) at ∙ ap (take w) (drop-append-add p t a)
-
--- A cost in -K..K passes test 5.
-pub inside-passes : (z : ℤ) → Within K z → outside (pos K) z ≡ false
-inside-passes z h =
-    ap₂ _||_ (le-ltZ z (negℤ (pos K)) (omega (zlin, up-neg (pos K), down-neg (pos K)))) (le-ltZ (pos K) z (omega zlin))
 
 -- What makes a sheet good: a side and as many costs as it says, each in -K..K, within the limits.
 pub record Good (note : List ℕ) (n : ℕ) (costs : List ℤ) (room : ℕ) : Type 0 where
@@ -125,5 +118,5 @@ module _ (note : List ℕ) (n : ℕ) (costs : List ℤ) where
     unfolding read
     read-sheet =
         let test : ℕ → Bool = λ k. outside (pos K) (price costs k) in
-        let clear : n * n ≤ first (n * n) test = omega (arith, first-none test (n * n) (λ k l. inside-passes (price costs k) (g .inside k l))) in
+        let clear : n * n ≤ first (n * n) test = omega (arith, first-none test (n * n) (λ k l. outside-within K (price costs k) .1 (g .inside k l))) in
         ap (readAfter sheet) (sym passes) ∙ ap (costsTested n) costs-read ∙ sym (passed-at (n * n) test (λ k. refused (CostOutside k)) (night n costs) refl clear refl)

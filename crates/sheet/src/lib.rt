@@ -1,14 +1,23 @@
 // Sheets and slips in bytes: a sheet is read, its night is solved, and the slip is written. What is promised is said in specs/.
 ghost use mathlib.Core.Path.{_≡_};
-ghost use mathlib.Core.List.{_++_, flatMap};
-ghost use Prim.Native.Nat.{_+_, _*_, _%_, _^_, _<_, _≤_};
-ghost use lib.ListN.{length, drop};
-ghost use lib.Seq.{sets};
-ghost use Rattle.lists.specs.Parts.{part};
-ghost use Rattle.sheet.specs.Numbers.{bytesOf, valueOf, wrapped, unwrapped, signedBytes, signedValue};
-ghost use Rattle.sheet.specs.Layout.{slipMark, trailer, slipOf, slipLength, fields, Listed};
-ghost use Rattle.sheet.specs.Reading.{sheetSide, sheetMost, distanceOf, sideOf, editionOf, unmarked, tested};
+ghost use mathlib.Core.List.{_++_};
+ghost use Prim.Native.Nat.{_+_, _*_, _-_, _≤_};
+ghost use lib.ListN.{length, take, drop};
+ghost use Rattle.sheet.specs.Numbers.{signedValue};
+ghost use Rattle.sheet.specs.Layout.{slipOf, slipLength, fields};
+ghost use Rattle.sheet.specs.Reading.{refused};
+ghost use Rattle.lapjv.specs.Solve.{lentOf, outcomeOf, solve};
+ghost use Rattle.sheet.specs.Settle.{fresh, loaded, settledAs, settled, Outcome, pair, Solves};
+
+mod reading;
+mod values;
+mod writing;
+
+use lapjv::Solved;
 use matrix::Refusal;
+use reading::read_costs;
+use reading::tests;
+use writing::write_slip;
 
 // What the tests on a sheet's bytes come to: its side, or a refusal.
 pub enum Tested {
@@ -16,216 +25,225 @@ pub enum Tested {
     Refused(Refusal),
 }
 
-// A byte as a number.
-fn wide(x: u8) -> usize
-    ensures { λ r. ⌜ r ≡ x ⌝ }
-{
-    x as usize
+// The arrays of a night of side up to 64, by value.
+pub struct State {
+    pub costs: [i32; 4096],
+    pub cols: [u32; 64],
+    pub rows: [u32; 64],
+    pub row_prices: [i64; 64],
+    pub col_prices: [i64; 64],
+    pub indices: [u32; 256],
+    pub numbers: [i64; 64],
 }
 
-// The number that `width` bytes from `at` on stand for.
-fn value_at(bytes: &[u8], at: usize, width: usize) -> usize
-    requires { ⌜ (width ≤ 8) × (at + width ≤ length (now bytes)) ⌝ }
-    ensures { λ r. ⌜ (r ≡ valueOf (part at width (now (bytes .entry)))) × (r < 256 ^ width) ⌝ }
-{
-    let mut value: usize = 0;
-    let mut k = width;
-    while 0 < k {
-        k -= 1;
-        value = value * 256 + wide(bytes[at + k]);
-    }
-    value
+// What a sheet comes to: side and total, or a refusal.
+pub enum Verdict {
+    Paired(usize, i64),
+    Refused(Refusal),
 }
 
-// What a number of four bytes stands for in two's complement.
-fn unwrapped(x: usize) -> i32
-    requires { ⌜ x < 256 ^ 4 ⌝ }
-    ensures { λ r. ⌜ r ≡ unwrapped 4 x ⌝ }
-{
-    if x < 2147483648 {
-        x as i32
-    } else {
-        -1 - (4294967295 - x) as i32
-    }
+// A sheet settled.
+pub struct Settled {
+    pub verdict: Verdict,
+    pub state: State,
 }
 
-// The cost at a place of a sheet.
-fn cost_at(sheet: &[u8], at: usize) -> i32
-    requires { ⌜ at + 4 ≤ length (now sheet) ⌝ }
-    ensures { λ r. ⌜ r ≡ signedValue 4 (part at 4 (now (sheet .entry))) ⌝ }
-{
-    unwrapped(value_at(sheet, at, 4))
+// What the solver answered, and the arrays that it was lent.
+struct Run {
+    answer: Solved,
+    state: State,
 }
 
-// An integer as a number of eight bytes in two's complement.
-fn wrapped(z: i64) -> usize
-    ensures { λ r. ⌜ r ≡ wrapped 8 z ⌝ }
+// All 0.
+fn fresh() -> State
+    ensures { λ r. ⌜ r ≡ fresh ⌝ }
 {
-    if z < 0 {
-        18446744073709551615 - (-1 - z) as usize
-    } else {
-        z as usize
-    }
-}
-
-// A number's lowest byte.
-fn low(x: usize) -> u8
-    ensures { λ r. ⌜ r ≡ x % 256 ⌝ }
-{
-    (x % 256) as u8
-}
-
-// Writes the `width` lowest bytes of a number from `at` on.
-fn write_value(room: &mut [u8], at: usize, width: usize, value: usize)
-    requires { ⌜ at + width ≤ length (now room) ⌝ }
-    ensures { λ _. ⌜ now (room .exit) ≡ sets (now (room .entry)) at (bytesOf width value) ⌝ }
-{
-    let mut rest = value;
-    let mut k = 0;
-    while k < width {
-        room[at + k] = low(rest);
-        rest /= 256;
-        k += 1;
+    let costs = [0i32; 4096];
+    let cols = [0u32; 64];
+    let rows = [0u32; 64];
+    let row_prices = [0i64; 64];
+    let col_prices = [0i64; 64];
+    let indices = [0u32; 256];
+    let numbers = [0i64; 64];
+    State {
+        costs,
+        cols,
+        rows,
+        row_prices,
+        col_prices,
+        indices,
+        numbers,
     }
 }
 
-// The number once more, beside specs/Reading.antt: code cannot read a definition. The promise holds the two together.
-fn sheet_side() -> usize
-    ensures { λ r. ⌜ r ≡ sheetSide ⌝ }
+// The arrays are lent to the solver.
+fn solve_arrays(
+    n: usize,
+    costs: &[i32; 4096],
+    cols: &mut [u32; 64],
+    rows: &mut [u32; 64],
+    row_prices: &mut [i64; 64],
+    col_prices: &mut [i64; 64],
+    indices: &mut [u32; 256],
+    numbers: &mut [i64; 64],
+) -> Solved
+    requires { ⌜ n ≤ 64 ⌝ }
+    ensures { λ r. ⌜ outcomeOf r (lentOf (now (cols .exit)) (now (rows .exit)) (now («row_prices» .exit)) (now («col_prices» .exit)) (now (indices .exit)) (now (numbers .exit))) ≡ solve n (take (n * n) (now (costs .entry))) (lentOf (now (cols .entry)) (now (rows .entry)) (now («row_prices» .entry)) (now («col_prices» .entry)) (now (indices .entry)) (now (numbers .entry))) ⌝ }
 {
-    64
+    let count = n * n;
+    let all: &[i32] = costs;
+    lapjv::solve(
+        n,
+        &all[0..count],
+        cols,
+        rows,
+        row_prices,
+        col_prices,
+        indices,
+        numbers,
+    )
 }
 
-// As `sheet_side`.
-fn sheet_most() -> usize
-    ensures { λ r. ⌜ r ≡ sheetMost ⌝ }
+// The night of a state is solved in its own arrays.
+fn solve_state(state: State, n: usize) -> Run
+    requires { ⌜ n ≤ 64 ⌝ }
+    ensures { λ r. ⌜ Solves n state (r .state) (r .answer) ⌝ }
 {
-    65536
+    let costs = state.costs;
+    let mut cols = state.cols;
+    let mut rows = state.rows;
+    let mut row_prices = state.row_prices;
+    let mut col_prices = state.col_prices;
+    let mut indices = state.indices;
+    let mut numbers = state.numbers;
+    let answer = solve_arrays(
+        n,
+        &costs,
+        &mut cols,
+        &mut rows,
+        &mut row_prices,
+        &mut col_prices,
+        &mut indices,
+        &mut numbers,
+    );
+    let state = State {
+        costs,
+        cols,
+        rows,
+        row_prices,
+        col_prices,
+        indices,
+        numbers,
+    };
+    Run { answer, state }
 }
 
-// The trailer's distance.
-fn distance_of(sheet: &[u8]) -> usize
-    requires { ⌜ 12 ≤ length (now sheet) ⌝ }
-    ensures { λ r. ⌜ (r ≡ distanceOf (now (sheet .entry))) × (r < 256 ^ 4) ⌝ }
+// A state with the costs of a sheet of side n.
+fn read_state(sheet: &[u8], n: usize) -> State
+    requires { ⌜ (n ≤ 64) × (4 * (n * n) + 12 ≤ length (now sheet)) ⌝ }
+    ensures { λ r. ⌜ r ≡ loaded n (fields (signedValue 4) (length (now (sheet .entry)) - 12 - 4 * (n * n)) 4 (n * n) (now (sheet .entry))) ⌝ }
 {
-    value_at(sheet, sheet.len() - 12, 4)
-}
-
-// The trailer's side.
-fn side_of(sheet: &[u8]) -> usize
-    requires { ⌜ 12 ≤ length (now sheet) ⌝ }
-    ensures { λ r. ⌜ (r ≡ sideOf (now (sheet .entry))) × (r < 256 ^ 2) ⌝ }
-{
-    value_at(sheet, sheet.len() - 8, 2)
-}
-
-// The trailer's edition.
-fn edition_of(sheet: &[u8]) -> usize
-    requires { ⌜ 12 ≤ length (now sheet) ⌝ }
-    ensures { λ r. ⌜ r ≡ editionOf (now (sheet .entry)) ⌝ }
-{
-    value_at(sheet, sheet.len() - 6, 2)
-}
-
-// Refusal 11: the sheet is under 12 bytes, or its mark is not "MTCH", the lowest byte first.
-fn unmarked(sheet: &[u8]) -> bool
-    ensures { λ r. ⌜ r ≡ unmarked (now (sheet .entry)) ⌝ }
-{
-    sheet.len() < 12 || value_at(sheet, sheet.len() - 4, 4) != 0x4843_544D
-}
-
-// Refusals 17, 11, 12, 13, 14, 15, 16, in this order, else the side.
-fn tests(sheet: &[u8], room: usize) -> Tested
-    ensures { λ r. ⌜ r ≡ tested room (now (sheet .entry)) ⌝ }
-{
-    if sheet_most() < sheet.len() {
-        return Tested::Refused(Refusal::SheetOver);
-    }
-    if unmarked(sheet) {
-        return Tested::Refused(Refusal::NoMark);
-    }
-    if edition_of(sheet) != 1 {
-        return Tested::Refused(Refusal::EditionNotOne);
-    }
-    let side = side_of(sheet);
-    if sheet_side() < side {
-        return Tested::Refused(Refusal::SheetSideOver);
-    }
-    let distance = distance_of(sheet);
-    if distance != 4 * (side * side) {
-        return Tested::Refused(Refusal::DistanceNotCosts);
-    }
-    if sheet.len() - 12 < distance {
-        return Tested::Refused(Refusal::DistancePastBytes);
-    }
-    if room < 18 * side + 20 {
-        return Tested::Refused(Refusal::SlipRoomShort);
-    }
-    Tested::Side(side)
-}
-
-// Reads `count` costs, the first at `at`, into the front of `costs`.
-fn read_costs(sheet: &[u8], at: usize, count: usize, costs: &mut [i32])
-    requires { ⌜ (at + count * 4 ≤ length (now sheet)) × (count ≤ length (now costs)) ⌝ }
-    ensures { λ _. ⌜ now (costs .exit) ≡ sets (now (costs .entry)) 0 (fields (signedValue 4) at 4 count (now (sheet .entry))) ⌝ }
-{
-    let mut place = at;
-    let mut k = 0;
-    while k < count {
-        costs[k] = cost_at(sheet, place);
-        place += 4;
-        k += 1;
+    let count = n * n;
+    let mut costs = [0i32; 4096];
+    read_costs(sheet, sheet.len() - 12 - 4 * count, count, &mut costs);
+    let cols = [0u32; 64];
+    let rows = [0u32; 64];
+    let row_prices = [0i64; 64];
+    let col_prices = [0i64; 64];
+    let indices = [0u32; 256];
+    let numbers = [0i64; 64];
+    State {
+        costs,
+        cols,
+        rows,
+        row_prices,
+        col_prices,
+        indices,
+        numbers,
     }
 }
 
-// Writes columns from `at` on, two bytes each.
-fn write_columns(room: &mut [u8], at: usize, cols: &[u32])
-    requires { ⌜ at + length (now cols) * 2 ≤ length (now room) ⌝ }
-    ensures { λ _. ⌜ now (room .exit) ≡ sets (now (room .entry)) at (flatMap (bytesOf 2) (now (cols .entry))) ⌝ }
+// A refusal leaves nothing in the arrays.
+fn refused(refusal: Refusal) -> Settled
+    ensures { λ r. ⌜ r ≡ settledAs (refused refusal) ⌝ }
 {
-    let mut place = at;
-    let mut i = 0;
-    while i < cols.len() {
-        write_value(room, place, 2, cols[i] as usize);
-        place += 2;
-        i += 1;
+    let state = fresh();
+    Settled {
+        verdict: Verdict::Refused(refusal),
+        state,
     }
 }
 
-// Writes prices from `at` on, eight bytes each.
-fn write_prices(room: &mut [u8], at: usize, prices: &[i64])
-    requires { ⌜ at + length (now prices) * 8 ≤ length (now room) ⌝ }
-    ensures { λ _. ⌜ now (room .exit) ≡ sets (now (room .entry)) at (flatMap (signedBytes 8) (now (prices .entry))) ⌝ }
+// A sheet is read and its night solved, for a slip room of so many bytes.
+pub fn settle(sheet: &[u8], room: usize) -> Settled
+    ensures { λ r. ⌜ r ≡ settled room (now (sheet .entry)) ⌝ }
 {
-    let mut place = at;
-    let mut i = 0;
-    while i < prices.len() {
-        write_value(room, place, 8, wrapped(prices[i]));
-        place += 8;
-        i += 1;
+    match tests(sheet, room) {
+        Tested::Refused(refusal) => refused(refusal),
+        Tested::Side(n) => {
+            let run = solve_state(read_state(sheet, n), n);
+            let answer = run.answer;
+            match answer {
+                Solved::Refused(refusal) => refused(refusal),
+                Solved::Paired(night) => {
+                    let state = run.state;
+                    Settled {
+                        verdict: Verdict::Paired(n, night.total),
+                        state,
+                    }
+                }
+            }
+        }
     }
 }
 
-// Writes a slip's trailer at `at`; its mark is "SLIP", the lowest byte first.
-fn write_trailer(room: &mut [u8], at: usize, side: usize)
-    requires { ⌜ (18 * side + 8 < 2 ^ 64) × (at + 12 ≤ length (now room)) ⌝ }
-    ensures { λ _. ⌜ now (room .exit) ≡ sets (now (room .entry)) at (trailer (18 * side + 8) side slipMark) ⌝ }
+// A slip is written from the first n entries of the arrays.
+fn write_arrays(
+    slip: &mut [u8],
+    n: usize,
+    cols: &[u32; 64],
+    row_prices: &[i64; 64],
+    col_prices: &[i64; 64],
+    total: i64,
+)
+    requires { ⌜ (n ≤ 64) × (slipLength n ≤ length (now slip)) ⌝ }
+    ensures { λ _. ⌜ now (slip .exit) ≡ slipOf n (take n (now (cols .entry))) (take n (now («row_prices» .entry))) (take n (now («col_prices» .entry))) total ++ drop (slipLength n) (now (slip .entry)) ⌝ }
 {
-    write_value(room, at, 4, 18 * side + 8);
-    write_value(room, at + 4, 2, side);
-    write_value(room, at + 6, 2, 1);
-    write_value(room, at + 8, 4, 0x5049_4C53);
+    let all_cols: &[u32] = cols;
+    let all_row_prices: &[i64] = row_prices;
+    let all_col_prices: &[i64] = col_prices;
+    write_slip(
+        slip,
+        &all_cols[0..n],
+        &all_row_prices[0..n],
+        &all_col_prices[0..n],
+        total,
+    );
 }
 
-// Writes a slip over the front of its room.
-fn write_slip(slip: &mut [u8], cols: &[u32], row_prices: &[i64], col_prices: &[i64], total: i64)
-    requires { ⌜ Listed (now cols) (now «row_prices») (now «col_prices») (now slip) ⌝ }
-    ensures { λ _. ⌜ now (slip .exit) ≡ slipOf (length (now (cols .entry))) (now (cols .entry)) (now («row_prices» .entry)) (now («col_prices» .entry)) total ++ drop (slipLength (length (now (cols .entry)))) (now (slip .entry)) ⌝ }
+// The slip of a solved state is written over the front of its room.
+fn write_state(slip: &mut [u8], state: State, n: usize, total: i64)
+    requires { ⌜ (n ≤ 64) × (slipLength n ≤ length (now slip)) ⌝ }
+    ensures { λ _. ⌜ now (slip .exit) ≡ slipOf n (take n (state .cols)) (take n (state .«row_prices»)) (take n (state .«col_prices»)) total ++ drop (slipLength n) (now (slip .entry)) ⌝ }
 {
-    let n = cols.len();
-    write_columns(slip, 0, cols);
-    write_prices(slip, 2 * n, row_prices);
-    write_prices(slip, 10 * n, col_prices);
-    write_value(slip, 18 * n, 8, wrapped(total));
-    write_trailer(slip, 18 * n + 8, n);
+    let cols = state.cols;
+    let row_prices = state.row_prices;
+    let col_prices = state.col_prices;
+    write_arrays(slip, n, &cols, &row_prices, &col_prices, total);
+}
+
+// The entry: a sheet's slip is written over the front of its room; 0, or the refusal as number + 256*place.
+pub fn pair(sheet: &[u8], slip: &mut [u8]) -> u64
+    ensures { λ r. ⌜ _≡_ {A = Outcome} (record { number = r; slip = now (slip .exit) }) (pair (now (sheet .entry)) (now (slip .entry))) ⌝ }
+{
+    let settled = settle(sheet, slip.len());
+    let verdict = settled.verdict;
+    match verdict {
+        Verdict::Refused(refusal) => matrix::code(refusal),
+        Verdict::Paired(n, total) => {
+            let state = settled.state;
+            write_state(slip, state, n, total);
+            0
+        }
+    }
 }

@@ -1,0 +1,117 @@
+-- The solver on a sheet's night: what it answers and leaves in the arrays is what is settled of the sheet. It rests on the solver's definition
+-- alone, of whose tests only 5 can apply. Assumes nothing.
+use mathlib.Core.Path.{_≡_, refl, sym, ap, ap₂, _∙_}
+use mathlib.Core.Bool.{Bool, true, false, cond}
+use mathlib.Core.List.{List, [], _∷_, _++_}
+use Prim.Native.Nat.{ℕ, _*_, _-_, _≤_}
+use native.Mathlib.Omega.{arith}
+use borrow.Author.Tests.{le-ltb, eq-eqb}
+use lib.Dec.{ltb}
+use lib.IntN.{ℤ, pos}
+use lib.ListN.{length, take, drop}
+use lib.Seq.{take-at}
+use Rattle.lists.specs.Runs.{first}
+use Rattle.assignment.specs.Pairings.{price}
+use Rattle.matrix.specs.Limits.{side, K}
+use Rattle.matrix.specs.Refusals.{refuseIf, refuseAt, outside, short}
+use Rattle.matrix.specs.declared.Refusal.the-variants.{CostOutside}
+use Rattle.matrix.proofs.Refusals.{passed, passed-at}
+use Rattle.matrix.proofs.Lengths.{Long, long-lists}
+use Rattle.rules.specs.Run.{run}
+use Rattle.lapjv.specs.Solve as lapjv
+use Rattle.lapjv.specs.Solve.{Lent, Outcome, tests, solve}
+use Rattle.lapjv.specs.declared.Solved.{Solved}
+use Rattle.lapjv.specs.declared.Solved.the-variants.{Paired, Refused}
+use Rattle.sheet.specs.declared.State.{State}
+use Rattle.sheet.specs.declared.Settled.{Settled}
+use Rattle.sheet.specs.declared.Tested.{Tested}
+use Rattle.sheet.specs.declared.Tested.the-variants.{Side}
+use Rattle.sheet.specs.declared.Verdict.the-variants.{Paired as Settled·paired}
+use Rattle.sheet.specs.Numbers.{signedValue}
+use Rattle.sheet.specs.Layout.{fields}
+use Rattle.sheet.specs.Reading.{sheetSide, tested, refused, night, readAfter, costsTested, read}
+use Rattle.sheet.specs.Settle.{fresh, lent, loaded, settledAs, settled, Solves}
+use Rattle.sheet.proofs.Limits.{sheetSide-small, sheetSide-within}
+use Rattle.sheet.proofs.Fields.{length-fields}
+use Rattle.sheet.proofs.Passing.{Passed, tested-passed, costs-found}
+
+-- A search's answer goes over into any other.
+refuseAt-map : {A B : Type 0} (f : A → B) (n : ℕ) (test : ℕ → Bool) (refusal : ℕ → A) (rest : A)
+    → f (refuseAt n test refusal rest) ≡ refuseAt n test (λ k. f (refusal k)) (f rest)
+unfolding refuseAt refuseIf
+refuseAt-map {A} {B} f n test refusal rest = by (ltb (first n test) n)
+  where
+    by : (t : Bool) → f (cond t (refusal (first n test)) rest) ≡ cond t (f (refusal (first n test))) (f rest)
+    by true = refl
+    by false = refl
+
+-- A state made of costs and of what the solver was lent.
+abbrev together : List ℤ → Lent → State
+together costs l = record {
+  costs = costs;
+  cols = l .cols;
+  rows = l .rows;
+  «row_prices» = l .rowPrices;
+  «col_prices» = l .columnPrices;
+  indices = l .indices;
+  numbers = l .numbers;
+}
+
+-- What the code makes of the solver's answer.
+abbrev pub answered : ℕ → Solved → State → Settled
+answered n (Refused refusal) state = settledAs (refused refusal)
+answered n (Paired found) state = record { verdict = Settled·paired n (found .total); state = state }
+
+module _ (n : ℕ) (costs : List ℤ) (size : length costs ≡ n * n) (small : n ≤ sheetSide) where
+  abbrev far : ℕ → Bool
+  far k = outside (pos K) (price costs k)
+
+  -- Of the solver's tests only 5 can apply.
+  solver-tests : solve n costs (lent fresh)
+      ≡ refuseAt (n * n) far (λ k. lapjv.refused (lent fresh) (CostOutside k)) (lapjv.paired n (lent fresh) (run n costs))
+  unfolding solve tests
+  solver-tests =
+      let few : n ≤ 64 = omega (arith, sheetSide-small) in
+      let long : Long n 64 64 64 64 = record { first-long = few; second-long = few; third-long = few; fourth-long = few } in
+      sym (passed _ _ _ (le-ltb side n (omega (arith, sheetSide-within)))
+      (passed _ _ _ (rw (eq-eqb (length costs) (n * n) size))
+      (passed-at 4 (short n (64 ∷ 64 ∷ 64 ∷ 64 ∷ [])) _ _ refl (omega (arith, long-lists n 64 64 64 64 long))
+      (passed _ _ _ (le-ltb 256 (4 * n) (omega arith))
+      (passed _ _ _ (le-ltb 64 n few)
+      (ap (λ (m : ℕ). refuseAt m far (λ k. lapjv.refused (lent fresh) (CostOutside k)) (lapjv.paired n (lent fresh) (run n costs))) (sym size)))))))
+
+  abbrev after : Outcome → Settled
+  after o = answered n (o .answer) (together (costs ++ drop (n * n) (fresh .costs)) (o .lent))
+
+  -- What is made of its outcome is what is settled of these costs.
+  solver-settles : after (solve n costs (lent fresh)) ≡ settledAs (costsTested n costs)
+  solver-settles =
+      ap after solver-tests
+      ∙ refuseAt-map after (n * n) far (λ k. lapjv.refused (lent fresh) (CostOutside k)) (lapjv.paired n (lent fresh) (run n costs))
+      ∙ sym (refuseAt-map settledAs (n * n) far (λ k. refused (CostOutside k)) (night n costs))
+
+-- A sheet that passes the seven tests with side n.
+module _ (room : ℕ) (sheet : List ℕ) (n : ℕ) (e : tested room sheet ≡ Side n) where
+  abbrev p : Passed room sheet n
+  p = tested-passed room sheet n e
+
+  abbrev found : List ℤ
+  found = fields (signedValue 4) (length sheet - 12 - 4 * (n * n)) 4 (n * n) sheet
+
+  found-size : length found ≡ n * n
+  found-size = length-fields (signedValue 4) (length sheet - 12 - 4 * (n * n)) 4 (n * n) sheet
+
+  settled-as : settledAs (costsTested n found) ≡ settled room sheet
+  unfolding settled read
+  settled-as = ap (λ (l : List ℤ). settledAs (costsTested n l)) (sym (costs-found room sheet n p)) ∙ ap (λ (t : Tested). settledAs (readAfter sheet t)) (sym e)
+
+  -- What the code makes of the state that the solver leaves.
+  pub solved-settled : (before after : State) (answer : Solved) → before ≡ loaded n found → Solves n before after answer → answered n answer after ≡ settled room sheet
+  solved-settled before after answer f s =
+      let front : take (n * n) (before .costs) ≡ found = ap (λ (x : State). take (n * n) (x .costs)) f ∙ take-at found (drop (n * n) (fresh .costs)) (n * n) found-size in
+      let outcome : record { answer = answer; lent = lent after } ≡ solve n found (lent fresh) = s .outcome ∙ ap₂ (solve n) front (ap lent f) in
+      let kept : after .costs ≡ found ++ drop (n * n) (fresh .costs) = s .costs-kept ∙ ap (λ (x : State). x .costs) f in
+      ap (λ (l : List ℤ). answered n answer (together l (lent after))) kept
+      ∙ ap (λ (o : Outcome). answered n (o .answer) (together (found ++ drop (n * n) (fresh .costs)) (o .lent))) outcome
+      ∙ solver-settles n found found-size (p .small)
+      ∙ settled-as

@@ -1,0 +1,97 @@
+-- `pair` answers the refusal, or writes the slip of what is settled. Assumes nothing.
+use mathlib.Core.Path.{_≡_, sym, ap, _∙_}
+use mathlib.Core.List.{List, _++_}
+use Prim.Native.Nat.{ℕ}
+use borrow.Author.Needs.{needs}
+use lib.IntN.{ℤ}
+use lib.ListN.{length, take, drop, length-map}
+use mir.Syntax.{w64}
+use Rattle.ints.proofs.Bits.{read-back}
+use Rattle.sheet.specs.Layout.{slipOf, slipLength}
+use Rattle.sheet.specs.Reading.{Read, read}
+use Rattle.sheet.specs.Settle.{settledAs, settled, pair}
+use Rattle.sheet.proofs.Pairing.{Right, read-right, Sized, refused-outcome, paired-outcome}
+use Rattle.sheet.proofs.pair.Statement.{statement}
+use Rattle.sheet.proofs.pair.Tie as tie
+
+-- what the arrays' types say of their lengths
+sized : (c : tie.After-settle) → Sized (c .settle .result .state)
+sized c =
+    let fields = c .settle .ok .1 .1 .1 .0 .1 .1 in
+    record {
+      cols-size = sym (length-map (c .settle .result .state .cols) _) ∙ fields .1 .0 .1 .0 .1;
+      row-prices-size = sym (length-map (c .settle .result .state .«row_prices») _) ∙ fields .1 .1 .1 .0 .1 .0 .1;
+      column-prices-size = sym (length-map (c .settle .result .state .«col_prices») _) ∙ fields .1 .1 .1 .1 .0 .1 .0 .1;
+    }
+
+-- the sheet as it was read
+abbrev reading : tie.After-settle → Read
+reading c = read (length (c .before .before .before .args .slip .now)) (c .before .before .before .args .sheet .now)
+
+right : (c : tie.After-settle) → Right (length (c .before .before .before .args .slip .now)) (reading c)
+right c = read-right (length (c .before .before .before .args .slip .now)) (c .before .before .before .args .sheet .now)
+
+settled-as : (c : tie.After-settle) → c .settle .result ≡ settledAs (reading c)
+unfolding settled
+settled-as c = c .settle .ensures
+
+settle-requires : tie.Need-settle-requires
+settle-requires c κs = search needs
+
+enum-known-verdict : tie.Need-enum-known-verdict
+enum-known-verdict c = search needs
+
+code-requires : tie.Need-code-requires
+code-requires c κs =
+    let s = c .before .before .before in
+    let v = c .before .verdict .given in
+    refused-outcome (s .before .before .before .args .slip .now) (s .settle .result) (reading s) (right s) (settled-as s) (v .0 .0) (v .1) .0
+
+enum-known-verdict-2 : tie.Need-enum-known-verdict-2
+enum-known-verdict-2 c = search needs
+
+write-state-requires : tie.Need-write-state-requires
+write-state-requires c κs =
+    let s = c .before .before .before .before .before in
+    let v = c .before .before .before .verdict2 .given in
+    let o = paired-outcome (s .before .before .before .args .slip .now) (s .settle .result) (reading s) (right s) (settled-as s) (v .0 .0) (v .0 .1 .0) (v .1) (sized s) in
+    (o .0, o .1)
+
+returns : tie.Need-returns
+unfolding pair
+returns c =
+    let s = c .before .before .before .before in
+    let v = c .before .before .verdict .given in
+    let slip = s .before .before .before .args .slip .now in
+    ap (λ (m : ℕ). record { number = m; slip = slip }) (c .code .ensures)
+    ∙ refused-outcome slip (s .settle .result) (reading s) (right s) (settled-as s) (v .0 .0) (v .1) .1
+
+same-length : tie.Need-same-length
+same-length c = search needs
+
+returns-2 : tie.Need-returns-2
+unfolding pair
+returns-2 c =
+    let k = c .before .before .before .before .before in
+    let s = k .before .before .before in
+    let v = k .before .verdict2 .given in
+    let u = s .before .before .before .args in
+    let state = s .settle .result .state in
+    let n = v .0 .0 in
+    let total = read-back w64 (v .0 .1 .0) (k .known-told2 .given .1 .0 .1) in
+    ap (λ (l : List ℕ). record { number = 0; slip = l }) (c .before .before .write-state .ensures
+    ∙ ap (λ (t : ℤ). slipOf n (take n (state .cols)) (take n (state .«row_prices»)) (take n (state .«col_prices»)) t ++ drop (slipLength n) (u .slip .now)) total)
+    ∙ paired-outcome (u .slip .now) (s .settle .result) (reading s) (right s) (settled-as s) n (v .0 .1 .0) (v .1) (sized s) .2
+
+pub pair-spec : {M : Type 1} → statement M
+pair-spec =
+    tie.close
+    (tie.spec
+    settle-requires
+    enum-known-verdict
+    code-requires
+    enum-known-verdict-2
+    write-state-requires
+    returns
+    same-length
+    returns-2)

@@ -1,0 +1,80 @@
+-- `write_arrays` lends the first n entries of each array. Assumes nothing.
+use mathlib.Core.Path.{_≡_, ap, _∙_}
+use mathlib.Core.List.{List, _++_}
+use Prim.Native.Nat.{ℕ, _-_, _≤_}
+use native.Mathlib.Nat.{sub-zero}
+use native.Mathlib.Omega.{arith}
+use borrow.Author.Needs.{needs}
+use lib.IntN.{ℤ}
+use lib.ListN.{length, take, drop}
+use lib.Seq.{length-take-le}
+use mir.Facts.{toZ-ofZ}
+use Rattle.sheet.specs.Layout.{slipOf, slipLength}
+use Rattle.sheet.proofs.write_arrays.Statement.{statement}
+use Rattle.sheet.proofs.write_arrays.Tie as tie
+
+-- the parts that are lent are the first n entries
+fronts : (slip : List ℕ) (n : ℕ) (cols : List ℕ) (rowPrices columnPrices : List ℤ) {read total : ℤ} → read ≡ total → n ≤ length cols
+    → slipOf (length (take (n - 0) cols)) (take (n - 0) cols) (take (n - 0) rowPrices) (take (n - 0) columnPrices) read ++ drop (slipLength (length (take (n - 0) cols))) slip
+    ≡ slipOf n (take n cols) (take n rowPrices) (take n columnPrices) total ++ drop (slipLength n) slip
+fronts slip n cols rowPrices columnPrices {total} e h =
+    rw (sub-zero, e)
+    (ap (λ (m : ℕ). slipOf m (take n cols) (take n rowPrices) (take n columnPrices) total ++ drop (slipLength m) slip) (length-take-le n cols h))
+
+sub-write-slip : tie.Need-sub-write-slip
+sub-write-slip c = search needs
+
+part-write-slip-start : tie.Need-part-write-slip-start
+part-write-slip-start c = search needs
+
+part-write-slip-end : tie.Need-part-write-slip-end
+part-write-slip-end c = omega (arith, c .before .before .before .all-cols .given .0)
+
+sub-write-slip-2 : tie.Need-sub-write-slip-2
+sub-write-slip-2 c = search needs
+
+part-write-slip-start-2 : tie.Need-part-write-slip-start-2
+part-write-slip-start-2 c = search needs
+
+part-write-slip-end-2 : tie.Need-part-write-slip-end-2
+part-write-slip-end-2 c = omega (arith, c .before .before .before .all-row-prices .given .0)
+
+sub-write-slip-3 : tie.Need-sub-write-slip-3
+sub-write-slip-3 c = search needs
+
+part-write-slip-start-3 : tie.Need-part-write-slip-start-3
+part-write-slip-start-3 c = search needs
+
+part-write-slip-end-3 : tie.Need-part-write-slip-end-3
+part-write-slip-end-3 c = omega (arith, c .before .before .before .all-col-prices .given .0)
+
+write-slip-requires : tie.Need-write-slip-requires
+write-slip-requires c κs = search needs
+
+same-length : tie.Need-same-length
+same-length c = search needs
+
+returns : tie.Need-returns
+returns c =
+    let lent = c .before .before .before .before .before .before .before .before .before in
+    let start = lent .before .before in
+    let u = start .args in
+    c .before .before .write-slip .ensures
+    ∙ fronts (u .slip .now) (u .n) (u .cols .now) (u .row-prices .now) (u .col-prices .now) (toZ-ofZ (start .fits .total)) (omega (arith, lent .all-cols .given .0, start .pre .0))
+
+pub write-arrays-spec : {M : Type 1} → statement M
+write-arrays-spec =
+    tie.close
+    (tie.spec
+    sub-write-slip
+    part-write-slip-start
+    part-write-slip-end
+    sub-write-slip-2
+    part-write-slip-start-2
+    part-write-slip-end-2
+    sub-write-slip-3
+    part-write-slip-start-3
+    part-write-slip-end-3
+    write-slip-requires
+    same-length
+    returns)

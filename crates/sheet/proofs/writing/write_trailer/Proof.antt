@@ -1,0 +1,82 @@
+-- `write_trailer` writes the four fields of a slip's trailer, one after the other. Assumes nothing.
+use mathlib.Core.Path.{_≡_, refl, ap, _∙_}
+use mathlib.Core.List.{List, _++_}
+use Prim.Native.Nat.{ℕ, _+_, _*_}
+use native.Mathlib.Omega.{arith}
+use borrow.Author.Needs.{needs}
+use lib.Seq.{sets}
+use Rattle.sheet.specs.Numbers.{bytesOf}
+use Rattle.sheet.specs.Layout.{slipMark, trailer}
+use Rattle.sheet.proofs.Numbers.{length-bytesOf}
+use Rattle.sheet.proofs.Stores.{stored-then}
+use Rattle.sheet.proofs.writing.write_trailer.Statement.{statement}
+use Rattle.sheet.proofs.writing.write_trailer.Tie as tie
+
+mark : bytesOf 4 0x50494C53 ≡ slipMark
+unfolding bytesOf
+mark = refl
+
+-- the four fields are the trailer
+module _ (side at : ℕ) (room : List ℕ) where
+  joined : {r s t w : List ℕ} → r ≡ sets room at (bytesOf 4 (18 * side + 8)) → s ≡ sets r (at + 4) (bytesOf 2 side) → t ≡ sets s (at + 6) (bytesOf 2 1)
+      → w ≡ sets t (at + 8) (bytesOf 4 0x50494C53) → w ≡ sets room at (trailer (18 * side + 8) side slipMark)
+  joined {r} {s} {t} d e f g =
+      stored-then room (bytesOf 4 (18 * side + 8)) (bytesOf 2 side ++ (bytesOf 2 1 ++ slipMark)) at (at + 4) d (omega (arith, length-bytesOf 4 (18 * side + 8)))
+      (stored-then r (bytesOf 2 side) (bytesOf 2 1 ++ slipMark) (at + 4) (at + 6) e (omega (arith, length-bytesOf 2 side))
+      (stored-then s (bytesOf 2 1) slipMark (at + 6) (at + 8) f (omega (arith, length-bytesOf 2 1))
+      (g ∙ ap (sets t (at + 8)) mark)))
+
+mul-write-value : tie.Need-mul-write-value
+mul-write-value c = search needs
+
+add-write-value : tie.Need-add-write-value
+add-write-value c = search needs
+
+write-value-requires : tie.Need-write-value-requires
+write-value-requires c κs = search needs
+
+add-write-value-2 : tie.Need-add-write-value-2
+add-write-value-2 c = search needs
+
+write-value-requires-2 : tie.Need-write-value-requires-2
+write-value-requires-2 c κs = search needs
+
+add-write-value-3 : tie.Need-add-write-value-3
+add-write-value-3 c = search needs
+
+write-value-requires-3 : tie.Need-write-value-requires-3
+write-value-requires-3 c κs = search needs
+
+add-write-value-4 : tie.Need-add-write-value-4
+add-write-value-4 c = search needs
+
+write-value-requires-4 : tie.Need-write-value-requires-4
+write-value-requires-4 c κs = search needs
+
+same-length : tie.Need-same-length
+same-length c = search needs
+
+returns : tie.Need-returns
+returns c =
+    let fourth = c .before .before in
+    let third = fourth .before .before .before .before in
+    let second = third .before .before .before .before in
+    let first = second .before .before .before .before in
+    let u = first .before .before .before .args in
+    joined (u .side) (u .at) (u .room .now) (first .write-value .ensures) (second .write-value2 .ensures) (third .write-value3 .ensures) (fourth .write-value4 .ensures)
+
+pub write-trailer-spec : {M : Type 1} → statement M
+write-trailer-spec =
+    tie.close
+    (tie.spec
+    mul-write-value
+    add-write-value
+    write-value-requires
+    add-write-value-2
+    write-value-requires-2
+    add-write-value-3
+    write-value-requires-3
+    add-write-value-4
+    write-value-requires-4
+    same-length
+    returns)
