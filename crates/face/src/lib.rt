@@ -5,6 +5,7 @@ ghost use Rattle.matrix.proofs.Codes.{PlaceSmall};
 ghost use Rattle.checker.specs.Check.{check};
 ghost use Rattle.lapjv.specs.Solve.{lentOf, solve};
 ghost use Rattle.lapjv.proofs.Codes as solved;
+ghost use Rattle.sheet.specs.Settle.{Outcome, pair};
 ghost use Rattle.face.specs.Face.{totalled, solution};
 use lapjv::Solved;
 use matrix::Answer;
@@ -119,4 +120,12 @@ pub extern "C" fn bristlefrost_solve(
         indices,
         numbers,
     ))
+}
+
+// A sheet's bytes, and the slip's room: 0, or number + 256*place.
+#[no_mangle]
+pub extern "C" fn bristlefrost_sheet(sheet: &[u8], slip: &mut [u8]) -> u64
+    ensures { λ r. ⌜ _≡_ {A = Outcome} (record { number = r; slip = now (slip .exit) }) (pair (now (sheet .entry)) (now (slip .entry))) ⌝ }
+{
+    sheet::pair(sheet, slip)
 }
