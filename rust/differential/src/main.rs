@@ -1,11 +1,12 @@
 //! Compares the crate lapjv 0.3.0 with document 01's rules, night by night, and with the feature `archive` the
 //! archive with both.
 //!
-//!     differential [--seed S] [--count N] [--large L]
+//!     differential [--seed S] [--count N] [--large L] [--full 1]
 //!
 //! S is where the random nights begin (1), N how many of sides to 64 are run (20,000), and L how many of each
-//! of the sides 100, 256, 512, 1,023 and 1,024 (2). Small sides over few values are run in full each time. The
-//! archive is also given N damaged inputs and those at the limits.
+//! of the sides 100, 256, 512, 1,023 and 1,024 (2). Small sides over few values are run in full each time; with
+//! --full side 3 over 0..5 too, ten million nights. The archive is also given N damaged inputs and those at the
+//! limits.
 
 use std::process::ExitCode;
 
@@ -20,10 +21,11 @@ struct Settings {
     seed: u64,
     count: usize,
     large: usize,
+    full: bool,
 }
 
 fn settings() -> Result<Settings, String> {
-    let mut settings = Settings { seed: 1, count: 20_000, large: 2 };
+    let mut settings = Settings { seed: 1, count: 20_000, large: 2, full: false };
     let mut arguments = std::env::args().skip(1);
     while let Some(name) = arguments.next() {
         let value = arguments.next().and_then(|value| value.parse::<u64>().ok());
@@ -32,6 +34,7 @@ fn settings() -> Result<Settings, String> {
             "--seed" => settings.seed = value,
             "--count" => settings.count = value as usize,
             "--large" => settings.large = value as usize,
+            "--full" => settings.full = value != 0,
             _ => return Err(format!("unknown: {name}")),
         }
     }
@@ -101,7 +104,7 @@ fn test(archive: &mut Archive, n: usize, costs: &[i32], family: &str) -> Result<
 }
 
 /// Small sides in full.
-fn every(archive: &mut Archive) -> Result<usize, String> {
+fn every(archive: &mut Archive, settings: &Settings) -> Result<usize, String> {
     let k = K as i32;
     let full: [(usize, &[i32]); 9] = [
         (0, &[0]),
@@ -114,8 +117,9 @@ fn every(archive: &mut Archive) -> Result<usize, String> {
         (4, &[0, 1]),
         (4, &[-k, k]),
     ];
+    let more: &[(usize, &[i32])] = if settings.full { &[(3, &[0, 1, 2, 3, 4, 5])] } else { &[] };
     let mut nights = 0;
-    for (n, values) in full {
+    for (n, values) in full.iter().chain(more).copied() {
         for costs in Every::new(n, values) {
             test(archive, n, &costs, "in full")?;
             nights += 1;
@@ -163,7 +167,7 @@ fn run() -> Result<(), String> {
     }
     let (sides, seed) = (sides.join(", "), settings.seed);
     let mut archive = Archive::new(&settings);
-    println!("{} small nights in full: {sides}", every(&mut archive)?);
+    println!("{} small nights in full: {sides}", every(&mut archive, &settings)?);
     println!("{} random nights of sides to 64, seed {seed}: {sides}", random(&mut archive, &settings)?);
     println!("{} random nights of sides 100 to 1024, seed {seed}: {sides}", large(&mut archive, &settings)?);
     archive.damaged(&settings)
