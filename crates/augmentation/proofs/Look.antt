@@ -16,9 +16,10 @@ use Rattle.lists.specs.Runs.{Turn, on, left, andThen, until}
 use Rattle.lists.proofs.Runs.{until-none, until-last}
 use Rattle.lists.specs.Permutations.{at, exchange, Permutation}
 use Rattle.lists.proofs.Permutations.{exchange-permutation}
+use Rattle.lists.proofs.Leaving.{until-longer}
 use Rattle.assignment.specs.Pairings.{price}
 use Rattle.rules.specs.Search.{Work, Hit, same, reachBy, join, afterLowering, scanColumn, workOf}
-use Rattle.rules.proofs.Cases.{same-true, until-longer}
+use Rattle.rules.proofs.Cases.{same-true}
 use Rattle.rules.specs.declared.ScanEnd.the-variants as ends
 use Rattle.augmentation.specs.Room.{listIn, predecessorsIn, roomWith}
 use Rattle.augmentation.specs.Scan.{workIn, seen, Looked}

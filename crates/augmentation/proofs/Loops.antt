@@ -8,11 +8,11 @@ use lib.ListN.{length}
 use Rattle.ints.specs.Parts.{Within}
 use Rattle.lists.specs.Runs.{Turn, on, left}
 use Rattle.lists.specs.Permutations.{at}
+use Rattle.lists.proofs.Leaving.{Either, goes-on, is-left}
 use Rattle.assignment.specs.Pairings.{price, square}
 use Rattle.matrix.specs.Limits.{near}
 use Rattle.rules.specs.Lowest.{reduced, lowest}
 use Rattle.rules.specs.Search.{Work, workOf, Hit, Found, scan, found, searchBlocks}
-use Rattle.rules.proofs.Cases.{Either, goes-on, is-left}
 use Rattle.rules.proofs.Scan.{Sound}
 use Rattle.rules.proofs.Scans.{Counted}
 use Rattle.rules.proofs.Search.{Head}

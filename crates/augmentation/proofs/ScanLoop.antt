@@ -12,11 +12,12 @@ use lib.Signed.{ltZ}
 use lib.ListN.{length}
 use Rattle.lists.specs.Runs.{Turn, on, left, andThen}
 use Rattle.lists.specs.Permutations.{at, Permutation}
+use Rattle.lists.proofs.Leaving.{until-keeps, Either, goes-on, is-left}
 use Rattle.assignment.specs.Pairings.{price, square}
 use Rattle.rules.specs.declared.ScanEnd.{ScanEnd}
 use Rattle.rules.specs.Lowest.{reduced, lowest}
 use Rattle.rules.specs.Search.{same, reachBy, join, countOne, afterLowering, scanColumn, Work, workOf, Hit, Found, scanRow, scan, searchBlocks}
-use Rattle.rules.proofs.Cases.{cond-cases, until-keeps, Either, goes-on, is-left}
+use Rattle.rules.proofs.Cases.{cond-cases}
 use Rattle.rules.proofs.Scan.{Sound}
 use Rattle.rules.proofs.Scans.{Counted, LeftAt, scanRow-ok}
 use Rattle.rules.proofs.Turns.{scan-more, scan-done}

@@ -9,10 +9,11 @@ use lib.Dec.{eqb}
 use lib.ListN.{length, length-set}
 use Rattle.lists.specs.Runs.{Turn, on, left}
 use Rattle.lists.specs.Permutations.{at}
+use Rattle.lists.proofs.Leaving.{Either, goes-on, is-left, until-keeps, until-longer}
 use Rattle.rules.specs.Columns.{Pairs}
 use Rattle.rules.specs.Rows.{takeColumn}
 use Rattle.rules.specs.Augmentation.{Open, flip, flips, flipped}
-use Rattle.rules.proofs.Cases.{cond-cases, here-or-elsewhere, Either, goes-on, is-left, until-keeps, until-longer}
+use Rattle.rules.proofs.Cases.{cond-cases, here-or-elsewhere}
 use Rattle.rules.proofs.Pairs.{Paired, Unpaired, Agree, took-col, kept-col, took-row, kept-row, taken-below}
 
 -- From row s, along predecessors that came of pairs p₀. `Tree` are the columns that can be gone back to, `rank` the place of each.

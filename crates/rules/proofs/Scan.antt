@@ -18,10 +18,11 @@ use Rattle.ints.proofs.Shapes.{zlin}
 use Rattle.lists.specs.Runs.{Turn, on, left}
 use Rattle.lists.specs.Permutations.{at, Permutation}
 use Rattle.lists.proofs.Permutations.{exchange-second, exchange-first, exchange-other, exchange-permutation}
+use Rattle.lists.proofs.Leaving.{Either, goes-on, is-left}
 use Rattle.assignment.specs.Pairings.{price}
 use Rattle.rules.specs.Lowest.{reduced}
 use Rattle.rules.specs.Search.{Work, Hit, same, reachBy, join, afterLowering, scanColumn}
-use Rattle.rules.proofs.Cases.{cond-cases, lt-or-le, here-or-elsewhere, same-true, Either, goes-on, is-left}
+use Rattle.rules.proofs.Cases.{cond-cases, lt-or-le, here-or-elsewhere, same-true}
 use Rattle.rules.proofs.Prices.{Fair}
 
 -- The column at place t, and how far column j lies.

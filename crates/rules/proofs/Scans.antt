@@ -13,9 +13,10 @@ use Rattle.ints.proofs.Sums.{sum}
 use Rattle.ints.proofs.Ranges.{zarith}
 use Rattle.lists.specs.Runs.{on, until}
 use Rattle.lists.proofs.Injections.{reached}
+use Rattle.lists.proofs.Leaving.{Either, goes-on, either-map, until-keeps}
 use Rattle.rules.specs.Lowest.{reduced}
 use Rattle.rules.specs.Search.{Work, Hit, countOne, scanColumn, scanRow, scan}
-use Rattle.rules.proofs.Cases.{cond-cases, here-or-elsewhere, Either, goes-on, either-map, until-keeps}
+use Rattle.rules.proofs.Cases.{cond-cases, here-or-elsewhere}
 use Rattle.rules.proofs.Prices.{Fair}
 use Rattle.rules.proofs.Scan.{place, far, FromColumn, Relaxed, Scanning, Seeing, Reaches, scanColumn-ok}
 

@@ -10,12 +10,13 @@ use Rattle.ints.proofs.Ranges.{zarith}
 use Rattle.lists.specs.Runs.{Turn, on, left}
 use Rattle.lists.proofs.Injections.{reached}
 use Rattle.lists.proofs.Tables.{length-table, getD-table}
+use Rattle.lists.proofs.Leaving.{Either, goes-on, is-left, either-map, until-keeps, until-longer}
 use Rattle.rules.specs.declared.LastFree.{LastFree}
 use Rattle.rules.specs.declared.LastFree.the-variants.{NoneYet, At}
 use Rattle.rules.specs.Lowest.{reduced}
 use Rattle.rules.specs.Block.{Block, block}
 use Rattle.rules.specs.Search.{Work, Hit, Found, scan, lastFree, freshBlock, found, afterScan, afterBlock, searchBlock, searchBlocks, searchStart, foundAt, search}
-use Rattle.rules.proofs.Cases.{lt-or-le, Either, goes-on, is-left, either-map, until-keeps, until-longer}
+use Rattle.rules.proofs.Cases.{lt-or-le}
 use Rattle.rules.proofs.Prices.{Fair}
 use Rattle.rules.proofs.Block.{IsBlock, block-ok}
 use Rattle.rules.proofs.FreeColumns.{Sought, lastFree-ok}
