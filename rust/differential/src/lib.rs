@@ -8,6 +8,7 @@ pub mod checks;
 pub mod damage;
 pub mod nights;
 pub mod oracle;
+pub mod paper;
 pub mod refusals;
 pub mod rules;
 pub mod sheets;
