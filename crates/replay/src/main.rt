@@ -46,21 +46,15 @@ fn lent(
     indices: &mut [u32],
     numbers: &mut [i64],
 ) {
-    let p = read::length(cols.len());
-    let q = read::length(rows.len());
-    let r = read::length(us.len());
-    let s = read::length(vs.len());
-    let t = read::length(indices.len());
-    let z = read::length(numbers.len());
     let solved = lapjv::solve(
         n,
         costs,
-        &mut cols[0..p],
-        &mut rows[0..q],
-        &mut us[0..r],
-        &mut vs[0..s],
-        &mut indices[0..t],
-        &mut numbers[0..z],
+        read::indices(cols),
+        read::indices(rows),
+        read::numbers(us),
+        read::numbers(vs),
+        read::indices(indices),
+        read::numbers(numbers),
     );
     line(n, costs, solved, cols, rows, us, vs, indices, numbers);
 }

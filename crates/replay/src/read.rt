@@ -30,6 +30,17 @@ pub fn length(most: usize) -> usize
     least(number() as usize, most)
 }
 
+// The part that is lent.
+pub fn indices(s: &mut [u32]) -> &mut [u32] {
+    let lent = length(s.len());
+    &mut s[0..lent]
+}
+
+pub fn numbers(s: &mut [i64]) -> &mut [i64] {
+    let lent = length(s.len());
+    &mut s[0..lent]
+}
+
 // A cost, in two's complement.
 fn cost() -> i32 {
     let bits = number();

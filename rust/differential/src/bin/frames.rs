@@ -150,7 +150,8 @@ impl Replay {
 fn on_paper(replay: &mut Replay) -> Result<(), String> {
     for night in paper::NIGHTS {
         let n = night.columns.len();
-        let rows: Vec<usize> = (0..n).filter_map(|j| night.columns.iter().position(|&column| column == j)).collect();
+        let rows: Vec<usize> =
+            (0..n).filter_map(|j| night.columns.iter().position(|&column| column == j)).collect();
         let (total, counts) = (night.total.to_string(), words(&night.counts));
         let (columns, rows) = (words(night.columns), words(&rows));
         let line = paired([&total, &counts, &columns, &rows, &words(night.u), &words(night.v)]);
@@ -207,7 +208,8 @@ fn outside(replay: &mut Replay) -> Result<(), String> {
         replay.decided(&Night::new(1, &[cost]))?;
         for place in 0..9 {
             replay.decided(&Night::new(3, &[3, 1, 0, 0, 0, 2, 4, 1, 0]).with(place, cost))?;
-            replay.decided(&Night::new(3, &[3, 1, 0, 0, 0, 2, 4, 1, LIMIT + 1]).with(place, cost).longer(place))?;
+            replay
+                .decided(&Night::new(3, &[3, 1, 0, 0, 0, 2, 4, 1, LIMIT + 1]).with(place, cost).longer(place))?;
         }
     }
     replay.kind("with costs at and past the ends of their range");
