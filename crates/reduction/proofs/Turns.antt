@@ -1,16 +1,20 @@
 -- The runs of rule 1 and of the least values of rule 3, turn by turn, as code goes through them. Assumes nothing.
-use mathlib.Core.Path.{_≡_, ap, _∙_}
-use mathlib.Core.Bool.{Bool, cond}
-use Prim.Native.Nat.{ℕ, _+_, _≤_}
+use mathlib.Core.Path.{_≡_, sym, ap, _∙_, subst}
+use mathlib.Core.Bool.{Bool, true, false, cond}
+use Prim.Native.Nat.{ℕ, zero, suc, _+_, _-_, _≤_, _<_}
+use native.Mathlib.Nat.{add-zero}
 use native.Mathlib.Omega.{arith}
 use native.Mathlib.Numerals.{add-one}
 use borrow.Author.Tests.{eq-eqb, ne-eqb}
 use lib.Dec.{eqb}
 use lib.IntN.{ℤ}
+use lib.Signed.{ltZ}
 use Rattle.lists.proofs.Runs.{upward-none, upward-last}
-use Rattle.rules.specs.declared.TwoLowest.the-variants.{One}
+use Rattle.rules.specs.declared.Low.{Low}
+use Rattle.rules.specs.declared.TwoLowest.{TwoLowest}
+use Rattle.rules.specs.declared.TwoLowest.the-variants.{One, Two}
 use Rattle.rules.specs.declared.Least.the-variants.{NoneYet}
-use Rattle.rules.specs.Lowest.{low, twoStep, twoLowest, lower, lowest, least, leastBut}
+use Rattle.rules.specs.Lowest.{low, beside, twoStep, twoLowest, lower, lowest, least, leastBut}
 
 -- The lowest so far beside a value at place i, by equal numbers.
 pub lower-cong : (i : ℕ) {a b h g : ℤ} {p q : ℕ} → a ≡ b → p ≡ q → h ≡ g → lower (low a p) (low h i) ≡ lower (low b q) (low g i)
@@ -24,6 +28,28 @@ module _ (f : ℕ → ℤ) where
   pub twoLowest-more : (j : ℕ) → 1 ≤ j → twoLowest (j + 1) f ≡ twoStep (twoLowest j f) (low (f j) j)
   unfolding twoLowest
   twoLowest-more j h = rw add-one (upward-last 1 j (λ j found. twoStep found (low (f j) j)) (One (low (f 0) 0)) h)
+
+  pub twoLowest-two : twoLowest 2 f ≡ beside (low (f 0) 0) (low (f 1) 1)
+  twoLowest-two = twoLowest-more 1 (omega arith) ∙ ap (λ (t : TwoLowest). twoStep t (low (f 1) 1)) twoLowest-one
+
+  -- A pair of columns stays the two lowest past columns that do not count.
+  pub twoLowest-pass : (a b : Low) (j r : ℕ) → 1 ≤ j → j ≤ r → Two a b ≡ twoLowest j f → ((k : ℕ) → k < r → j ≤ k → ltZ (f k) (b .value) ≡ false)
+      → Two a b ≡ twoLowest r f
+  twoLowest-pass a b j r h l e passed = let z : j + (r - j) ≡ r = omega arith in subst (λ (m : ℕ). Two a b ≡ twoLowest m f) z (go (r - j) (omega arith))
+    where
+      go : (d : ℕ) → j + d ≤ r → Two a b ≡ twoLowest (j + d) f
+      go zero m = subst (λ (k : ℕ). Two a b ≡ twoLowest k f) (sym (add-zero j)) e
+      go (suc d) m =
+          let z : j + d + 1 ≡ j + suc d = omega arith in
+          subst (λ (k : ℕ). Two a b ≡ twoLowest k f) z
+          (ap (λ (t : Bool). cond t (beside a (low (f (j + d)) (j + d))) (Two a b)) (sym (passed (j + d) (omega arith) (omega arith)))
+          ∙ ap (λ (t : TwoLowest). twoStep t (low (f (j + d)) (j + d))) (go d (omega arith)) ∙ sym (twoLowest-more (j + d) (omega arith)))
+
+  -- A column that counts, beside the two lowest so far.
+  pub twoLowest-count : (a b : Low) (j : ℕ) → 1 ≤ j → Two a b ≡ twoLowest j f → ltZ (f j) (b .value) ≡ true → beside a (low (f j) j) ≡ twoLowest (j + 1) f
+  twoLowest-count a b j h e counts =
+      ap (λ (t : Bool). cond t (beside a (low (f j) j)) (Two a b)) (sym counts) ∙ ap (λ (t : TwoLowest). twoStep t (low (f j) j)) e
+      ∙ sym (twoLowest-more j h)
 
   pub lowest-one : lowest 1 f ≡ low (f 0) 0
   unfolding lowest

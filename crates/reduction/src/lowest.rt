@@ -3,55 +3,87 @@ ghost use mathlib.Core.Path.{_≡_};
 ghost use lib.IntN.{_-ℤ_};
 ghost use lib.ListN.{length};
 ghost use Rattle.assignment.specs.Pairings.{price};
-ghost use Rattle.rules.specs.Lowest.{beside, twoStep, twoLowest};
-ghost use Rattle.reduction.specs.Ranges.{Priced};
+ghost use Prim.Native.Nat.{_≤_};
+ghost use Rattle.rules.specs.declared.TwoLowest.the-variants.{Two};
+ghost use Rattle.rules.specs.Lowest.{beside, twoLowest};
+ghost use Rattle.reduction.specs.Ranges.{Near, Priced, NextBelow};
 use rules::Low;
 use rules::TwoLowest;
 
-// A value that counts becomes second; or the old lowest becomes second and it lowest.
-fn beside(lowest: Low, h: Low) -> TwoLowest
-    ensures { λ r. ⌜ r ≡ beside lowest h ⌝ }
-{
-    if h.value >= lowest.value {
-        TwoLowest::Two(lowest, h)
-    } else {
-        TwoLowest::Two(h, lowest)
-    }
+// The two lowest of a row that has two.
+struct Pair {
+    lowest: Low,
+    second: Low,
 }
 
-// A value counts only if below the second, where there is one.
-fn step(found: TwoLowest, h: Low) -> TwoLowest
-    ensures { λ r. ⌜ r ≡ twoStep found h ⌝ }
+// The first column from `from` on whose reduced cost is below a bound; the length where there is none.
+pub fn next_below(row: &[i32], v: &[i64], from: usize, bound: i64) -> usize
+    requires { ⌜ (length (now v) ≡ length (now row)) × Near (length (now row)) (now v) × (from ≤ length (now row)) ⌝ }
+    ensures { λ r. ⌜ NextBelow (λ j. price (now (row .entry)) j -ℤ price (now (v .entry)) j) bound from (length (now (row .entry))) r ⌝ }
 {
-    match found {
-        TwoLowest::One(lowest) => beside(lowest, h),
-        TwoLowest::Two(lowest, second) => {
-            if h.value < second.value {
-                beside(lowest, h)
-            } else {
-                found
-            }
+    let mut j = from;
+    while j < row.len() {
+        if matrix::reduced_cost(row[j], v[j]) < bound {
+            return j;
+        }
+        j += 1;
+    }
+    j
+}
+
+// A value that counts becomes second; or the old lowest becomes second and it lowest.
+fn beside(lowest: Low, h: Low) -> Pair
+    ensures { λ r. ⌜ Two (r .lowest) (r .second) ≡ beside lowest h ⌝ }
+{
+    if h.value >= lowest.value {
+        Pair {
+            lowest: lowest,
+            second: h,
+        }
+    } else {
+        Pair {
+            lowest: h,
+            second: lowest,
         }
     }
 }
 
-// Rule 1: the two lowest reduced costs of a row.
+// What a value has to be below to count.
+fn bound(two: Pair) -> i64
+    ensures { λ r. ⌜ r ≡ two .second .value ⌝ }
+{
+    let second = two.second;
+    second.value
+}
+
+// Rule 1: the two lowest reduced costs of a row. From column 2 on a value counts only if below the second; the columns between are passed over.
 pub fn find_umins_plain(row: &[i32], v: &[i64]) -> TwoLowest
     requires { ⌜ Priced (now row) (now v) ⌝ }
     ensures { λ r. ⌜ r ≡ twoLowest (length (now (row .entry))) (λ j. price (now (row .entry)) j -ℤ price (now (v .entry)) j) ⌝ }
 {
-    let mut found = TwoLowest::One(Low {
+    let first = Low {
         value: matrix::reduced_cost(row[0], v[0]),
         place: 0,
-    });
-    let mut j = 1;
+    };
+    if row.len() == 1 {
+        return TwoLowest::One(first);
+    }
+    let next = Low {
+        value: matrix::reduced_cost(row[1], v[1]),
+        place: 1,
+    };
+    let mut two = beside(first, next);
+    let mut j = next_below(row, v, 2, bound(two));
     while j < row.len() {
         let h = Low {
             value: matrix::reduced_cost(row[j], v[j]),
             place: j,
         };
-        found = step(found, h);
-        j += 1;
+        let lowest = two.lowest;
+        two = beside(lowest, h);
+        j = next_below(row, v, j + 1, bound(two));
     }
-    found
+    let lowest = two.lowest;
+    let second = two.second;
+    TwoLowest::Two(lowest, second)
 }
