@@ -1,5 +1,5 @@
-//! Times the crate lapjv 0.3.0 on f64 and the archive on the same matrices, in one process and in turn, and writes
-//! the medians and their ratio as a table.
+//! Times the crate lapjv 0.3.0 on f64, the archive on the same matrices and the archive's checker on what it paired,
+//! in one process and in turn, and writes the medians and their ratios as a table.
 //!
 //!     bench [--seed S] [--matrices M] [--rounds R] [--largest N]
 //!
@@ -105,6 +105,14 @@ impl Matrix {
         let paired = bristlefrost::solve_into(self.n, &self.costs, lent);
         (start.elapsed(), paired.map(|paired| paired.total).map_err(|refusal| refusal.to_string()))
     }
+
+    /// The checker on what the archive paired last.
+    fn by_checker(&self) -> (Duration, Result<i64, String>) {
+        let start = Instant::now();
+        let Matrix { n, costs, columns, rows, row_prices, column_prices, .. } = self;
+        let checked = bristlefrost::check(*n, costs, columns, rows, row_prices, column_prices);
+        (start.elapsed(), checked.map_err(|refusal| refusal.to_string()))
+    }
 }
 
 fn median(mut times: Vec<Duration>) -> Duration {
@@ -119,14 +127,17 @@ fn milliseconds(time: Duration) -> f64 {
 /// Times one kind at one side and answers the table's line.
 fn line(settings: &Settings, random: &mut Random, kind: &Kind, n: usize) -> Result<String, String> {
     let (name, cost) = kind;
-    let (mut crates, mut archives) = (Vec::new(), Vec::new());
+    let (mut crates, mut archives, mut checkers) = (Vec::new(), Vec::new(), Vec::new());
     for _ in 0..settings.matrices {
         let costs = (0..n * n).map(|place| cost(random, place / n, place % n) as i32).collect();
         let mut matrix = Matrix::new(n, costs);
         for round in 0..=settings.rounds {
             let (crate_time, pairing) = matrix.by_crate();
             let (archive_time, total) = matrix.by_archive();
-            total?;
+            let (checker_time, checked) = matrix.by_checker();
+            if total? != checked? {
+                return Err(format!("{name}, side {n}: the checker's total is another one"));
+            }
             if let Some((columns, _)) = pairing {
                 let same = columns.iter().zip(&matrix.columns).all(|(&a, &b)| a == b as usize);
                 if !same {
@@ -136,15 +147,17 @@ fn line(settings: &Settings, random: &mut Random, kind: &Kind, n: usize) -> Resu
             if round > 0 {
                 crates.push(crate_time);
                 archives.push(archive_time);
+                checkers.push(checker_time);
             }
         }
     }
-    let archive = milliseconds(median(archives));
+    let (archive, checker) = (milliseconds(median(archives)), milliseconds(median(checkers)));
     if !oracle::AT_HAND {
-        return Ok(format!("| {name} | {n} | not run | {archive:.3} | |"));
+        return Ok(format!("| {name} | {n} | not run | {archive:.3} | | {checker:.3} | |"));
     }
     let own = milliseconds(median(crates));
-    Ok(format!("| {name} | {n} | {own:.3} | {archive:.3} | {:.2} |", archive / own))
+    let (slower, share) = (archive / own, checker / own);
+    Ok(format!("| {name} | {n} | {own:.3} | {archive:.3} | {slower:.2} | {checker:.3} | {share:.3} |"))
 }
 
 fn run() -> Result<(), String> {
@@ -156,8 +169,8 @@ fn run() -> Result<(), String> {
         "Seed {}, {} matrices of each, {} rounds each; milliseconds, medians; lists are lent uncleared.\n",
         settings.seed, settings.matrices, settings.rounds
     );
-    println!("| costs | side | crate, f64 | archive | archive / crate |");
-    println!("|---|---|---|---|---|");
+    println!("| costs | side | crate, f64 | archive | archive / crate | checker | checker / crate |");
+    println!("|---|---|---|---|---|---|---|");
     let mut random = Random::new(settings.seed);
     for n in SIDES.into_iter().filter(|&n| n <= settings.largest) {
         for kind in &KINDS {
