@@ -1,0 +1,203 @@
+//! Sheets and slips as document 01 lays them out, for whoever makes a sheet or reads a slip. Nothing is paired here.
+//!
+//! A sheet is any note, the costs in row order (4 bytes each) and a trailer of 12 bytes that points back to the first
+//! cost. A slip is the columns by row (2 bytes each), row prices and column prices (8 each), the total (8) and such a
+//! trailer. All are little-endian.
+
+use std::fmt;
+
+/// The largest side on a sheet.
+pub const LARGEST_SIDE: usize = 64;
+
+/// K: costs lie within -K..K; a pair that must not be made costs K.
+pub const BARRED: i32 = 1_000_000_000;
+
+/// The most bytes of a sheet.
+pub const LONGEST_SHEET: usize = 65_536;
+
+const TRAILER: usize = 12;
+const EDITION: u16 = 1;
+
+/// Why a sheet cannot be made or a slip cannot be read.
+#[derive(Clone, Debug, PartialEq, Eq)]
+#[non_exhaustive]
+pub enum Unfit {
+    /// A word of the table is no 32-bit number and not `barred`.
+    Word { line: usize, word: String },
+    /// There are not exactly n*n costs.
+    NotSquare { side: usize, costs: usize },
+    /// The side is over 64.
+    Side(usize),
+    /// A cost lies outside -K..K; the first place i*n+j.
+    Cost { place: usize },
+    /// With this note the sheet has over 65,536 bytes.
+    Long,
+    /// The bytes are not those of a slip: what is wrong with them.
+    Slip(&'static str),
+}
+
+impl fmt::Display for Unfit {
+    fn fmt(&self, f: &mut fmt::Formatter<'_>) -> fmt::Result {
+        match self {
+            Unfit::Word { line, word } => write!(f, "line {line}: '{word}' is neither a number nor 'barred'"),
+            Unfit::NotSquare { side, costs } => write!(f, "{side} rows want {} costs, not {costs}", side * side),
+            Unfit::Side(side) => write!(f, "side {side} is over {LARGEST_SIDE}"),
+            Unfit::Cost { place } => write!(f, "the cost at place {place} is outside -{BARRED}..{BARRED}"),
+            Unfit::Long => write!(f, "the sheet would have over {LONGEST_SHEET} bytes"),
+            Unfit::Slip(what) => write!(f, "not a slip: {what}"),
+        }
+    }
+}
+
+impl std::error::Error for Unfit {}
+
+/// A night to be paired: its costs and a note that nobody reads.
+#[derive(Clone, Debug, PartialEq, Eq)]
+pub struct Sheet {
+    side: usize,
+    costs: Vec<i32>,
+    note: Vec<u8>,
+}
+
+impl Sheet {
+    /// A sheet of n*n costs in row order, without a note.
+    ///
+    /// ```
+    /// let sheet = paper::Sheet::new(1, &[7])?;
+    /// assert_eq!(sheet.bytes(), [7, 0, 0, 0, 4, 0, 0, 0, 1, 0, 1, 0, 0x4D, 0x54, 0x43, 0x48]);
+    /// assert_eq!(paper::Sheet::new(2, &[7]), Err(paper::Unfit::NotSquare { side: 2, costs: 1 }));
+    /// # Ok::<(), paper::Unfit>(())
+    /// ```
+    pub fn new(side: usize, costs: &[i32]) -> Result<Sheet, Unfit> {
+        if side > LARGEST_SIDE {
+            return Err(Unfit::Side(side));
+        }
+        if costs.len() != side * side {
+            return Err(Unfit::NotSquare { side, costs: costs.len() });
+        }
+        if let Some(place) = costs.iter().position(|cost| !(-BARRED..=BARRED).contains(cost)) {
+            return Err(Unfit::Cost { place });
+        }
+        Ok(Sheet { side, costs: costs.to_vec(), note: Vec::new() })
+    }
+
+    /// The same sheet with this note in front.
+    pub fn noted(self, note: &[u8]) -> Result<Sheet, Unfit> {
+        if note.len() + 4 * self.costs.len() + TRAILER > LONGEST_SHEET {
+            return Err(Unfit::Long);
+        }
+        Ok(Sheet { note: note.to_vec(), ..self })
+    }
+
+    /// A sheet from a table: a line for each row, its costs apart by blanks or commas, `barred` for a pair that must
+    /// not be made. A line that begins with '#' goes into the note; an empty line is passed over.
+    ///
+    /// ```
+    /// let sheet = paper::Sheet::from_table("# two guests\n1, barred\n-3 2\n")?;
+    /// assert_eq!(sheet, paper::Sheet::new(2, &[1, paper::BARRED, -3, 2])?.noted(b"# two guests\n")?);
+    /// # Ok::<(), paper::Unfit>(())
+    /// ```
+    pub fn from_table(table: &str) -> Result<Sheet, Unfit> {
+        let (mut side, mut costs, mut note) = (0, Vec::new(), String::new());
+        for (at, line) in table.lines().enumerate() {
+            if line.starts_with('#') {
+                note = note + line + "\n";
+                continue;
+            }
+            let before = costs.len();
+            for word in line.split([' ', '\t', ',']).filter(|word| !word.is_empty()) {
+                let unfit = || Unfit::Word { line: at + 1, word: word.to_string() };
+                costs.push(if word == "barred" { BARRED } else { word.parse().map_err(|_| unfit())? });
+            }
+            side += usize::from(costs.len() > before);
+        }
+        Sheet::new(side, &costs)?.noted(note.as_bytes())
+    }
+
+    /// The sheet's bytes.
+    pub fn bytes(&self) -> Vec<u8> {
+        let mut bytes = self.note.clone();
+        bytes.extend(self.costs.iter().flat_map(|cost| cost.to_le_bytes()));
+        bytes.extend((4 * self.costs.len() as u32).to_le_bytes());
+        bytes.extend((self.side as u16).to_le_bytes());
+        bytes.extend(EDITION.to_le_bytes());
+        bytes.extend(b"MTCH");
+        bytes
+    }
+}
+
+/// A paired night as its slip says.
+#[derive(Clone, Debug, PartialEq, Eq)]
+pub struct Slip {
+    /// The column of each row.
+    pub columns: Vec<u16>,
+    pub row_prices: Vec<i64>,
+    pub column_prices: Vec<i64>,
+    pub total: i64,
+}
+
+fn number(bytes: &[u8]) -> i64 {
+    i64::from_le_bytes(bytes.try_into().expect("eight bytes"))
+}
+
+fn numbers(bytes: &[u8]) -> Vec<i64> {
+    bytes.chunks(8).map(number).collect()
+}
+
+impl Slip {
+    /// Reads a slip: exactly its bytes, none before or behind. Whether the pairing is least is for the checker.
+    ///
+    /// ```
+    /// let mut slip = vec![0; 10];
+    /// slip.extend([7, 0, 0, 0, 0, 0, 0, 0, 7, 0, 0, 0, 0, 0, 0, 0]);
+    /// slip.extend([0x1A, 0, 0, 0, 1, 0, 1, 0, 0x53, 0x4C, 0x49, 0x50]);
+    /// let read = paper::Slip::read(&slip)?;
+    /// assert_eq!(read, paper::Slip { columns: vec![0], row_prices: vec![0], column_prices: vec![7], total: 7 });
+    /// assert_eq!(paper::Slip::read(&slip[1..]), Err(paper::Unfit::Slip("its length is not that of its side")));
+    /// # Ok::<(), paper::Unfit>(())
+    /// ```
+    pub fn read(bytes: &[u8]) -> Result<Slip, Unfit> {
+        let Some((body, trailer)) = bytes.split_last_chunk::<TRAILER>() else {
+            return Err(Unfit::Slip("under 12 bytes"));
+        };
+        let [d0, d1, d2, d3, s0, s1, e0, e1, mark @ ..] = *trailer;
+        let side = usize::from(u16::from_le_bytes([s0, s1]));
+        if mark != *b"SLIP" {
+            return Err(Unfit::Slip("its mark is another one"));
+        }
+        if u16::from_le_bytes([e0, e1]) != EDITION {
+            return Err(Unfit::Slip("its edition is not 1"));
+        }
+        if side > LARGEST_SIDE {
+            return Err(Unfit::Slip("its side is over 64"));
+        }
+        if u32::from_le_bytes([d0, d1, d2, d3]) as usize != 18 * side + 8 {
+            return Err(Unfit::Slip("its distance is not that of its side"));
+        }
+        if body.len() != 18 * side + 8 {
+            return Err(Unfit::Slip("its length is not that of its side"));
+        }
+        let (columns, rest) = body.split_at(2 * side);
+        let (row_prices, rest) = rest.split_at(8 * side);
+        let (column_prices, total) = rest.split_at(8 * side);
+        Ok(Slip {
+            columns: columns.chunks(2).map(|pair| u16::from_le_bytes([pair[0], pair[1]])).collect(),
+            row_prices: numbers(row_prices),
+            column_prices: numbers(column_prices),
+            total: number(total),
+        })
+    }
+}
+
+impl fmt::Display for Slip {
+    fn fmt(&self, f: &mut fmt::Formatter<'_>) -> fmt::Result {
+        writeln!(f, "side {} total {}", self.columns.len(), self.total)?;
+        for (row, (column, price)) in self.columns.iter().zip(&self.row_prices).enumerate() {
+            writeln!(f, "row {row} column {column} price {price}")?;
+        }
+        for (column, price) in self.column_prices.iter().enumerate() {
+            writeln!(f, "column {column} price {price}")?;
+        }
+        Ok(())
+    }
+}
