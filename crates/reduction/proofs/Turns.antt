@@ -1,5 +1,5 @@
 -- The runs of rule 1 and of the least values of rule 3, turn by turn, as code goes through them. Assumes nothing.
-use mathlib.Core.Path.{_≡_, sym, ap, _∙_, subst}
+use mathlib.Core.Path.{_≡_, refl, sym, ap, _∙_, subst}
 use mathlib.Core.Bool.{Bool, true, false, cond}
 use Prim.Native.Nat.{ℕ, zero, suc, _+_, _-_, _≤_, _<_}
 use native.Mathlib.Nat.{add-zero}
@@ -13,6 +13,7 @@ use Rattle.lists.proofs.Runs.{upward-none, upward-last}
 use Rattle.rules.specs.declared.Low.{Low}
 use Rattle.rules.specs.declared.TwoLowest.{TwoLowest}
 use Rattle.rules.specs.declared.TwoLowest.the-variants.{One, Two}
+use Rattle.rules.specs.declared.Least.{Least}
 use Rattle.rules.specs.declared.Least.the-variants.{NoneYet}
 use Rattle.rules.specs.Lowest.{low, beside, twoStep, twoLowest, lower, lowest, least, leastBut}
 
@@ -72,3 +73,19 @@ module _ (f : ℕ → ℤ) where
 
   pub leastBut-other : (j k : ℕ) → (k ≡ j → ⊥) → leastBut (k + 1) f j ≡ least (leastBut k f j) (f k)
   leastBut-other j k d = leastBut-more j k ∙ ap (λ (t : Bool). cond t (leastBut k f j) (least (leastBut k f j) (f k))) (ne-eqb k j d)
+
+  -- What was found stays the least past values that leave it.
+  pub leastBut-pass : (found : Least) (j k r : ℕ) → k ≤ r → found ≡ leastBut k f j → ((i : ℕ) → i < r → k ≤ i → least found (f i) ≡ found)
+      → found ≡ leastBut r f j
+  leastBut-pass found j k r l e passed = let z : k + (r - k) ≡ r = omega arith in subst (λ (m : ℕ). found ≡ leastBut m f j) z (go (r - k) (omega arith))
+    where
+      kept : (t : Bool) (x : Least) → x ≡ found → found ≡ cond t found x
+      kept true x q = refl
+      kept false x q = sym q
+      go : (d : ℕ) → k + d ≤ r → found ≡ leastBut (k + d) f j
+      go zero m = subst (λ (i : ℕ). found ≡ leastBut i f j) (sym (add-zero k)) e
+      go (suc d) m =
+          let z : k + d + 1 ≡ k + suc d = omega arith in
+          subst (λ (i : ℕ). found ≡ leastBut i f j) z
+          (kept (eqb (k + d) j) (least found (f (k + d))) (passed (k + d) (omega arith) (omega arith))
+          ∙ ap (λ (x : Least). cond (eqb (k + d) j) x (least x (f (k + d)))) (go d (omega arith)) ∙ sym (leastBut-more j (k + d)))

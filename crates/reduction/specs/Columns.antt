@@ -1,7 +1,7 @@
 -- Rule 3 as the code goes through it: what stands in the lent lists, and what each function asks.
 use mathlib.Core.Path.{_≡_}
 use mathlib.Core.List.{List, []}
-use Prim.Native.Nat.{ℕ, _+_, _<_}
+use Prim.Native.Nat.{ℕ, _+_, _≤_, _<_}
 use lib.IntN.{ℤ}
 use lib.ListN.{length}
 use Rattle.ints.specs.Parts.{Within}
@@ -12,7 +12,7 @@ use Rattle.assignment.specs.Pairings.{square, price}
 use Rattle.rules.specs.declared.Low.{Low}
 use Rattle.rules.specs.declared.Least.{Least}
 use Rattle.rules.specs.declared.Least.the-variants.{NoneYet, Of}
-use Rattle.rules.specs.Lowest.{low, lower}
+use Rattle.rules.specs.Lowest.{low, lower, least}
 use Rattle.rules.specs.Columns.{Stage, Claims, claims, Transfer, transfer, untransferred}
 use Rattle.matrix.specs.Limits.{near}
 use Rattle.reduction.specs.Ranges.{Near, Square}
@@ -32,6 +32,12 @@ pub record Claimable (n k : ℕ) (s : Claims) : Type 0 where
   pub marks-size : length (s .marks) ≡ n
   pub row-below : (j : ℕ) → j < k → at (s .rows) j < n
   pub col-below : (i : ℕ) → i < n → at (s .cols) i < n
+
+-- r is a place from `from` on, n at most, and no value of f before it changes the least that was found.
+pub record NextLeast (f : ℕ → ℤ) (found : Least) (from n r : ℕ) : Type 0 where
+  pub on : from ≤ r
+  pub most : r ≤ n
+  pub passed : (k : ℕ) → k < r → from ≤ k → least found (f k) ≡ found
 
 -- A least value that is the difference of a cost and a price that is near.
 abbrev pub NearLeast : Least → Type 0

@@ -7,14 +7,13 @@ ghost use Rattle.lists.specs.Runs.{downward};
 ghost use Rattle.lists.specs.Permutations.{at, table};
 ghost use Rattle.lists.specs.Parts.{part, replaced};
 ghost use Rattle.assignment.specs.Pairings.{price, square};
-ghost use Rattle.rules.specs.Lowest.{lower, least, leastBut};
+ghost use Rattle.rules.specs.Lowest.{least, leastBut};
 ghost use Rattle.rules.specs.Columns.{Claims, minimum, claim, claims, lessLeast, lowerColumn, transfer, columnReduction};
 ghost use Rattle.ints.specs.Parts.{Within};
 ghost use Rattle.matrix.specs.Limits.{side, near};
 ghost use Rattle.reduction.specs.Ranges.{Near, Square};
-ghost use Rattle.reduction.specs.Columns.{lowAt, claimsOf, Claimable, NearLeast, transferOf, Transferable, Transferred, transferring, stageAt, Reducible};
+ghost use Rattle.reduction.specs.Columns.{lowAt, claimsOf, Claimable, NextLeast, NearLeast, transferOf, Transferable, Transferred, transferring, stageAt, Reducible};
 use rules::Least;
-use rules::Low;
 
 // Zeros over all of a list.
 fn zero(list: &mut [u32])
@@ -39,13 +38,6 @@ fn widen(row: &[i32], v: &mut [i64])
     }
 }
 
-// A value below the lowest takes its place.
-fn lower(lowest: Low, h: Low) -> Low
-    ensures { λ r. ⌜ r ≡ lower lowest h ⌝ }
-{
-    if h.value < lowest.value { h } else { lowest }
-}
-
 // Row i beside the minima of the rows before it, in every column.
 fn lower_minima(i: usize, row: &[i32], rows: &mut [u32], v: &mut [i64])
     requires { ⌜ (i < side) × (length (now rows) ≡ length (now row)) × (length (now v) ≡ length (now row)) ⌝ }
@@ -53,19 +45,11 @@ fn lower_minima(i: usize, row: &[i32], rows: &mut [u32], v: &mut [i64])
 {
     let mut j = 0;
     while j < row.len() {
-        let so_far = Low {
-            value: v[j],
-            place: rows[j] as usize,
-        };
-        let here = Low {
-            value: row[j] as i64,
-            place: i,
-        };
-        let lowest = lower(so_far, here);
-        let value = lowest.value;
-        let place = lowest.place;
-        v[j] = value;
-        rows[j] = place as u32;
+        let cost = row[j] as i64;
+        if cost < v[j] {
+            v[j] = cost;
+            rows[j] = i as u32;
+        }
         j += 1;
     }
 }
@@ -124,6 +108,17 @@ fn least(found: Least, h: i64) -> Least
     }
 }
 
+// The first column from `from` on whose reduced cost may change the least so far.
+fn next_least(row: &[i32], v: &[i64], from: usize, found: Least) -> usize
+    requires { ⌜ (length (now v) ≡ length (now row)) × Near (length (now row)) (now v) × (from ≤ length (now row)) ⌝ }
+    ensures { λ r. ⌜ NextLeast (λ k. price (now (row .entry)) k -ℤ price (now (v .entry)) k) found from (length (now (row .entry))) r ⌝ }
+{
+    match found {
+        Least::NoneYet => from,
+        Least::Of(a) => super::lowest::next_below(row, v, from, a),
+    }
+}
+
 // The least reduced cost of a row over the columns but j.
 fn least_other(row: &[i32], v: &[i64], j: usize) -> Least
     requires { ⌜ (length (now v) ≡ length (now row)) × Near (length (now row)) (now v) ⌝ }
@@ -135,7 +130,7 @@ fn least_other(row: &[i32], v: &[i64], j: usize) -> Least
         if k != j {
             found = least(found, matrix::reduced_cost(row[k], v[k]));
         }
-        k += 1;
+        k = next_least(row, v, k + 1, found);
     }
     found
 }

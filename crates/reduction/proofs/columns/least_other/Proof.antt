@@ -2,7 +2,7 @@
 use mathlib.Core.Path.{_≡_, sym, ap, ap₂, _∙_}
 use mathlib.Core.Logic.{⊎-elim}
 use mathlib.Core.List.{List}
-use Prim.Native.Nat.{ℕ, _≤_, _-_}
+use Prim.Native.Nat.{ℕ, _+_, _-_, _≤_}
 use native.Mathlib.Omega.{arith}
 use borrow.Author.Needs.{needs}
 use lib.IntN.{ℤ, _-ℤ_}
@@ -12,7 +12,7 @@ use Rattle.ints.proofs.Bits.{read-back}
 use Rattle.assignment.specs.Pairings.{price}
 use Rattle.rules.specs.Lowest.{least, leastBut}
 use Rattle.reduction.proofs.Bits.{reduced-back}
-use Rattle.reduction.proofs.Turns.{leastBut-none, leastBut-same, leastBut-other}
+use Rattle.reduction.proofs.Turns.{leastBut-none, leastBut-same, leastBut-other, leastBut-pass}
 use Rattle.reduction.proofs.columns.least_other.Statement.{statement}
 use Rattle.reduction.proofs.columns.least_other.Tie as tie
 
@@ -50,25 +50,31 @@ reduced-cost-requires c κs =
 least-requires : tie.Need-least-requires Inv-loop μ-loop
 least-requires c κs = search needs
 
-add-k : tie.Need-add-k Inv-loop μ-loop
-add-k c = search needs
+add-next-least : tie.Need-add-next-least Inv-loop μ-loop
+add-next-least c = search needs
+
+next-least-requires : tie.Need-next-least-requires Inv-loop μ-loop
+next-least-requires c κs = let s = c .before .before .before in (s .pre .0, s .pre .1, omega (arith, c .before .loop-test .taken))
 
 loop-less : tie.Need-loop-less Inv-loop μ-loop
-loop-less c = search needs
+loop-less c = omega (arith, c .next-least .ensures .on, c .before .before .loop-test .taken)
 
 loop-again : tie.Need-loop-again Inv-loop μ-loop
 loop-again c =
-    let u = c .before .before .before .args in
-    let l = c .before .before .loop in
+    let d = c .before in
+    let u = d .before .before .before .args in
+    let l = d .before .before .loop in
     let f = at (u .row .now) (u .v .now) in
-    let k = l .k in (
-      omega arith,
-      ⊎-elim
+    let k = l .k in
+    let m = c .next-least .ensures in (
+      m .most,
+      leastBut-pass f (d .if1 .found) (u .j) (k + 1) (c .next-least .result) (m .on)
+          (⊎-elim
           (λ w. w .5 ∙ w .4 .ensures ∙ ap₂ least (l .inv .1)
           (reduced-back (price (u .row .now) k) (price (u .v .now) k) (w .3 .result) (w .1 .given) (w .2 .given) (w .3 .ok) (w .3 .ensures)) ∙ sym
           (leastBut-other f (u .j) k (w .0 .taken)))
           (λ w. w .1 ∙ l .inv .1 ∙ sym (leastBut-same f (u .j) k (w .0 .left)))
-          (c .if1 .came),
+          (d .if1 .came)) (m .passed),
     )
 
 returns : tie.Need-returns Inv-loop μ-loop
@@ -91,7 +97,8 @@ least-other-spec =
     shared-slice-copy-out-reduced-cost-2
     reduced-cost-requires
     least-requires
-    add-k
+    add-next-least
+    next-least-requires
     loop-less
     loop-again
     returns)
