@@ -1,9 +1,25 @@
--- Both ends of the 64-bit numbers as text, by computation. Assumes nothing.
+-- Both ends of the 64-bit numbers as text, and the program's output on some sheets, by computation. Assumes nothing.
 use mathlib.Core.Path.{_≡_, refl}
-use mathlib.Core.List.{List, [], _∷_, map}
+use mathlib.Core.List.{List, [], _∷_, map, flatMap}
 use Prim.Native.Nat.{ℕ, _+_}
-use lib.IntN.{negsuc}
+use lib.IntN.{pos, negsuc}
+use Rattle.lists.specs.Runs.{turns, upward, downward, until, first}
+use Rattle.lists.specs.Permutations.{table}
+use Rattle.lists.specs.Sums.{sum}
+use Rattle.matrix.specs.Limits.{K}
+use Rattle.matrix.specs.Refusals.{refuseIf, refuseAt}
+use Rattle.rules.specs.Lowest.{twoLowest, lowest, leastBut}
+use Rattle.rules.specs.Block.{block}
+use Rattle.rules.specs.Columns.{free, claims, transfers, columnReduction}
+use Rattle.rules.specs.Rows.{looks, rowReduction}
+use Rattle.rules.specs.Search.{scan, lastFree, searchBlocks, search, newPrices}
+use Rattle.rules.specs.Augmentation.{flips, augments, augmentation}
+use Rattle.rules.specs.Run.{stages, run}
+use Rattle.sheet.specs.Numbers.{bytesOf, valueOf}
+use Rattle.sheet.specs.Layout.{sheetOf, fields}
+use Rattle.sheet.specs.Reading.{sheetSide, sheetMost, tested, read}
 use Rattle.lines.specs.Decimal.{digits, decimal, signedDecimal}
+use Rattle.lines.specs.Lines.{acceptedLine, rowLine, rowLines, refusedLine, output}
 
 -- digits as text
 text : List ℕ → List ℕ
@@ -20,3 +36,26 @@ greatest = refl
 least : signedDecimal (negsuc 9223372036854775807) ≡ 45 ∷ text (9 ∷ 2 ∷ 2 ∷ 3 ∷ 3 ∷ 7 ∷ 2 ∷ 0 ∷ 3 ∷ 6 ∷ 8 ∷ 5 ∷ 4 ∷ 7 ∷ 7 ∷ 5 ∷ 8 ∷ 0 ∷ 8 ∷ [])
 unfolding digits text
 least = refl
+
+-- "The program's whole output for N8 is four lines: `accepted 3 total 1`, `0 2 0`, `1 0 0`, `2 1 1`."
+n8 : output (sheetOf [] 3 (map pos (3 ∷ 1 ∷ 0 ∷ 0 ∷ 0 ∷ 2 ∷ 4 ∷ 1 ∷ 0 ∷ [])))
+    ≡ 97 ∷ 99 ∷ 99 ∷ 101 ∷ 112 ∷ 116 ∷ 101 ∷ 100 ∷ 32 ∷ 51 ∷ 32 ∷ 116 ∷ 111 ∷ 116 ∷ 97 ∷ 108 ∷ 32 ∷ 49 ∷ 10
+    ∷ 48 ∷ 32 ∷ 50 ∷ 32 ∷ 48 ∷ 10
+    ∷ 49 ∷ 32 ∷ 48 ∷ 32 ∷ 48 ∷ 10
+    ∷ 50 ∷ 32 ∷ 49 ∷ 32 ∷ 49 ∷ 10
+    ∷ []
+unfolding digits turns upward downward until first table sum flatMap bytesOf valueOf fields refuseIf refuseAt K sheetSide sheetMost tested read acceptedLine rowLine rowLines refusedLine output twoLowest lowest leastBut block free claims transfers columnReduction looks rowReduction scan lastFree searchBlocks search newPrices flips augments augmentation stages run
+n8 = refl
+
+-- A pair that must not be made: `accepted 1 total 1000000000`, `0 0 1000000000 barred`.
+barred : output (sheetOf [] 1 (pos 1000000000 ∷ []))
+    ≡ 97 ∷ 99 ∷ 99 ∷ 101 ∷ 112 ∷ 116 ∷ 101 ∷ 100 ∷ 32 ∷ 49 ∷ 32 ∷ 116 ∷ 111 ∷ 116 ∷ 97 ∷ 108 ∷ 32 ∷ 49 ∷ 48 ∷ 48 ∷ 48 ∷ 48 ∷ 48 ∷ 48 ∷ 48 ∷ 48 ∷ 48 ∷ 10
+    ∷ 48 ∷ 32 ∷ 48 ∷ 32 ∷ 49 ∷ 48 ∷ 48 ∷ 48 ∷ 48 ∷ 48 ∷ 48 ∷ 48 ∷ 48 ∷ 48 ∷ 32 ∷ 98 ∷ 97 ∷ 114 ∷ 114 ∷ 101 ∷ 100 ∷ 10
+    ∷ []
+unfolding digits turns upward downward until first table sum flatMap bytesOf valueOf fields refuseIf refuseAt K sheetSide sheetMost tested read acceptedLine rowLine rowLines refusedLine output twoLowest lowest leastBut block free claims transfers columnReduction looks rowReduction scan lastFree searchBlocks search newPrices flips augments augmentation stages run
+barred = refl
+
+-- No bytes at all: `refused 11 place 0`.
+empty : output [] ≡ 114 ∷ 101 ∷ 102 ∷ 117 ∷ 115 ∷ 101 ∷ 100 ∷ 32 ∷ 49 ∷ 49 ∷ 32 ∷ 112 ∷ 108 ∷ 97 ∷ 99 ∷ 101 ∷ 32 ∷ 48 ∷ 10 ∷ []
+unfolding digits refuseIf refuseAt sheetMost tested read refusedLine output
+empty = refl

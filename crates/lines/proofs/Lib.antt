@@ -1,3 +1,5 @@
 pub mod Decimal
 pub mod Put
+pub mod Night
+pub mod Printed
 mod Examples

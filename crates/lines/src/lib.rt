@@ -1,10 +1,14 @@
 // The program's lines: from a sheet's bytes to the bytes that are written. What is promised is said in specs/.
 ghost use mathlib.Core.Path.{_≡_};
-ghost use mathlib.Core.List.{[], _∷_};
-ghost use Prim.Native.Nat.{_+_, _%_, _<_, _≤_};
-ghost use lib.ListN.{length};
+ghost use mathlib.Core.List.{[], _∷_, _++_};
+ghost use Prim.Native.Nat.{_+_, _*_, _%_, _<_, _≤_};
+ghost use lib.ListN.{length, take};
 ghost use Rattle.lines.specs.Decimal.{decimal, signedDecimal};
 ghost use Rattle.lines.specs.Put.{Put};
+ghost use Rattle.lines.specs.Lines.{barredMark, acceptedLine, rowLine, rowLines, refusedLine, Rows, Printed, printed};
+use matrix::Refusal;
+use sheet::State;
+use sheet::Verdict;
 
 // A byte at a position.
 fn put_byte(out: &mut [u8], place: usize, byte: u8) -> usize
@@ -60,5 +64,116 @@ fn put_signed(out: &mut [u8], place: usize, z: i64) -> usize
         put_decimal(out, next, (-1 - z) as u64 + 1)
     } else {
         put_decimal(out, place, z as u64)
+    }
+}
+
+// The mark of a barred pair: " barred" after a cost of K, nothing after any other.
+fn put_barred(out: &mut [u8], place: usize, cost: i32) -> usize
+    requires { ⌜ place + 7 ≤ length (now out) ⌝ }
+    ensures { λ r. ⌜ Put (now (out .entry)) place (barredMark cost) (now (out .exit)) r ⌝ }
+{
+    if cost as i64 == matrix::bound() {
+        put_text(out, place, b" barred")
+    } else {
+        place
+    }
+}
+
+// The line of a row.
+fn put_row(out: &mut [u8], place: usize, row: usize, column: u32, cost: i32) -> usize
+    requires { ⌜ place + 80 ≤ length (now out) ⌝ }
+    ensures { λ r. ⌜ Put (now (out .entry)) place (rowLine row column cost) (now (out .exit)) r × (r ≤ place + 80) ⌝ }
+{
+    let after_row = put_decimal(out, place, row as u64);
+    let after_blank = put_byte(out, after_row, b' ');
+    let after_column = put_decimal(out, after_blank, column as u64);
+    let after_second = put_byte(out, after_column, b' ');
+    let after_cost = put_signed(out, after_second, cost as i64);
+    let after_mark = put_barred(out, after_cost, cost);
+    put_byte(out, after_mark, b'\n')
+}
+
+// The lines of n rows.
+fn put_rows(out: &mut [u8], place: usize, n: usize, costs: &[i32], cols: &[u32]) -> usize
+    requires { ⌜ Rows n (now costs) (now cols) (place + 80 * n) (now out) ⌝ }
+    ensures { λ r. ⌜ Put (now (out .entry)) place (rowLines n (now (costs .entry)) (now (cols .entry)) n) (now (out .exit)) r × (r ≤ place + 80 * n) ⌝ }
+{
+    let mut next = place;
+    let mut start = 0;
+    let mut i = 0;
+    while i < n {
+        let at = start + cols[i] as usize;
+        next = put_row(out, next, i, cols[i], costs[at]);
+        start += n;
+        i += 1;
+    }
+    next
+}
+
+// The line of a sheet that is accepted.
+fn put_accepted(out: &mut [u8], side: usize, total: i64) -> usize
+    requires { ⌜ 80 ≤ length (now out) ⌝ }
+    ensures { λ r. ⌜ Put (now (out .entry)) 0 (acceptedLine side total) (now (out .exit)) r × (r ≤ 80) ⌝ }
+{
+    let after_word = put_text(out, 0, b"accepted ");
+    let after_side = put_decimal(out, after_word, side as u64);
+    let after_total = put_text(out, after_side, b" total ");
+    let after_number = put_signed(out, after_total, total);
+    put_byte(out, after_number, b'\n')
+}
+
+// The line of a refusal.
+fn put_refused(out: &mut [u8], refusal: Refusal) -> usize
+    requires { ⌜ 80 ≤ length (now out) ⌝ }
+    ensures { λ r. ⌜ Put (now (out .entry)) 0 (refusedLine refusal) (now (out .exit)) r × (r ≤ 80) ⌝ }
+{
+    let after_word = put_text(out, 0, b"refused ");
+    let after_number = put_decimal(out, after_word, matrix::number(refusal));
+    let after_place = put_text(out, after_number, b" place ");
+    let after_both = put_decimal(out, after_place, matrix::place(refusal) as u64);
+    put_byte(out, after_both, b'\n')
+}
+
+// The lines of n rows, from the first entries of the arrays.
+fn put_arrays(
+    out: &mut [u8],
+    place: usize,
+    n: usize,
+    costs: &[i32; 4096],
+    cols: &[u32; 64],
+) -> usize
+    requires { ⌜ (n ≤ 64) × Rows n (take (n * n) (now costs)) (take n (now cols)) (place + 80 * n) (now out) ⌝ }
+    ensures { λ r. ⌜ Put (now (out .entry)) place (rowLines n (take (n * n) (now (costs .entry))) (take n (now (cols .entry))) n) (now (out .exit)) r × (r ≤ place + 80 * n) ⌝ }
+{
+    let count = n * n;
+    let all_costs: &[i32] = costs;
+    let all_cols: &[u32] = cols;
+    put_rows(out, place, n, &all_costs[0..count], &all_cols[0..n])
+}
+
+// The lines of a night that is settled.
+fn put_night(out: &mut [u8], n: usize, total: i64, state: State) -> usize
+    requires { ⌜ (n ≤ 64) × Rows n (take (n * n) (state .costs)) (take n (state .cols)) (80 + 80 * n) (now out) ⌝ }
+    ensures { λ r. ⌜ Put (now (out .entry)) 0 (acceptedLine n total ++ rowLines n (take (n * n) (state .costs)) (take n (state .cols)) n) (now (out .exit)) r × (r ≤ 80 + 80 * n) ⌝ }
+{
+    let costs = state.costs;
+    let cols = state.cols;
+    let place = put_accepted(out, n, total);
+    put_arrays(out, place, n, &costs, &cols)
+}
+
+// The program's whole output of a sheet, at the front of the room; how many bytes it is.
+pub fn print(sheet: &[u8], out: &mut [u8; 8192]) -> usize
+    ensures { λ r. ⌜ _≡_ {A = Printed} (record { count = r; room = now (out .exit) }) (printed (now (sheet .entry)) (now (out .entry))) ⌝ }
+{
+    let room: &mut [u8] = out;
+    let settled = sheet::settle(sheet, 1172);
+    let verdict = settled.verdict;
+    match verdict {
+        Verdict::Refused(refusal) => put_refused(room, refusal),
+        Verdict::Paired(n, total) => {
+            let state = settled.state;
+            put_night(room, n, total, state)
+        }
     }
 }

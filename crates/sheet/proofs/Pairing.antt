@@ -1,31 +1,39 @@
 -- From what is settled of a sheet to what the front desk gets and finds: places are small, a night's slip fits its room, and what stands at the
 -- front of the arrays is the answer. Assumes nothing.
 use mathlib.Core.Path.{_≡_, refl, sym, ap, _∙_}
+use mathlib.Core.Bool.{Bool}
 use mathlib.Core.List.{List, _++_}
-use Prim.Native.Nat.{ℕ, _*_, _^_, _≤_, _<_}
+use Prim.Native.Nat.{ℕ, _*_, _-_, _^_, _≤_, _<_}
 use native.Mathlib.Nat.{mul-le-mul}
 use native.Mathlib.Omega.{arith}
-use lib.Dec.{lit<}
+use borrow.Author.Tests.{ltb-true, ltb-false}
+use lib.Dec.{lit<, ltb}
 use lib.IntN.{ℤ, pos}
 use lib.ListN.{length, take, drop, length-append, length-drop}
 use lib.Seq.{take-at}
+use Rattle.ints.specs.Parts.{Within}
+use Rattle.lists.specs.Runs.{first}
+use Rattle.lists.proofs.Runs.{first-before}
 use Rattle.assignment.specs.Pairings.{price}
 use Rattle.matrix.specs.Limits.{K}
-use Rattle.matrix.specs.Refusals.{placeOf, codeOf, outside}
+use Rattle.matrix.specs.Refusals.{placeOf, codeOf, refuseAt, outside}
 use Rattle.matrix.specs.declared.Refusal.{Refusal}
 use Rattle.matrix.specs.declared.Refusal.the-variants.{CostOutside}
-use Rattle.matrix.proofs.Refusals.{refuseIf-all, refuseAt-all}
+use Rattle.matrix.proofs.Bounds.{outside-within}
+use Rattle.matrix.proofs.Refusals.{refuseIf-all}
 use Rattle.rules.specs.Run.{run}
 use Rattle.sheet.specs.declared.Tested.{Tested}
 use Rattle.sheet.specs.declared.Tested.the-variants as tests
 use Rattle.sheet.specs.declared.State.{State}
 use Rattle.sheet.specs.declared.Verdict.the-variants.{Paired, Refused}
 use Rattle.sheet.specs.declared.Settled.{Settled}
+use Rattle.sheet.specs.Numbers.{signedValue}
 use Rattle.sheet.specs.Layout.{slipOf, slipLength}
-use Rattle.sheet.specs.Reading.{costsOf, tested, Read, refused, night, readAfter, read}
+use Rattle.sheet.specs.Reading.{sheetSide, costsOf, tested, Read, refused, night, readAfter, read}
 use Rattle.sheet.specs.Settle.{fresh, settledAs, Outcome, pairedAs}
 use Rattle.sheet.proofs.Limits.{sheetSide-small}
-use Rattle.sheet.proofs.Passing.{tested-passed}
+use Rattle.sheet.proofs.Fields.{length-fields}
+use Rattle.sheet.proofs.Passing.{tested-passed, costs-found}
 
 -- ---- what was read
 
@@ -43,13 +51,21 @@ tested-small room sheet =
     (λ e. refuseIf-all Small _ _ _ (λ e. lit< tt)
     (λ e. refuseIf-all Small _ _ _ (λ e. lit< tt) (λ e. refuseIf-all Small _ _ _ (λ e. lit< tt) (λ e. refuseIf-all Small _ _ _ (λ e. lit< tt) (λ e. tt)))))))
 
--- A refusal's place is small; a night is one for which state and room are large enough.
+-- What is known of a night that was read: state and room are large enough, and its costs are a square of costs in -K..K.
+pub record Readable (room n : ℕ) (costs : List ℤ) : Type 0 where
+  pub small : n ≤ sheetSide
+  pub few : n ≤ 64
+  pub roomy : slipLength n ≤ room
+  pub squared : length costs ≡ n * n
+  pub within : (k : ℕ) → k < length costs → Within K (price costs k)
+
+-- A refusal's place is small.
 abbrev pub Right : ℕ → Read → Type 0
 Right room (refused refusal) = placeOf refusal < 2 ^ 48
-Right room (night n costs) = (n ≤ 64) × (slipLength n ≤ room)
+Right room (night n costs) = Readable room n costs
 
 pub read-right : (room : ℕ) (sheet : List ℕ) → Right room (read room sheet)
-unfolding read
+unfolding read refuseAt
 read-right room sheet = by (tested room sheet) refl (tested-small room sheet)
   where
     by : (t : Tested) → tested room sheet ≡ t → Small t → Right room (readAfter sheet t)
@@ -57,8 +73,18 @@ read-right room sheet = by (tested room sheet) refl (tested-small room sheet)
     by (tests.Side n) e small =
         let p = tested-passed room sheet n e in
         let few : n ≤ 64 = omega (arith, p .small, sheetSide-small) in
-        refuseAt-all (Right room) (n * n) (λ k. outside (pos K) (price (costsOf sheet) k)) (λ k. refused (CostOutside k)) (night n (costsOf sheet))
-        (λ k l. omega (arith, mul-le-mul few few)) (few, p .roomy)
+        let costs = costsOf sheet in
+        let far : ℕ → Bool = λ k. outside (pos K) (price costs k) in
+        let size : length costs ≡ n * n = ap length (costs-found room sheet n p) ∙ length-fields (signedValue 4) (length sheet - 12 - 4 * (n * n)) 4 (n * n) sheet in
+        refuseIf-all (Right room) (ltb (first (n * n) far) (n * n)) (refused (CostOutside (first (n * n) far))) (night n costs)
+        (λ t. omega (arith, ltb-true (first (n * n) far) (n * n) t, mul-le-mul few few))
+        (λ t. record {
+          small = p .small;
+          few = few;
+          roomy = p .roomy;
+          squared = size;
+          within = λ k l. outside-within K (price costs k) .0 (first-before far (n * n) k (omega (arith, ltb-false (first (n * n) far) (n * n) t)));
+        })
 
 -- ---- what is settled
 
@@ -93,10 +119,10 @@ module _ (room : List ℕ) (s : Settled) where
       let d = ap (λ (t : Settled). t .state) e in
       let side : n ≡ m = cc (ap (λ (t : Settled). t .verdict) e) in
       let sum : total ≡ a .total = cc (ap (λ (t : Settled). t .verdict) e) in
-      let cols = front (a .cols) (fresh .cols) m refl (sym (ap (λ (t : State). length (t .cols)) d) ∙ sized .cols-size) (right .0) in
-      let rows = front (a .rowPrices) (fresh .«row_prices») m refl (sym (ap (λ (t : State). length (t .«row_prices»)) d) ∙ sized .row-prices-size) (right .0) in
-      let columns = front (a .columnPrices) (fresh .«col_prices») m refl (sym (ap (λ (t : State). length (t .«col_prices»)) d) ∙ sized .column-prices-size) (right .0) in (
-        omega (arith, right .0),
-        omega (arith, right .1),
+      let cols = front (a .cols) (fresh .cols) m refl (sym (ap (λ (t : State). length (t .cols)) d) ∙ sized .cols-size) (right .few) in
+      let rows = front (a .rowPrices) (fresh .«row_prices») m refl (sym (ap (λ (t : State). length (t .«row_prices»)) d) ∙ sized .row-prices-size) (right .few) in
+      let columns = front (a .columnPrices) (fresh .«col_prices») m refl (sym (ap (λ (t : State). length (t .«col_prices»)) d) ∙ sized .column-prices-size) (right .few) in (
+        omega (arith, right .few),
+        omega (arith, right .roomy),
         rw (side, sum, d, cols, rows, columns),
       )

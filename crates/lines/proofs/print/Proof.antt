@@ -1,0 +1,89 @@
+-- `print` writes the lines of what is settled of the sheet, at the front of the room. Assumes nothing.
+use mathlib.Core.Path.{_≡_, refl, ap, ap₂, _∙_}
+use mathlib.Core.List.{List, _++_}
+use Prim.Native.Nat.{ℕ, _*_, _≤_}
+use native.Mathlib.Nat.{zero-add}
+use native.Mathlib.Omega.{arith}
+use borrow.Author.Needs.{needs}
+use lib.IntN.{ℤ}
+use lib.ListN.{length, take}
+use mir.Syntax.{w64}
+use Rattle.ints.proofs.Bits.{read-back}
+use Rattle.sheet.specs.Reading.{sheetSide, Read, read}
+use Rattle.sheet.specs.Settle.{settledAs, settled}
+use Rattle.sheet.proofs.Stores.{sets-front}
+use Rattle.sheet.proofs.Pairing.{read-right}
+use Rattle.lines.specs.Put.{Put}
+use Rattle.lines.specs.Lines.{acceptedLine, rowLines, linesAs, output, Printed, printed}
+use Rattle.lines.proofs.Put.{put-as}
+use Rattle.lines.proofs.Night.{refused-lines, Ready, night-lines}
+use Rattle.lines.proofs.print.Statement.{statement}
+use Rattle.lines.proofs.print.Tie as tie
+
+-- what stands at the front of the room is what was printed
+printed-as : (sheet out : List ℕ) {after : List ℕ} {r : ℕ} → Put out 0 (output sheet) after r → r ≤ length out
+    → _≡_ {A = Printed} (record { count = r; room = after }) (printed sheet out)
+unfolding printed
+printed-as sheet out p h =
+    let count : _ ≡ length (output sheet) = p .past ∙ zero-add (length (output sheet)) in
+    ap₂ (λ (n : ℕ) (l : List ℕ). record { count = n; room = l }) count (p .stored ∙ sets-front (output sheet) out (length (output sheet)) refl (omega arith))
+
+-- the sheet as it was read, for a slip room that is long enough for every side
+abbrev reading : List ℕ → Read
+reading sheet = read 1172 sheet
+
+output-as : (sheet : List ℕ) → linesAs (reading sheet) ≡ output sheet
+unfolding output sheetSide
+output-as sheet = refl
+
+settled-as : (c : tie.After-settle) → c .settle .result ≡ settledAs (reading (c .before .before .before .args .sheet .now))
+unfolding settled
+settled-as c = c .settle .ensures
+
+ready : (c : tie.After-verdict2) → Ready 1172 (c .before .before .settle .result) (c .verdict2 .given .0 .0) (c .verdict2 .given .0 .1 .0) (c .before .before .before .before .before .args .out .now) (linesAs (reading (c .before .before .before .before .before .args .sheet .now)))
+ready c =
+    let s = c .before .before in
+    let u = s .before .before .before .args in
+    let v = c .verdict2 .given in
+    night-lines 1172 (s .settle .result) (reading (u .sheet .now)) (read-right 1172 (u .sheet .now)) (settled-as s) (v .0 .0) (v .0 .1 .0) (v .1) (u .out .now) (omega (arith, s .before .room .given .0))
+
+settle-requires : tie.Need-settle-requires
+settle-requires c κs = search needs
+
+enum-known-verdict : tie.Need-enum-known-verdict
+enum-known-verdict c = search needs
+
+put-refused-requires : tie.Need-put-refused-requires
+put-refused-requires c κs = search needs
+
+enum-known-verdict-2 : tie.Need-enum-known-verdict-2
+enum-known-verdict-2 c = search needs
+
+put-night-requires : tie.Need-put-night-requires
+put-night-requires c κs = (ready (c .before .before) .few, ready (c .before .before) .rows)
+
+returns : tie.Need-returns
+returns c =
+    let s = c .before .before .before .before in
+    let u = s .before .before .before .args in
+    let v = c .before .before .verdict .given in
+    let lines = refused-lines 1172 (s .settle .result) (reading (u .sheet .now)) (settled-as s) (v .0 .0) (v .1) in
+    printed-as (u .sheet .now) (u .out .now) (put-as (lines ∙ output-as (u .sheet .now)) (c .put-refused .ensures .0)) (omega (arith, c .put-refused .ensures .1, s .before .room .given .0))
+
+returns-2 : tie.Need-returns-2
+returns-2 c =
+    let k = c .before .before in
+    let v = k .before .verdict2 .given in
+    let s = k .before .before .before in
+    let u = s .before .before .before .args in
+    let r = ready (k .before) in
+    let n = v .0 .0 in
+    let state = s .settle .result .state in
+    let total = read-back w64 (v .0 .1 .0) (k .known-told2 .given .1 .0 .1) in
+    let lines = ap (λ (t : ℤ). acceptedLine n t ++ rowLines n (take (n * n) (state .costs)) (take n (state .cols)) n) total ∙ r .same ∙ output-as (u .sheet .now) in
+    printed-as (u .sheet .now) (u .out .now) (put-as lines (c .put-night .ensures .0)) (omega (arith, c .put-night .ensures .1, r .few, s .before .room .given .0))
+
+pub print-spec : {M : Type 1} → statement M
+print-spec =
+    tie.close
+    (tie.spec settle-requires enum-known-verdict put-refused-requires enum-known-verdict-2 put-night-requires returns returns-2)
