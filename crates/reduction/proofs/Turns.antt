@@ -82,6 +82,7 @@ module _ (f : ℕ → ℤ) where
       kept : (t : Bool) (x : Least) → x ≡ found → found ≡ cond t found x
       kept true x q = refl
       kept false x q = sym q
+
       go : (d : ℕ) → k + d ≤ r → found ≡ leastBut (k + d) f j
       go zero m = subst (λ (i : ℕ). found ≡ leastBut i f j) (sym (add-zero k)) e
       go (suc d) m =

@@ -109,12 +109,12 @@ loop-again c =
     let wide = read-wide (price (u .row .now) j) (d .before .cost .given) in
     let tested = ap₂ ltZ wide (read-back w64 (price (l .v) j) (d .if12 .given) ∙ same-price (u .i) j (u .row .now) (u .v .now) (l .v) (u .rows .now) here (l .inv .3 .1)) in
     let next : Filled (u .i) (j + 1) (u .row .now) (u .v .now) (c .if1 .v) (u .rows .now) (c .if1 .rows) =
-        ⊎-elim
-        (λ w. lowered (u .i) j (u .row .now) (u .v .now) (l .v) (c .if1 .v) (u .rows .now) (l .rows) (c .if1 .rows) here there (l .inv .3 .0) (l .inv .3 .1)
-        (sym tested ∙ w .0 .taken) (w .1) (w .2 ∙ ap (set (l .v) j) wide))
-        (λ w. kept (u .i) j (u .row .now) (u .v .now) (l .v) (c .if1 .v) (u .rows .now) (l .rows) (c .if1 .rows) here there (l .inv .3 .0) (l .inv .3 .1)
-        (sym tested ∙ w .0 .left) (w .1) (w .2))
-        (c .if1 .came) in (
+    ⊎-elim
+    (λ w. lowered (u .i) j (u .row .now) (u .v .now) (l .v) (c .if1 .v) (u .rows .now) (l .rows) (c .if1 .rows) here there (l .inv .3 .0) (l .inv .3 .1)
+    (sym tested ∙ w .0 .taken) (w .1) (w .2 ∙ ap (set (l .v) j) wide))
+    (λ w. kept (u .i) j (u .row .now) (u .v .now) (l .v) (c .if1 .v) (u .rows .now) (l .rows) (c .if1 .rows) here there (l .inv .3 .0) (l .inv .3 .1)
+    (sym tested ∙ w .0 .left) (w .1) (w .2))
+    (c .if1 .came) in (
       ap length (next .0) ∙ filled-length (j + 1) (λ k. f k .place) (u .rows .now) (omega arith) ∙ s .pre .1,
       ap length (next .1) ∙ filled-length (j + 1) (λ k. f k .value) (u .v .now) (omega arith) ∙ s .pre .2,
       omega (arith, more),

@@ -70,7 +70,7 @@ returns c =
       passed = λ k h m. bounded (at (u .row .now) (u .v .now) k) (a .before .fits .bound) (l .inv .2 k h m);
       below = λ m.
           bounded (at (u .row .now) (u .v .now) (l .j)) (a .before .fits .bound) (tested (price (u .row .now) (l .j)) (price (u .v .now) (l .j)) (r .reduced-cost .result) (toZ w64 (ofZ w64 (u .bound))) true (r .before .before .reduced-cost-arg .given)
-          (r .before .reduced-cost-arg2 .given) (r .reduced-cost .ok) (r .reduced-cost .ensures) (c .if1 .taken))
+          (r .before .reduced-cost-arg2 .given) (r .reduced-cost .ok) (r .reduced-cost .ensures) (c .if1 .taken));
     }
 
 add-j : tie.Need-add-j Inv-loop μ-loop
