@@ -3,6 +3,10 @@
 // Every number of the input has 4 bytes, the lowest first. The first says how many nights follow. Of each: the side; how many costs are
 // lent; how many of these are given, which those behind repeat; the costs given; a place, and the cost that stands there if it is lent;
 // how many entries are lent of each output, of the indices and of the numbers.
+//
+// The line of a paired night has columns by row, rows by column, column prices, row prices, the total, the five counts, "kept" where
+// everything that the solver has to leave is left and its rooms are cleared, and the checker's total. That of a refused one has "refused",
+// number, place, and "kept" as well.
 mod kept;
 mod read;
 mod say;
@@ -23,8 +27,8 @@ fn line(
 ) {
     match solved {
         Solved::Paired(night) => {
-            say::paired(night);
             say::lists(n, cols, rows, us, vs);
+            say::sums(night);
             say::kept(kept::behind(n, cols, rows, us, vs, indices, numbers));
             say::checked(checker::check(n, costs, cols, rows, us, vs));
         }
@@ -82,9 +86,9 @@ fn roomed(n: usize, costs: &[i32]) {
 // The side and the costs.
 fn night(costs: &mut [i32]) {
     let n = read::number() as usize;
-    let c = read::length(costs.len());
-    read::costs(&mut costs[0..c]);
-    roomed(n, &costs[0..c]);
+    let lent = read::part(costs);
+    read::costs(lent);
+    roomed(n, lent);
     io::write_all(1, b"\n");
 }
 

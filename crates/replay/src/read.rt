@@ -31,6 +31,11 @@ pub fn length(most: usize) -> usize
 }
 
 // The part that is lent.
+pub fn part(costs: &mut [i32]) -> &mut [i32] {
+    let lent = length(costs.len());
+    &mut costs[0..lent]
+}
+
 pub fn indices(s: &mut [u32]) -> &mut [u32] {
     let lent = length(s.len());
     &mut s[0..lent]

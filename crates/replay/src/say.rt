@@ -3,6 +3,11 @@ use lapjv::Night;
 use matrix::Answer;
 use matrix::Refusal;
 
+// A part's end.
+fn end() {
+    io::write_all(1, b";");
+}
+
 fn number(x: u64) {
     io::write_all(1, b" ");
     io::print_decimal(1, x);
@@ -26,69 +31,64 @@ fn signed(x: i64) {
 }
 
 // The first n entries of a list.
-fn indices(name: &[u8], s: &[u32], n: usize) {
-    io::write_all(1, name);
-    let end = crate::read::least(n, s.len());
+fn indices(s: &[u32], n: usize) {
+    let last = crate::read::least(n, s.len());
     let mut k = 0;
-    while k < end {
+    while k < last {
         index(s[k]);
         k += 1;
     }
+    end();
 }
 
-fn prices(name: &[u8], s: &[i64], n: usize) {
-    io::write_all(1, name);
-    let end = crate::read::least(n, s.len());
+fn prices(s: &[i64], n: usize) {
+    let last = crate::read::least(n, s.len());
     let mut k = 0;
-    while k < end {
+    while k < last {
         signed(s[k]);
         k += 1;
     }
+    end();
 }
 
 pub fn lists(n: usize, cols: &[u32], rows: &[u32], us: &[i64], vs: &[i64]) {
-    indices(b" columns", cols, n);
-    indices(b" rows", rows, n);
-    prices(b" u", us, n);
-    prices(b" v", vs, n);
+    indices(cols, n);
+    indices(rows, n);
+    prices(vs, n);
+    prices(us, n);
 }
 
-pub fn paired(night: Night) {
-    io::write_all(1, b"total");
+pub fn sums(night: Night) {
     signed(night.total);
+    end();
     let counts = night.counts;
-    io::write_all(1, b" counts");
     number(counts.free_rows as u64);
     number(counts.looks_one as u64);
     number(counts.looks_two as u64);
     number(counts.rows_left as u64);
     number(counts.columns_scanned as u64);
+    end();
 }
 
 pub fn refused(refusal: Refusal) {
-    io::write_all(1, b"refused");
+    io::write_all(1, b" refused");
     number(matrix::number(refusal));
-    io::write_all(1, b" place");
     number(matrix::place(refusal) as u64);
+    end();
 }
 
-// Whether everything that the solver has to leave is left.
 pub fn kept(held: bool) {
     if held {
-        io::write_all(1, b" kept");
-    } else {
-        io::write_all(1, b" touched");
+        io::write_all(1, b" kept;");
     }
 }
 
 pub fn checked(answer: Answer) {
     match answer {
         Answer::Total(total) => {
-            io::write_all(1, b" checked");
             signed(total);
         }
         Answer::Refused(refusal) => {
-            io::write_all(1, b" unchecked ");
             refused(refusal);
         }
     }

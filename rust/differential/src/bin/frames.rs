@@ -86,12 +86,10 @@ fn words<T: Display>(entries: &[T]) -> String {
     entries.iter().map(T::to_string).collect::<Vec<_>>().join(" ")
 }
 
-/// The line of a paired night: total, counts, columns, rows, row prices and column prices, each as text.
+/// The line of a paired night, from the list's parts as text: columns, rows, v, row prices, total, counts.
 fn paired(parts: [&str; 6]) -> String {
-    let names = ["total", "counts", "columns", "rows", "u", "v", "kept checked"];
-    let said = names.iter().zip(parts.iter().chain([&parts[0]]));
-    let said: Vec<String> = said.map(|(name, part)| format!("{name} {part}").trim_end().to_string()).collect();
-    said.join(" ")
+    let parts = parts.map(|part| part.split_whitespace().fold(String::new(), |line, word| line + " " + word));
+    format!("{}; kept; {}", parts.join(";"), parts[4].trim())
 }
 
 /// The line of a night that is paired by the rules and, where it is at hand, the crate.
@@ -99,7 +97,7 @@ fn by_rules(night: &Night) -> Result<String, String> {
     let answer = checks::night(night.n, &night.lent())?;
     let (u, v) = (words(&answer.row_prices), words(&answer.column_prices));
     let (columns, rows) = (words(&answer.columns), words(&answer.rows));
-    Ok(paired([&answer.total.to_string(), &words(&answer.counts.five()), &columns, &rows, &u, &v]))
+    Ok(paired([&columns, &rows, &v, &u, &answer.total.to_string(), &words(&answer.counts.five())]))
 }
 
 /// The nights so far, and their lines.
@@ -133,7 +131,7 @@ impl Replay {
     fn decided(&mut self, night: &Night) -> Result<(), String> {
         let line = match refusals::solver(night.n, &night.lent(), night.lists, night.rooms) {
             Ok(()) => by_rules(night)?,
-            Err((number, place)) => format!("refused {number} place {place} kept"),
+            Err((number, place)) => format!(" refused {number} {place}; kept;"),
         };
         self.add(night, &line);
         Ok(())
@@ -154,7 +152,7 @@ fn on_paper(replay: &mut Replay) -> Result<(), String> {
             (0..n).filter_map(|j| night.columns.iter().position(|&column| column == j)).collect();
         let (total, counts) = (night.total.to_string(), words(&night.counts));
         let (columns, rows) = (words(night.columns), words(&rows));
-        let line = paired([&total, &counts, &columns, &rows, &words(night.u), &words(night.v)]);
+        let line = paired([&columns, &rows, &words(night.v), &words(night.u), &total, &counts]);
         for more in 0..3 {
             let lent = Night::new(n, night.costs);
             replay.known(&if more == 0 { lent } else { lent.longer(more) }, &line)?;
@@ -176,7 +174,7 @@ fn listed(replay: &mut Replay, list: &str) -> Result<(), String> {
         let costs = costs.filter(|costs| costs.len() == n * n).ok_or_else(|| format!("not n*n costs: {line}"))?;
         let lent = Night::new(n, &costs);
         let lent = if at % 2 == 0 { lent } else { lent.longer(at) };
-        replay.known(&lent, &paired([total, counts, columns, rows, u, v]))?;
+        replay.known(&lent, &paired([columns, rows, v, u, total, counts]))?;
     }
     replay.kind("of the list of the crate's answers");
     Ok(())
