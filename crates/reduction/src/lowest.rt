@@ -1,9 +1,10 @@
 // Rule 1, the two lowest.
 ghost use mathlib.Core.Path.{_≡_};
 ghost use lib.IntN.{_-ℤ_};
+ghost use lib.Signed.{ltZ};
 ghost use lib.ListN.{length};
 ghost use Rattle.assignment.specs.Pairings.{price};
-ghost use Prim.Native.Nat.{_≤_};
+ghost use Prim.Native.Nat.{_≤_, _<_};
 ghost use Rattle.rules.specs.declared.TwoLowest.the-variants.{Two};
 ghost use Rattle.rules.specs.Lowest.{beside, twoLowest};
 ghost use Rattle.reduction.specs.Ranges.{Near, Priced, NextBelow};
@@ -16,14 +17,37 @@ struct Pair {
     second: Low,
 }
 
-// The first column from `from` on whose reduced cost is below a bound; the length where there is none.
+// Whether the reduced cost of column j is below a bound.
+fn below(row: &[i32], v: &[i64], j: usize, bound: i64) -> bool
+    requires { ⌜ (length (now v) ≡ length (now row)) × Near (length (now row)) (now v) × (j < length (now row)) ⌝ }
+    ensures { λ r. ⌜ r ≡ ltZ (price (now (row .entry)) j -ℤ price (now (v .entry)) j) bound ⌝ }
+{
+    matrix::reduced_cost(row[j], v[j]) < bound
+}
+
+// The first column from `from` on whose reduced cost is below a bound; the length where there is none. Four columns a turn while there are four.
 pub fn next_below(row: &[i32], v: &[i64], from: usize, bound: i64) -> usize
     requires { ⌜ (length (now v) ≡ length (now row)) × Near (length (now row)) (now v) × (from ≤ length (now row)) ⌝ }
     ensures { λ r. ⌜ NextBelow (λ j. price (now (row .entry)) j -ℤ price (now (v .entry)) j) bound from (length (now (row .entry))) r ⌝ }
 {
     let mut j = from;
+    while 4 <= row.len() - j {
+        if below(row, v, j, bound) {
+            return j;
+        }
+        if below(row, v, j + 1, bound) {
+            return j + 1;
+        }
+        if below(row, v, j + 2, bound) {
+            return j + 2;
+        }
+        if below(row, v, j + 3, bound) {
+            return j + 3;
+        }
+        j += 4;
+    }
     while j < row.len() {
-        if matrix::reduced_cost(row[j], v[j]) < bound {
+        if below(row, v, j, bound) {
             return j;
         }
         j += 1;
