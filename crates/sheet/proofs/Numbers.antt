@@ -14,7 +14,7 @@ use Rattle.sheet.specs.Numbers.{bytesOf, valueOf, wrapped, unwrapped, si
 pub length-bytesOf : (k x : ℕ) → length (bytesOf k x) ≡ k
 unfolding bytesOf
 length-bytesOf zero x = refl
-length-bytesOf (suc k) x = ap suc (length-bytesOf k (x / 256))
+length-bytesOf (suc k) x = ap suc (length-bytesOf k _)
 
 -- A number that fits k bytes is what its k bytes stand for.
 pub value-bytesOf : (k x : ℕ) → x < 256 ^ k → valueOf (bytesOf k x) ≡ x
