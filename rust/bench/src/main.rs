@@ -1,22 +1,24 @@
 //! Times the crate lapjv 0.3.0 on f64, the archive on the same matrices and the archive's checker on what it paired,
-//! in one process and in turn, and writes the medians and their ratios as a table.
+//! in one process and in turn, and writes the medians and their ratios as a table; then sheets of side 64.
 //!
 //!     bench [--seed S] [--matrices M] [--rounds R] [--largest N]
 //!
 //! M matrices of each kind and side (3) are solved R times each (5), by the crate and by the archive in turn, after
-//! one round that is not counted; sides over N (1,024) are left out.
+//! one round that is not counted; sides over N (1,024) are left out. layouts.sh runs it in several layouts.
 //!
 //! What is timed: the crate's `lapjv` on a matrix of f64 that is made beforehand; the archive's solver on a slice
 //! of i32, into lists that are allocated once for each matrix beforehand. Nobody clears those lists between runs;
 //! that the archive sets its work room to 0 before it returns is part of its time, as the crate's own allocations
 //! are part of the crate's.
 
+mod sheets;
+
 use std::process::ExitCode;
 use std::time::{Duration, Instant};
 
 use bristlefrost::Lent;
 use differential::nights::Random;
-use differential::oracle;
+use differential::{command, oracle};
 
 const K: i64 = 1_000_000_000;
 
@@ -33,29 +35,37 @@ const KINDS: [Kind; 5] = [
 
 const SIDES: [usize; 4] = [64, 256, 512, 1024];
 
+// What is linked behind this lies BENCH_SHIFT bytes further on (build.rs).
+std::arch::global_asm!(concat!(".globl bench_shift\nbench_shift:\n.space ", env!("BENCH_SHIFT")));
+
+extern "C" {
+    fn bench_shift();
+}
+
 /// What the command line sets.
 struct Settings {
     seed: u64,
-    matrices: usize,
-    rounds: usize,
-    largest: usize,
+    matrices: u64,
+    rounds: u64,
+    largest: u64,
 }
 
 fn settings() -> Result<Settings, String> {
     let mut settings = Settings { seed: 1, matrices: 3, rounds: 5, largest: 1024 };
-    let mut arguments = std::env::args().skip(1);
-    while let Some(name) = arguments.next() {
-        let value = arguments.next().and_then(|value| value.parse::<u64>().ok());
-        let value = value.ok_or_else(|| format!("{name} wants a number"))?;
-        match name.as_str() {
-            "--seed" => settings.seed = value,
-            "--matrices" => settings.matrices = (value as usize).max(1),
-            "--rounds" => settings.rounds = (value as usize).max(1),
-            "--largest" => settings.largest = value as usize,
-            _ => return Err(format!("unknown: {name}")),
-        }
-    }
+    command::numbers(&mut [
+        ("--seed", &mut settings.seed),
+        ("--matrices", &mut settings.matrices),
+        ("--rounds", &mut settings.rounds),
+        ("--largest", &mut settings.largest),
+    ])?;
+    settings.matrices = settings.matrices.max(1);
+    settings.rounds = settings.rounds.max(1);
     Ok(settings)
+}
+
+/// The costs of one matrix of a kind.
+fn costs((_, cost): &Kind, random: &mut Random, n: usize) -> Vec<i32> {
+    (0..n * n).map(|place| cost(random, place / n, place % n) as i32).collect()
 }
 
 /// One matrix for both, with the lists that the archive is lent.
@@ -126,11 +136,10 @@ fn milliseconds(time: Duration) -> f64 {
 
 /// Times one kind at one side and answers the table's line.
 fn line(settings: &Settings, random: &mut Random, kind: &Kind, n: usize) -> Result<String, String> {
-    let (name, cost) = kind;
+    let name = kind.0;
     let (mut crates, mut archives, mut checkers) = (Vec::new(), Vec::new(), Vec::new());
     for _ in 0..settings.matrices {
-        let costs = (0..n * n).map(|place| cost(random, place / n, place % n) as i32).collect();
-        let mut matrix = Matrix::new(n, costs);
+        let mut matrix = Matrix::new(n, costs(kind, random, n));
         for round in 0..=settings.rounds {
             let (crate_time, pairing) = matrix.by_crate();
             let (archive_time, total) = matrix.by_archive();
@@ -172,15 +181,16 @@ fn run() -> Result<(), String> {
     println!("| costs | side | crate, f64 | archive | archive / crate | checker | checker / crate |");
     println!("|---|---|---|---|---|---|---|");
     let mut random = Random::new(settings.seed);
-    for n in SIDES.into_iter().filter(|&n| n <= settings.largest) {
+    for n in SIDES.into_iter().filter(|&n| n as u64 <= settings.largest) {
         for kind in &KINDS {
             println!("{}", line(&settings, &mut random, kind, n)?);
         }
     }
-    Ok(())
+    sheets::table(&settings, &mut random)
 }
 
 fn main() -> ExitCode {
+    std::hint::black_box(bench_shift as *const ());
     match run() {
         Ok(()) => ExitCode::SUCCESS,
         Err(failure) => {

@@ -22,11 +22,17 @@
 //! assert_eq!(refused, Err(bristlefrost::Refusal::PricesUnderCost { row: 0 }));
 //! # Ok::<(), bristlefrost::Refusal>(())
 //! ```
+//!
+//! The same on paper: a [`Sheet`] is built from costs or from a table of numbers, [`pair`] answers its [`Slip`], and
+//! [`audit`] holds a slip against its sheet on another machine. [`sheet`] does it on bytes.
 
+mod desk;
 #[doc(hidden)]
 pub mod face;
 mod refusal;
 
+pub use desk::{audit, pair, Doubt};
+pub use paper::{Sheet, Slip, Unfit};
 pub use refusal::{List, Refusal, Room};
 
 /// The largest side.

@@ -241,8 +241,25 @@ pub fn night(random: &mut Random, met: &mut Met, n: usize, costs: &[i32], answer
         let note: Vec<u8> = (0..random.below(40)).map(|_| random.number() as u8).collect();
         let room = 18 * n + 20 + random.below(4);
         met.note("sheet", sheet(random, &sheets::sheet(&note, n, costs), room)?);
+        paper(&note, n, costs, answer)?;
     }
     Ok(())
+}
+
+/// A night through the wrapper's sheet and slip: the sheet's bytes, the slip, and that the slip is accepted.
+fn paper(note: &[u8], n: usize, costs: &[i32], answer: &Answer) -> Result<(), String> {
+    let built = bristlefrost::Sheet::new(n, costs).and_then(|sheet| sheet.noted(note));
+    let built = built.map_err(|unfit| unfit.to_string())?;
+    expect("the wrapper's sheet's bytes", &built.bytes(), &sheets::sheet(note, n, costs))?;
+    let slip = bristlefrost::pair(&built).map_err(|refusal| refusal.to_string())?;
+    let right = bristlefrost::Slip {
+        columns: answer.columns.iter().map(|&column| column as u16).collect(),
+        row_prices: answer.row_prices.clone(),
+        column_prices: answer.column_prices.clone(),
+        total: answer.total,
+    };
+    expect("the wrapper's slip", &slip, &right)?;
+    expect("the slip is accepted", &bristlefrost::audit(&built, &slip), &Ok(()))
 }
 
 fn limit(what: &str, found: u64, right: u64) -> Result<(), String> {

@@ -1,9 +1,9 @@
-//! Inputs for the archive that are damaged in up to three ways. What it must answer is what document 01's refusals
-//! give for the same input.
+//! Nights and lists for the archive that are damaged in up to three ways. What it must answer is what document 01's
+//! refusals give for the same input.
 
 use crate::archive::{self, Lists, Met};
 use crate::nights::{Random, FAMILIES};
-use crate::{rules, sheets, K};
+use crate::{rules, K};
 
 /// Sides that stand at or beyond a limit.
 const SIDES: [usize; 7] = [1024, 1025, 1026, 65_536, 1 << 32, usize::MAX / 2, usize::MAX];
@@ -16,11 +16,6 @@ fn far_cost(random: &mut Random) -> i32 {
 /// Prices outside -10K..10K, and at its ends.
 fn far_price(random: &mut Random) -> i64 {
     random.pick(&[10 * K, -10 * K, 10 * K + 1, -10 * K - 1, i64::MAX, i64::MIN, i64::MAX - K, i64::MIN + K])
-}
-
-/// A side that is 0 to 6, most often 1 to 4.
-fn small_side(random: &mut Random) -> usize {
-    random.below(4) + random.below(4)
 }
 
 /// A small night with one cost or the number of costs damaged, seldom both.
@@ -71,42 +66,23 @@ fn damaged_lists(random: &mut Random, n: usize, lists: &mut Lists) {
     }
 }
 
-/// One damage to a sheet.
-fn damaged_sheet(random: &mut Random, bytes: &mut Vec<u8>) {
-    let end = bytes.len();
-    match random.below(9) {
-        0 => bytes.truncate(random.below(end + 1)),
-        1 => bytes.splice(0..0, vec![7; 65_530]).for_each(drop),
-        2 if end >= 12 => bytes[end - 1 - random.below(4)] ^= 1 << random.below(8),
-        3 if end >= 12 => bytes[end - 5 - random.below(2)] = random.number() as u8,
-        4 if end >= 12 => bytes[end - 7 - random.below(2)] = random.pick(&[0, 1, 64, 65, 255]) as u8,
-        5 if end >= 12 => bytes[end - 9 - random.below(4)] = random.number() as u8,
-        6 => {
-            bytes.drain(0..random.below(end + 1));
-        }
-        7 if end > 12 => {
-            let place = random.below(end - 12);
-            bytes[place] = random.pick(&[0x7F, 0x80, 0xFF]) as u8;
-        }
-        _ if end > 0 => {
-            let place = random.below(end);
-            bytes[place] = random.number() as u8;
-        }
-        _ => {}
-    }
-}
-
 /// A night before any damage.
-struct Night {
+pub struct Night {
     n: usize,
-    costs: Vec<i32>,
+    pub costs: Vec<i32>,
 }
 
 impl Night {
-    fn new(random: &mut Random) -> Self {
-        let n = small_side(random);
+    /// A night of a side, of any family.
+    pub fn of_side(random: &mut Random, n: usize) -> Self {
         let costs = (FAMILIES[random.below(FAMILIES.len())].costs)(random, n);
         Night { n, costs }
+    }
+
+    /// A night whose side is 0 to 6, most often 1 to 4.
+    fn new(random: &mut Random) -> Self {
+        let n = random.below(4) + random.below(4);
+        Night::of_side(random, n)
     }
 
     fn damage(&mut self, random: &mut Random) {
@@ -162,29 +138,13 @@ fn cost(random: &mut Random, times: usize) -> Result<u64, String> {
         .map_err(|failure| format!("{failure}\nside {}, costs {:?}, listed {listed:?}", night.n, night.costs))
 }
 
-fn sheet(random: &mut Random, times: usize) -> Result<u64, String> {
-    let night = Night::new(random);
-    let note: Vec<u8> = (0..random.below(9)).map(|_| random.number() as u8).collect();
-    let mut bytes = sheets::sheet(&note, night.n, &night.costs);
-    for _ in 0..times {
-        damaged_sheet(random, &mut bytes);
-    }
-    let short = if random.below(4) == 0 { 1 + random.below(30) } else { 0 };
-    let room = (18 * night.n + 20 + random.below(4)).saturating_sub(short);
-    archive::sheet(random, &bytes, room).map_err(|failure| {
-        let last = &bytes[bytes.len().saturating_sub(160)..];
-        format!("{failure}\nslip room {room}, {} bytes that end with {last:?}", bytes.len())
-    })
-}
-
-/// One damaged input for one of the entries.
+/// One damaged input for the solver, the checker or `cost`.
 pub fn one(random: &mut Random, met: &mut Met) -> Result<(), String> {
     let times = random.below(4);
-    let (entry, answered) = match random.below(4) {
+    let (entry, answered) = match random.below(3) {
         0 => ("solve", solve(random, times)?),
         1 => ("check", check(random, times)?),
-        2 => ("cost", cost(random, times)?),
-        _ => ("sheet", sheet(random, times)?),
+        _ => ("cost", cost(random, times)?),
     };
     met.note(entry, answered);
     Ok(())

@@ -4,6 +4,7 @@
 #[cfg(feature = "archive")]
 pub mod archive;
 pub mod checks;
+pub mod command;
 #[cfg(feature = "archive")]
 pub mod damage;
 pub mod nights;
@@ -12,6 +13,8 @@ pub mod paper;
 pub mod refusals;
 pub mod rules;
 pub mod sheets;
+#[cfg(feature = "archive")]
+pub mod torn;
 
 /// The largest cost.
 pub const K: i64 = 1_000_000_000;

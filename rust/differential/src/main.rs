@@ -1,43 +1,40 @@
 //! Compares the crate lapjv 0.3.0 with document 01's rules, night by night, and with the feature `archive` the
 //! archive with both.
 //!
-//!     differential [--seed S] [--count N] [--large L] [--full 1]
+//!     differential [--seed S] [--count N] [--large L] [--full 1] [--sheets B]
 //!
 //! S is where the random nights begin (1), N how many of sides to 64 are run (20,000), and L how many of each
 //! of the sides 100, 256, 512, 1,023 and 1,024 (2). Small sides over few values are run in full each time; with
-//! --full side 3 over 0..5 too, ten million nights. The archive is also given N damaged inputs and those at the
-//! limits.
+//! --full side 3 over 0..5 too, ten million nights. The archive is also given N damaged nights and lists, those at
+//! the limits, every small damage to one sheet, and B random sheets (20,000), most of them damaged.
 
 use std::process::ExitCode;
 
 use differential::nights::{Every, Random, FAMILIES};
 use differential::rules::Answer;
 #[cfg(feature = "archive")]
-use differential::{archive, damage};
-use differential::{checks, oracle, K};
+use differential::{archive, damage, torn};
+use differential::{checks, command, oracle, K};
 
 /// What the command line sets.
 struct Settings {
     seed: u64,
-    count: usize,
-    large: usize,
-    full: bool,
+    count: u64,
+    large: u64,
+    full: u64,
+    #[cfg_attr(not(feature = "archive"), allow(dead_code))]
+    sheets: u64,
 }
 
 fn settings() -> Result<Settings, String> {
-    let mut settings = Settings { seed: 1, count: 20_000, large: 2, full: false };
-    let mut arguments = std::env::args().skip(1);
-    while let Some(name) = arguments.next() {
-        let value = arguments.next().and_then(|value| value.parse::<u64>().ok());
-        let value = value.ok_or_else(|| format!("{name} wants a number"))?;
-        match name.as_str() {
-            "--seed" => settings.seed = value,
-            "--count" => settings.count = value as usize,
-            "--large" => settings.large = value as usize,
-            "--full" => settings.full = value != 0,
-            _ => return Err(format!("unknown: {name}")),
-        }
-    }
+    let mut settings = Settings { seed: 1, count: 20_000, large: 2, full: 0, sheets: 20_000 };
+    command::numbers(&mut [
+        ("--seed", &mut settings.seed),
+        ("--count", &mut settings.count),
+        ("--large", &mut settings.large),
+        ("--full", &mut settings.full),
+        ("--sheets", &mut settings.sheets),
+    ])?;
     Ok(settings)
 }
 
@@ -60,14 +57,18 @@ impl Archive {
 
     /// Damaged inputs, and those at the limits.
     fn damaged(&mut self, settings: &Settings) -> Result<(), String> {
+        let (seed, sides) = (settings.seed, "the archive and document 01");
         archive::limits(&mut self.random)?;
         for _ in 0..settings.count {
             damage::one(&mut self.random, &mut self.met)?;
         }
-        println!(
-            "{} damaged inputs and the limits, seed {}: the archive and document 01",
-            settings.count, settings.seed
-        );
+        println!("{} damaged nights and lists, and the limits, seed {seed}: {sides}", settings.count);
+        let every = torn::every(&mut self.random, &mut self.met)?;
+        println!("{every} small damages to one sheet: {sides}");
+        for _ in 0..settings.sheets {
+            torn::one(&mut self.random, &mut self.met)?;
+        }
+        println!("{} random sheets, most of them damaged, seed {seed}: {sides}", settings.sheets);
         for line in self.met.lines()? {
             println!("  {line}");
         }
@@ -117,7 +118,7 @@ fn every(archive: &mut Archive, settings: &Settings) -> Result<usize, String> {
         (4, &[0, 1]),
         (4, &[-k, k]),
     ];
-    let more: &[(usize, &[i32])] = if settings.full { &[(3, &[0, 1, 2, 3, 4, 5])] } else { &[] };
+    let more: &[(usize, &[i32])] = if settings.full != 0 { &[(3, &[0, 1, 2, 3, 4, 5])] } else { &[] };
     let mut nights = 0;
     for (n, values) in full.iter().chain(more).copied() {
         for costs in Every::new(n, values) {
@@ -131,17 +132,18 @@ fn every(archive: &mut Archive, settings: &Settings) -> Result<usize, String> {
 /// Random nights of every side to 64, half of them of side 8 or less, over all families.
 fn random(archive: &mut Archive, settings: &Settings) -> Result<usize, String> {
     let mut random = Random::new(settings.seed);
-    for night in 0..settings.count {
+    let count = settings.count as usize;
+    for night in 0..count {
         let n = if night % 2 == 0 { 2 + random.below(7) } else { (night / 2) % 65 };
         let family = &FAMILIES[random.below(FAMILIES.len())];
         test(archive, n, &(family.costs)(&mut random, n), family.name)?;
     }
-    Ok(settings.count)
+    Ok(count)
 }
 
 /// A few nights of each large side.
 fn large(archive: &mut Archive, settings: &Settings) -> Result<usize, String> {
-    let mut random = Random::new(settings.seed ^ 0x6C61_7267_65);
+    let mut random = Random::new(settings.seed ^ 0x6C_61_72_67_65);
     let mut nights = 0;
     for n in [100, 256, 512, 1023, 1024] {
         for _ in 0..settings.large {

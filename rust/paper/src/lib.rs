@@ -81,6 +81,15 @@ impl Sheet {
         Ok(Sheet { side, costs: costs.to_vec(), note: Vec::new() })
     }
 
+    pub fn side(&self) -> usize {
+        self.side
+    }
+
+    /// The costs in row order.
+    pub fn costs(&self) -> &[i32] {
+        &self.costs
+    }
+
     /// The same sheet with this note in front.
     pub fn noted(self, note: &[u8]) -> Result<Sheet, Unfit> {
         if note.len() + 4 * self.costs.len() + TRAILER > LONGEST_SHEET {

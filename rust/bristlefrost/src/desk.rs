@@ -1,0 +1,81 @@
+//! A night on paper: a sheet in, a slip out, and the slip held against its sheet.
+
+use std::fmt;
+
+use paper::{Sheet, Slip};
+
+use crate::{check, sheet, Refusal};
+
+/// Pairs the night of a sheet.
+///
+/// ```
+/// use bristlefrost::{pair, Sheet};
+///
+/// let night = Sheet::new(3, &[3, 1, 0, 0, 0, 2, 4, 1, 0])?.noted(b"three guests")?;
+/// let slip = pair(&night)?;
+/// assert_eq!((slip.columns, slip.total), (vec![2, 0, 1], 1));
+/// # Ok::<(), Box<dyn std::error::Error>>(())
+/// ```
+pub fn pair(night: &Sheet) -> Result<Slip, Refusal> {
+    let slip = sheet(&night.bytes())?;
+    Ok(Slip::read(&slip).expect("the archive writes slips"))
+}
+
+/// Why a slip does not show the least total of its sheet.
+#[derive(Clone, Debug, PartialEq, Eq)]
+pub enum Doubt {
+    /// The slip's lists are not as long as the sheet's side.
+    Side,
+    /// The checker refuses the pairing or its prices.
+    Refused(Refusal),
+    /// The slip states another total than its pairing has, which is this.
+    Total(i64),
+}
+
+impl fmt::Display for Doubt {
+    fn fmt(&self, out: &mut fmt::Formatter<'_>) -> fmt::Result {
+        match self {
+            Doubt::Side => write!(out, "the slip is of another side than the sheet"),
+            Doubt::Refused(refusal) => write!(out, "{refusal}"),
+            Doubt::Total(total) => write!(out, "the pairing's total is {total}, not the slip's"),
+        }
+    }
+}
+
+impl std::error::Error for Doubt {}
+
+/// Holds a slip against its sheet, whoever wrote it: that its columns pair the night, that no pairing has a lower
+/// total, and that its total is the one stated. The solver is not run.
+///
+/// ```
+/// use bristlefrost::{audit, pair, Doubt, Sheet, Slip};
+///
+/// let night = Sheet::new(2, &[1, 5, 6, 2])?;
+/// let slip = pair(&night)?;
+/// assert_eq!(audit(&night, &slip), Ok(()));
+///
+/// let dearer = Slip { total: 4, ..slip.clone() };
+/// assert_eq!(audit(&night, &dearer), Err(Doubt::Total(3)));
+/// let crossed = Slip { columns: vec![1, 0], ..slip };
+/// assert!(matches!(audit(&night, &crossed), Err(Doubt::Refused(_))));
+/// # Ok::<(), Box<dyn std::error::Error>>(())
+/// ```
+pub fn audit(night: &Sheet, slip: &Slip) -> Result<(), Doubt> {
+    let side = night.side();
+    let columns: Vec<u32> = slip.columns.iter().map(|&column| column.into()).collect();
+    if [columns.len(), slip.row_prices.len(), slip.column_prices.len()] != [side; 3] {
+        return Err(Doubt::Side);
+    }
+    // Of two rows with one column the column names the later; the checker refuses the earlier.
+    let mut rows = vec![0; side];
+    for (row, &column) in (0..).zip(&columns) {
+        if let Some(named) = rows.get_mut(column as usize) {
+            *named = row;
+        }
+    }
+    match check(side, night.costs(), &columns, &rows, &slip.row_prices, &slip.column_prices) {
+        Err(refusal) => Err(Doubt::Refused(refusal)),
+        Ok(total) if total != slip.total => Err(Doubt::Total(total)),
+        Ok(_) => Ok(()),
+    }
+}
