@@ -48,7 +48,7 @@ impl std::error::Error for Doubt {}
 /// total, and that its total is the one stated. The solver is not run.
 ///
 /// ```
-/// use bristlefrost::{audit, pair, Doubt, Sheet, Slip};
+/// use bristlefrost::{audit, pair, Doubt, Refusal, Sheet, Slip};
 ///
 /// let night = Sheet::new(2, &[1, 5, 6, 2])?;
 /// let slip = pair(&night)?;
@@ -56,8 +56,10 @@ impl std::error::Error for Doubt {}
 ///
 /// let dearer = Slip { total: 4, ..slip.clone() };
 /// assert_eq!(audit(&night, &dearer), Err(Doubt::Total(3)));
+/// let shared = Slip { columns: vec![0, 0], ..slip.clone() };
+/// assert_eq!(audit(&night, &shared), Err(Doubt::Refused(Refusal::NotNamedBack { row: 1 })));
 /// let crossed = Slip { columns: vec![1, 0], ..slip };
-/// assert!(matches!(audit(&night, &crossed), Err(Doubt::Refused(_))));
+/// assert_eq!(audit(&night, &crossed), Err(Doubt::Refused(Refusal::PricesUnderCost { row: 0 })));
 /// # Ok::<(), Box<dyn std::error::Error>>(())
 /// ```
 pub fn audit(night: &Sheet, slip: &Slip) -> Result<(), Doubt> {
@@ -66,11 +68,11 @@ pub fn audit(night: &Sheet, slip: &Slip) -> Result<(), Doubt> {
     if [columns.len(), slip.row_prices.len(), slip.column_prices.len()] != [side; 3] {
         return Err(Doubt::Side);
     }
-    // Of two rows with one column the column names the later; the checker refuses the earlier.
-    let mut rows = vec![0; side];
-    for (row, &column) in (0..).zip(&columns) {
+    // Of two rows with one column, the column names the earlier, so that the checker refuses the later.
+    let mut rows = vec![u32::MAX; side];
+    for (row, &column) in columns.iter().enumerate().rev() {
         if let Some(named) = rows.get_mut(column as usize) {
-            *named = row;
+            *named = row as u32;
         }
     }
     match check(side, night.costs(), &columns, &rows, &slip.row_prices, &slip.column_prices) {
