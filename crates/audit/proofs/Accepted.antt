@@ -1,12 +1,11 @@
 -- The checker accepts the answer of the rules for every night within the limits, and so the solver's, with whatever stands behind it in longer
 -- lists; and what the solver pairs is least. Assumes nothing.
-use mathlib.Core.Path.{_≡_, refl, sym, ap, _∙_, subst}
+use mathlib.Core.Path.{_≡_, sym, ap, _∙_, subst}
 use mathlib.Core.List.{List, _++_}
 use Prim.Native.Nat.{ℕ, _+_, _*_, _≤_, _<_}
-use native.Mathlib.Decide.{decLt}
 use native.Mathlib.Omega.{arith}
-use lib.IntN.{ℤ, pos}
-use lib.ListN.{length, take, drop, List·getD-eq-default}
+use lib.IntN.{ℤ}
+use lib.ListN.{length, take, drop}
 use lib.Seq.{take-at}
 use Rattle.ints.specs.Parts.{Within}
 use Rattle.assignment.specs.Pairings.{Least, price, square, total}

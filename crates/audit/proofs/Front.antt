@@ -4,14 +4,10 @@ use mathlib.Core.List.{List, _++_}
 use Prim.Native.Nat.{ℕ, _+_, _<_}
 use native.Mathlib.Omega.{arith}
 use lib.IntN.{ℤ, pos, _+ℤ_}
-use lib.Signed.{_≤ℤ_}
 use lib.ListN.{length, length-append, List·getD-append}
-use Rattle.ints.specs.Parts.{Within}
 use Rattle.lists.specs.Permutations.{at}
-use Rattle.assignment.specs.Pairings.{Named, price, square}
-use Rattle.assignment.specs.Prices.{Feasible, Tight}
-use Rattle.matrix.specs.Limits.{K}
-use Rattle.checker.specs.Fair.{Sizes, Prices, Fair}
+use Rattle.assignment.specs.Pairings.{price, square}
+use Rattle.checker.specs.Fair.{Prices, Fair}
 
 -- What stands below n in a list of n entries with more behind it.
 at-front : (n : ℕ) (l t : List ℕ) → length l ≡ n → (i : ℕ) → i < n → at (l ++ t) i ≡ at l i

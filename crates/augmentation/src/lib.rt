@@ -93,17 +93,6 @@ fn number_columns(list: &mut [u32])
     }
 }
 
-// One row at every place.
-fn fill(list: &mut [u32], row: u32)
-    ensures { λ r. ⌜ now (list .exit) ≡ table (length (now (list .entry))) (λ j. row) ⌝ }
-{
-    let mut j = 0;
-    while j < list.len() {
-        list[j] = row;
-        j += 1;
-    }
-}
-
 // Each column as far as a row makes it: its reduced cost there.
 fn first_distances(n: usize, row: &[i32], v: &[i64], d: &mut [i64])
     requires { ⌜ (length (now row) ≡ n) × (length (now v) ≡ n) × (length (now d) ≡ n) × ((j : ℕ) → Within near (price (now v) j)) ⌝ }
@@ -188,7 +177,7 @@ fn start_search(n: usize, costs: &[i32], start: u32, v: &[i64], d: &mut [i64], r
     let n3 = n2 + n;
     first_distances(n, row(costs, n, start as usize), v, d);
     number_columns(&mut room[n..n2]);
-    fill(&mut room[n2..n3], start);
+    lists::fill(&mut room[n2..n3], start);
 }
 
 // Each ready column, those listed before lo, has its distance minus that of the last block added to its price.

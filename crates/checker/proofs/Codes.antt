@@ -1,19 +1,17 @@
 -- The places of the checker's refusals are far below 2^48, so that each is one number. Assumes nothing.
 use mathlib.Core.List.{List}
-use Prim.Native.Nat.{ℕ, _+_, _*_, _^_, _≤_, _<_}
+use Prim.Native.Nat.{ℕ, _*_, _^_, _≤_, _<_}
 use native.Mathlib.Nat.{le-of-lt, mul-le-mul-right}
 use native.Mathlib.Omega.{arith}
 use borrow.Author.Tests.{ltb-false, eqb-true, not-false}
 use lib.Dec.{lit<}
 use lib.IntN.{ℤ}
 use lib.ListN.{length}
-use Rattle.lists.specs.Runs.{first}
 use Rattle.lists.proofs.Runs.{first-le}
 use Rattle.matrix.specs.Limits.{side}
 use Rattle.matrix.proofs.Limits.{side-small}
 use Rattle.matrix.proofs.Refusals.{refuseIf-all, refuseAt-all}
 use Rattle.matrix.proofs.Codes.{PlaceSmall, square-small}
-use Rattle.matrix.proofs.Places.{place-below}
 use Rattle.checker.specs.Check.{over, checkPrices, check}
 
 prices-places : (n : ℕ) (costs : List ℤ) (cols : List ℕ) (us vs : List ℤ) → n < 2 ^ 16 → n * n ≤ 2 ^ 32 → PlaceSmall (checkPrices n costs cols us vs)

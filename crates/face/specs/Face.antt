@@ -3,8 +3,6 @@ use lib.IntN.{pos}
 use Rattle.matrix.specs.Refusals.{codeOf}
 use Rattle.matrix.specs.declared.Answer.{Answer}
 use Rattle.matrix.specs.declared.Answer.the-variants.{Total, Refused}
-use Rattle.rules.specs.declared.Counts.{Counts}
-use Rattle.lapjv.specs.declared.Night.{Night}
 use Rattle.lapjv.specs.declared.Solved.{Solved}
 use Rattle.lapjv.specs.declared.Solved.the-variants.{Paired}
 use Rattle.lapjv.specs.declared.Solved.the-variants as refused

@@ -4,4 +4,5 @@ pub mod Ranges
 pub mod Shapes
 pub mod Tests
 pub mod Bits
+pub mod Signs
 mod Examples

@@ -4,7 +4,7 @@ use mathlib.Core.Bool.{Bool, true, false}
 use mathlib.Core.Logic.{_⊎_, inl, inr, ⊎-elim}
 use lib.IntN.{ℤ}
 use lib.Signed.{_≤ℤ_, _<ℤ_, leZ, ltZ}
-use Rattle.ints.proofs.Orders.{leZ-true, leZ-false, ltZ-true, ltZ-false}
+use Rattle.ints.proofs.Orders.{leZ-false, ltZ-true, ltZ-false}
 use Rattle.ints.proofs.Ranges.{zarith}
 
 pub not-false-true : {t : Bool} → (t ≡ false → ⊥) → t ≡ true
@@ -24,9 +24,6 @@ le-ltZ a b h = not-true-false (λ e. omega (zarith, ltZ-true a b e))
 pub le-leZ : (a b : ℤ) → a ≤ℤ b → leZ a b ≡ true
 le-leZ a b h = not-false-true (λ e. omega (zarith, leZ-false a b e))
 
-pub lt-leZ : (a b : ℤ) → b <ℤ a → leZ a b ≡ false
-lt-leZ a b h = not-true-false (λ e. omega (zarith, leZ-true a b e))
-
 -- for a case distinction, which omega does not make
 pub le-or-lt : (a b : ℤ) → (a ≤ℤ b) ⊎ (b <ℤ a)
 le-or-lt a b = by (leZ a b) refl
@@ -37,6 +34,3 @@ le-or-lt a b = by (leZ a b) refl
 
 pub not-lt-le : {a b : ℤ} → ¬ (a <ℤ b) → b ≤ℤ a
 not-lt-le {a} {b} h = ⊎-elim (λ l. l) (λ l. absurd (h l)) (le-or-lt b a)
-
-pub not-le-lt : {a b : ℤ} → ¬ (a ≤ℤ b) → b <ℤ a
-not-le-lt {a} {b} h = ⊎-elim (λ l. absurd (h l)) (λ l. l) (le-or-lt a b)

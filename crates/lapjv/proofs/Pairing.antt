@@ -1,6 +1,6 @@
 -- After rules 3 and 4, over plain lists: the free rows can get their columns, the row prices and the total can be taken, and what stands then is
 -- the answer of the run. Assumes nothing.
-use mathlib.Core.Path.{_≡_, refl, sym, ap, ap₂, _∙_, subst}
+use mathlib.Core.Path.{_≡_, sym, ap, ap₂, _∙_, subst}
 use mathlib.Core.List.{List}
 use Prim.Native.Nat.{ℕ, _+_, _*_, _≤_, _<_}
 use native.Mathlib.Omega.{arith}
@@ -9,26 +9,21 @@ use lib.ListN.{length, replicate}
 use Rattle.ints.specs.Parts.{Within}
 use Rattle.ints.proofs.Ranges.{within-mono}
 use Rattle.lists.specs.Permutations.{at}
-use Rattle.lists.specs.Parts.{part}
 use Rattle.assignment.specs.Pairings.{price, square, total}
-use Rattle.matrix.specs.Limits.{side, K, near}
+use Rattle.matrix.specs.Limits.{K, near}
 use Rattle.matrix.specs.Cost.{Listed}
 use Rattle.matrix.proofs.Limits.{K-small}
-use Rattle.rules.specs.declared.Counts.{Counts}
 use Rattle.rules.specs.Columns.{Stage, columnReduction}
-use Rattle.rules.specs.Rows.{Passing, rowReduction, passEnd}
+use Rattle.rules.specs.Rows.{passEnd}
 use Rattle.rules.specs.Augmentation.{State, augments, augmentation}
 use Rattle.rules.specs.Run.{Answer, stages, run, rowPrices}
 use Rattle.rules.proofs.Stages.{search-ready}
 use Rattle.rules.proofs.Run.{Right, run-right}
-use Rattle.reduction.specs.Columns.{stageAt}
-use Rattle.augmentation.specs.Room.{freesIn}
-use Rattle.augmentation.specs.Augmentation.{CanAugment, CanTurn, Augmented, stateOf, stageIn}
+use Rattle.augmentation.specs.Augmentation.{CanAugment, CanTurn, Augmented, stateOf}
 use Rattle.lapjv.specs.declared.Reduced.{Reduced}
-use Rattle.lapjv.specs.declared.Night.{Night}
 use Rattle.lapjv.specs.Priced.{Priced}
 use Rattle.lapjv.specs.Stages.{Pairable, passOne, passTwo, ReducedBy, answerIn, PairedBy}
-use Rattle.lapjv.proofs.Ready.{cost, costs-within, GoodStage, side-free, near-five}
+use Rattle.lapjv.proofs.Ready.{cost, costs-within, side-free, near-five}
 use Rattle.lapjv.proofs.Reducing.{two-good}
 
 module _ (n : ℕ) (costs : List ℤ) (p : Pairable n costs) (cols rows : List ℕ) (v : List ℤ) (room : List ℕ) (r : Reduced)

@@ -1,16 +1,15 @@
 -- What the laws of the rules give the code at side 1 or more: rule 3 can be run, and rule 4 from any stage that rule 3 or a pass ends in.
 -- Assumes nothing.
-use mathlib.Core.Path.{_≡_, sym, ap, _∙_, subst}
+use mathlib.Core.Path.{_≡_}
 use mathlib.Core.List.{List}
-use Prim.Native.Nat.{ℕ, _+_, _*_, _^_, _≤_, _<_}
+use Prim.Native.Nat.{ℕ, _+_, _*_, _≤_}
 use native.Mathlib.Omega.{arith}
 use lib.IntN.{ℤ}
 use lib.ListN.{length}
 use Rattle.ints.specs.Parts.{Within}
 use Rattle.ints.proofs.Ranges.{within-mono}
-use Rattle.lists.specs.Permutations.{at}
 use Rattle.lists.proofs.Runs.{upward-keeps}
-use Rattle.assignment.specs.Pairings.{price, square}
+use Rattle.assignment.specs.Pairings.{square}
 use Rattle.matrix.specs.Limits.{side, K, near}
 use Rattle.matrix.proofs.Limits.{side-small, K-small}
 use Rattle.rules.specs.Columns.{free, Stage, claims, transfer, untransferred, columnReduction}

@@ -1,7 +1,7 @@
 -- Rules 3 and 4 in lent memory, over plain lists: what one stage leaves is what the next asks for. Assumes nothing.
-use mathlib.Core.Path.{_≡_, refl, sym, ap, ap₂, _∙_, subst}
+use mathlib.Core.Path.{_≡_, sym, ap, _∙_, subst}
 use mathlib.Core.List.{List, _++_}
-use Prim.Native.Nat.{ℕ, _+_, _-_, _*_, _≤_, _<_}
+use Prim.Native.Nat.{ℕ, _+_, _-_, _≤_}
 use native.Mathlib.Nat.{sub-zero}
 use native.Mathlib.Omega.{arith}
 use lib.IntN.{ℤ}
@@ -14,7 +14,6 @@ use Rattle.rules.specs.Columns.{Stage, columnReduction}
 use Rattle.rules.specs.Rows.{Passing, rowReduction, passEnd}
 use Rattle.reduction.specs.Columns.{stageAt}
 use Rattle.reduction.specs.Rows.{passingAt, Passable}
-use Rattle.lapjv.specs.declared.Reduced.{Reduced}
 use Rattle.lapjv.specs.Stages.{Pairable, passOne, passTwo, ReducedBy}
 use Rattle.lapjv.proofs.Ready.{GoodStage, rule-three-good, rule-four, rule-four-good}
 

@@ -1,22 +1,22 @@
 -- The entry, over plain lists: a night that passes the tests can be paired on the fronts of the lent lists, and what comes back there is what the
 -- solver's definition says. Assumes nothing.
-use mathlib.Core.Path.{_≡_, refl, sym, ap, ap₂, _∙_}
+use mathlib.Core.Path.{_≡_, sym, ap, _∙_}
 use mathlib.Core.List.{List, _++_}
-use Prim.Native.Nat.{ℕ, _+_, _-_, _*_, _≤_, _<_}
+use Prim.Native.Nat.{ℕ, _+_, _-_, _*_, _≤_}
 use native.Mathlib.Nat.{sub-zero}
 use native.Mathlib.Omega.{arith}
 use lib.IntN.{ℤ, pos}
-use lib.ListN.{length, take, drop, replicate, length-take}
+use lib.ListN.{length, take, drop, length-take}
 use Rattle.rules.specs.Nights.{five}
-use Rattle.rules.specs.Run.{Answer, run}
+use Rattle.rules.specs.Run.{run}
 use Rattle.rules.proofs.Run.{side-zero}
 use Rattle.rules.proofs.Sizes.{within-everywhere}
 use Rattle.matrix.specs.Limits.{K}
 use Rattle.lapjv.specs.declared.Night.{Night}
 use Rattle.lapjv.specs.declared.Solved.the-variants.{Paired}
-use Rattle.lapjv.specs.Solve.{Lent, lentOf, Outcome, outcomeOf, paired, solve}
+use Rattle.lapjv.specs.Solve.{lentOf, outcomeOf, paired, solve}
 use Rattle.lapjv.specs.Passes.{Passes}
-use Rattle.lapjv.specs.Stages.{Pairable, Sized, answerIn, PairedBy}
+use Rattle.lapjv.specs.Stages.{Pairable, Sized, PairedBy}
 use Rattle.lapjv.proofs.Tests.{passes-paired}
 
 -- The first m entries of a list, as they are lent; and the list when they came back as `new`.

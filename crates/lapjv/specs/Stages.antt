@@ -1,14 +1,14 @@
 -- The stages as they lie in lent memory: what they ask for, and what they leave.
 use mathlib.Core.Path.{_≡_}
 use mathlib.Core.List.{List}
-use Prim.Native.Nat.{ℕ, _+_, _*_, _≤_, _<_}
+use Prim.Native.Nat.{ℕ, _+_, _*_, _≤_}
 use lib.IntN.{ℤ, pos}
 use lib.ListN.{length, replicate}
 use Rattle.ints.specs.Parts.{Within}
 use Rattle.lists.specs.Parts.{part}
 use Rattle.assignment.specs.Pairings.{price, square}
 use Rattle.matrix.specs.Limits.{side, K}
-use Rattle.rules.specs.Columns.{Stage, columnReduction}
+use Rattle.rules.specs.Columns.{columnReduction}
 use Rattle.rules.specs.Rows.{Passing, rowReduction, passEnd}
 use Rattle.rules.specs.Run.{Answer, run}
 use Rattle.reduction.specs.Columns.{stageAt}

@@ -1,6 +1,6 @@
 // The solver: the tests of its input, and what follows the search. What is promised is said in specs/.
 ghost use mathlib.Core.Path.{_≡_};
-ghost use Prim.Native.Nat.{ℕ, _*_, _<_, _≤_};
+ghost use Prim.Native.Nat.{_*_, _<_};
 ghost use lib.IntN.{pos};
 ghost use lib.ListN.{length, replicate};
 ghost use Rattle.assignment.specs.Pairings.{Night, square};
@@ -80,17 +80,6 @@ fn tested(
     Verdict::Passed
 }
 
-// Every index is 0.
-fn clear_indices(indices: &mut [u32])
-    ensures { λ r. ⌜ now (indices .exit) ≡ replicate (length (now (indices .entry))) 0 ⌝ }
-{
-    let mut k = 0;
-    while k < indices.len() {
-        indices[k] = 0;
-        k += 1;
-    }
-}
-
 // Every number is 0.
 fn clear_numbers(numbers: &mut [i64])
     ensures { λ r. ⌜ now (numbers .exit) ≡ replicate (length (now (numbers .entry))) (pos 0) ⌝ }
@@ -161,7 +150,7 @@ fn pair(
     let scanned = augmentation::ca_dense(n, costs, left, cols, rows, v, d, room);
     write_row_prices(n, costs, cols, v, row_prices);
     let total = matrix::total(n, costs, n, cols);
-    clear_indices(room);
+    lists::fill(room, 0);
     clear_numbers(d);
     Night {
         total,

@@ -60,10 +60,10 @@ fn put_signed(out: &mut [u8], place: usize, z: i64) -> usize
     ensures { λ r. ⌜ Put (now (out .entry)) place (signedDecimal z) (now (out .exit)) r ⌝ }
 {
     if z < 0 {
-        let next = put_byte(out, place, 45);
-        put_decimal(out, next, (-1 - z) as u64 + 1)
+        let next = put_byte(out, place, b'-');
+        put_decimal(out, next, ints::magnitude(z))
     } else {
-        put_decimal(out, place, z as u64)
+        put_decimal(out, place, ints::magnitude(z))
     }
 }
 

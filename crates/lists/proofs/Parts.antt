@@ -1,12 +1,12 @@
 -- Parts of one lent list: a store at offset + k is a store at k of that part and leaves every other part as it was; parts put together are the
 -- list; and what a part that was lent leaves when it comes back. Assumes nothing.
 use mathlib.Core.Path.{_≡_, refl, sym, ap, ap₂, _∙_}
-use mathlib.Core.List.{List, [], _∷_, _++_}
+use mathlib.Core.List.{List, [], _∷_, _++_, append-assoc}
 use Prim.Native.Nat.{ℕ, zero, suc, _+_, _-_, _≤_, _<_}
 use native.Mathlib.Nat.{zero-add, suc-add}
 use native.Mathlib.Omega.{arith}
 use lib.ListN.{length, getD, set, take, drop, length-append, length-drop, length-set, take-append-drop, List·getD-append}
-use lib.Seq.{length-take-le, take-nil, take-at, drop-at, getD-append-add, set-append-left, take-set-le, take-set-lt, drop-set-lt, drop-set-add, getD-take, getD-drop, take-take, take-add, drop-drop, slice}
+use lib.Seq.{length-take-le, take-nil, take-at, drop-at, take-append-le, take-append-add, drop-append-le, getD-append-add, set-append-left, take-set-le, take-set-lt, drop-set-lt, drop-set-add, getD-take, getD-drop, take-take, take-add, drop-drop, slice}
 use Rattle.lists.specs.Parts.{part, replaced}
 
 module _ {A : Type 0} where
@@ -82,12 +82,14 @@ module _ {A : Type 0} where
         ∙ ap (drop b) (sym (take-take (b + m) a (replaced a p l) h) ∙ ap (take (b + m)) replaced-before ∙ take-take (b + m) a l h)
         ∙ sym (part-slice b m l)
 
-    pub replaced-part-after : (b m : ℕ) → a + length p ≤ b → part b m (replaced a p l) ≡ part b m l
-    replaced-part-after b m h =
+    replaced-drop : (b : ℕ) → a + length p ≤ b → drop b (replaced a p l) ≡ drop b l
+    replaced-drop b h =
         let e : b ≡ a + length p + (b - (a + length p)) = omega arith in
-        ap (take m)
-        (ap (λ (k : ℕ). drop k (replaced a p l)) e ∙ sym (drop-drop (b - (a + length p)) (a + length p) (replaced a p l))
-        ∙ ap (drop (b - (a + length p))) replaced-after ∙ drop-drop (b - (a + length p)) (a + length p) l ∙ ap (λ (k : ℕ). drop k l) (sym e))
+        ap (λ (k : ℕ). drop k (replaced a p l)) e ∙ sym (drop-drop (b - (a + length p)) (a + length p) (replaced a p l))
+        ∙ ap (drop (b - (a + length p))) replaced-after ∙ drop-drop (b - (a + length p)) (a + length p) l ∙ ap (λ (k : ℕ). drop k l) (sym e)
+
+    pub replaced-part-after : (b m : ℕ) → a + length p ≤ b → part b m (replaced a p l) ≡ part b m l
+    replaced-part-after b m h = ap (take m) (replaced-drop b h)
 
     -- A store at offset + i is a store at i of what was written.
     pub replaced-set : (i : ℕ) (x : A) → i < length p → set (replaced a p l) (a + i) x ≡ replaced a (set p i x) l
@@ -95,6 +97,18 @@ module _ {A : Type 0} where
         ap (λ (k : ℕ). set (replaced a p l) (k + i) x) (sym front) ∙ set-append-add (take a l) (p ++ drop (a + length p) l) i x
         ∙ ap (λ (t : List A). take a l ++ t) (set-append-left p (drop (a + length p) l) i x h)
         ∙ ap (λ (k : ℕ). take a l ++ (set p i x ++ drop (a + k) l)) (sym (length-set p i x))
+
+    -- A store behind what was written is one in the list below.
+    pub replaced-set-after : (i : ℕ) (x : A) → a + length p ≤ i → set (replaced a p l) i x ≡ replaced a p (set l i x)
+    replaced-set-after i x h =
+        let e : i ≡ length (take a l) + (length p + (i - (a + length p))) = omega (arith, front) in
+        let e′ : i ≡ a + length p + (i - (a + length p)) = omega arith in
+        ap (λ (k : ℕ). set (replaced a p l) k x) e
+        ∙ set-append-add (take a l) (p ++ drop (a + length p) l) (length p + (i - (a + length p))) x
+        ∙ ap (λ (t : List A). take a l ++ t) (set-append-add p (drop (a + length p) l) (i - (a + length p)) x)
+        ∙ sym
+        (ap₂ (λ (s t : List A). s ++ (p ++ t)) (take-set-le a l i x (omega arith))
+        (ap (λ (k : ℕ). drop (a + length p) (set l k x)) e′ ∙ drop-set-add (a + length p) l (i - (a + length p)) x))
 
   pub replaced-self : (a m : ℕ) (l : List A) → a + m ≤ length l → replaced a (part a m l) l ≡ l
   replaced-self a m l h =
@@ -105,6 +119,30 @@ module _ {A : Type 0} where
   replaced-replaced a p q l e h =
       ap₂ (λ (s t : List A). s ++ (q ++ t)) (replaced-before a p l h)
       (ap (λ (k : ℕ). drop (a + k) (replaced a p l)) (sym e) ∙ replaced-after a p l h ∙ ap (λ (k : ℕ). drop (a + k) l) e)
+
+  -- Two parts, one behind the other, may be written over in either order.
+  pub replaced-swap : (a b : ℕ) (p q l : List A) → a + length p ≤ b → b + length q ≤ length l
+      → replaced b q (replaced a p l) ≡ replaced a p (replaced b q l)
+  replaced-swap a b p q l h fits =
+      let fits-p : a + length p ≤ length l = omega arith in
+      let between : List A = drop (a + length p) (take b l) in
+      let rest : List A = q ++ drop (b + length q) l in
+      let e : b ≡ a + length p + (b - (a + length p)) = omega arith in
+      let e′ : b ≡ length (take a l) + (length p + (b - (a + length p))) = omega (arith, front a p l fits-p) in
+      let to-b : take b (replaced a p l) ≡ take a l ++ (p ++ between) =
+      ap (λ (k : ℕ). take k (replaced a p l)) e′ ∙ take-append-add (take a l) (p ++ drop (a + length p) l) (length p + (b - (a + length p)))
+      ∙ ap (λ (t : List A). take a l ++ t) (take-append-add p (drop (a + length p) l) (b - (a + length p)))
+      ∙ ap (λ (t : List A). take a l ++ (p ++ t))
+      (part-slice (a + length p) (b - (a + length p)) l ∙ ap (λ (k : ℕ). drop (a + length p) (take k l)) (sym e)) in
+      let left : replaced b q (replaced a p l) ≡ take a l ++ (p ++ (between ++ rest)) =
+      ap₂ (λ (s t : List A). s ++ (q ++ t)) to-b (replaced-drop a p l fits-p (b + length q) (omega arith))
+      ∙ append-assoc (take a l) (p ++ between) rest
+      ∙ ap (λ (t : List A). take a l ++ t) (append-assoc p between rest) in
+      let right : replaced a p (replaced b q l) ≡ take a l ++ (p ++ (between ++ rest)) =
+      ap₂ (λ (s t : List A). s ++ (p ++ t))
+      (take-append-le a (take b l) rest (omega (arith, front b q l fits)) ∙ take-take a b l (omega arith))
+      (drop-append-le (a + length p) (take b l) rest (omega (arith, front b q l fits))) in
+      left ∙ sym right
 
   -- ---- what code leaves of a part [a, e) that was lent and came back as p
 

@@ -57,6 +57,21 @@ module _ {A : Type 0} where
   pub filled-all : (k : ℕ) (f : ℕ → A) (l : List A) → k ≡ length l → table k f ++ drop k l ≡ table (length l) f
   filled-all k f l e = rw (e, drop-length l, append-nil)
 
+  -- The entry that the loop reads next is as it was.
+  pub filled-next : (f : ℕ → A) (l : List A) (k : ℕ) (d : A) → k < length l → getD (table k f ++ drop k l) k d ≡ getD l k d
+  filled-next f l k d h = rw (drop-cons l k d h) (getD-at (table k f) (getD l k d) (drop (suc k) l) d k (length-table k f))
+
+  -- An entry that the table has too may stay.
+  pub filled-kept : (f : ℕ → A) (l : List A) (k : ℕ) (d : A) → k < length l → f k ≡ getD l k d → table k f ++ drop k l ≡ table (k + 1) f ++ drop (k + 1) l
+  unfolding table
+  filled-kept f l k d h e =
+      ap (λ (t : List A). table k f ++ t) (drop-cons l k d h) ∙ ap (λ (x : A). table k f ++ (x ∷ drop (suc k) l)) (sym e)
+      ∙ sym (append-snoc (table k f) (f k) (drop (suc k) l)) ∙ ap (λ (m : ℕ). table m f ++ drop m l) (sym (add-one k))
+
+  -- An empty list is any table of no entries.
+  pub empty-table : (f : ℕ → A) (l : List A) (n : ℕ) → n ≡ 0 → length l ≡ n → l ≡ table n f
+  empty-table f l n e h = filled-none f l ∙ filled-all 0 f l (omega arith) ∙ ap (λ (m : ℕ). table m f) h
+
   -- ---- all entries the same
 
   pub table-constant : (n : ℕ) (x : A) → table n (λ i. x) ≡ replicate n x

@@ -3,7 +3,7 @@
 ghost use mathlib.Core.Path.{_≡_};
 ghost use mathlib.Core.Bool.{not};
 ghost use mathlib.Core.List.{[], _∷_};
-ghost use Prim.Native.Nat.{ℕ, _+_, _*_, _^_, _<_, _≤_};
+ghost use Prim.Native.Nat.{_+_, _*_, _^_, _<_, _≤_};
 ghost use lib.Dec.{leb, ltb, eqb};
 ghost use lib.IntN.{pos, _+ℤ_, _-ℤ_};
 ghost use lib.ListN.{length, take, drop};

@@ -1,15 +1,6 @@
 // One line for a night: its name, and the answer with the paper's number and place.
 use matrix::Answer;
 
-// How far a total is from 0.
-fn size(total: i64) -> u64 {
-    if total < 0 {
-        (-(total + 1)) as u64 + 1
-    } else {
-        total as u64
-    }
-}
-
 pub fn answer(name: &[u8], answer: Answer) {
     io::write_all(1, name);
     match answer {
@@ -18,7 +9,7 @@ pub fn answer(name: &[u8], answer: Answer) {
             if total < 0 {
                 io::write_all(1, b"-");
             }
-            io::print_decimal(1, size(total));
+            io::print_decimal(1, ints::magnitude(total));
         }
         Answer::Refused(refusal) => {
             io::write_all(1, b": refused ");

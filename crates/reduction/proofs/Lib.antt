@@ -1,6 +1,5 @@
 pub mod Turns
 pub mod Bits
-pub mod Fills
 pub mod RowParts
 pub mod Minima
 pub mod Claims

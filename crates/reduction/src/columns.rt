@@ -15,17 +15,6 @@ ghost use Rattle.reduction.specs.Ranges.{Near, Square};
 ghost use Rattle.reduction.specs.Columns.{lowAt, claimsOf, Claimable, NextLeast, NearLeast, transferOf, Transferable, Transferred, transferring, stageAt, Reducible};
 use rules::Least;
 
-// Zeros over all of a list.
-fn zero(list: &mut [u32])
-    ensures { λ r. ⌜ now (list .exit) ≡ table (length (now (list .entry))) (λ k. 0) ⌝ }
-{
-    let mut k = 0;
-    while k < list.len() {
-        list[k] = 0;
-        k += 1;
-    }
-}
-
 // A row's costs, each as a price.
 fn widen(row: &[i32], v: &mut [i64])
     requires { ⌜ length (now v) ≡ length (now row) ⌝ }
@@ -62,7 +51,7 @@ fn minima(n: usize, costs: &[i32], rows: &mut [u32], v: &mut [i64])
     if n == 0 {
         return;
     }
-    zero(rows);
+    lists::fill(rows, 0);
     widen(matrix::row(costs, n, 0), v);
     let mut i = 1;
     while i < n {
@@ -212,9 +201,9 @@ pub fn ccrrt_dense(
     let n3 = n + n + n;
     let n4 = n3 + n;
     minima(n, costs, rows, v);
-    zero(cols);
-    zero(&mut room[n3..n4]);
+    lists::fill(cols, 0);
+    lists::fill(&mut room[n3..n4], 0);
     claim_all(n, cols, rows, &mut room[n3..n4]);
-    zero(&mut room[0..n]);
+    lists::fill(&mut room[0..n], 0);
     transfers(n, costs, cols, v, room)
 }

@@ -17,17 +17,12 @@ fn index(x: u32) {
     number(x as u64);
 }
 
-// How far a number is from 0.
-fn size(x: i64) -> u64 {
-    if x < 0 { (-1 - x) as u64 + 1 } else { x as u64 }
-}
-
 fn signed(x: i64) {
     io::write_all(1, b" ");
     if x < 0 {
         io::write_all(1, b"-");
     }
-    io::print_decimal(1, size(x));
+    io::print_decimal(1, ints::magnitude(x));
 }
 
 // The first n entries of a list.

@@ -2,7 +2,7 @@
 -- rise, and fewer than n columns are scanned. Assumes nothing.
 use mathlib.Core.Path.{_≡_, sym, ap, _∙_, subst}
 use mathlib.Core.Logic.{_≢_, _⊎_, inl, inr, ⊎-elim}
-use Prim.Native.Nat.{ℕ, _+_, _-_, _*_, _≤_, _<_}
+use Prim.Native.Nat.{ℕ, _+_, _-_, _≤_, _<_}
 use native.Mathlib.Omega.{arith}
 use lib.IntN.{ℤ}
 use lib.Signed.{_≤ℤ_}
@@ -17,9 +17,8 @@ use Rattle.rules.specs.Lowest.{reduced, lowest}
 use Rattle.rules.specs.Columns.{Pairs}
 use Rattle.rules.specs.Search.{Work, Found, search, newPrices}
 use Rattle.rules.specs.Augmentation.{State, augment}
-use Rattle.rules.proofs.Cases.{lt-or-le}
 use Rattle.rules.proofs.Lowest.{lowest-is}
-use Rattle.rules.proofs.Prices.{NotBelow, AtMinimum, Fair, fair-near}
+use Rattle.rules.proofs.Prices.{AtMinimum, Fair}
 use Rattle.rules.proofs.Pairs.{Paired, Unpaired, Agree, free-column}
 use Rattle.rules.proofs.Scan.{place, far, FromColumn, Sound}
 use Rattle.rules.proofs.Search.{Ended, Good, search-ok}
@@ -170,13 +169,3 @@ module _ (n : ℕ) (cost : ℕ → ℕ → ℤ) (x : State) (s : ℕ) (C : Can n
             (g, same k l g);
         scanned-few = omega (arith, E .counted-few);
       }
-
--- New prices of paired columns are at most 2K below the price of the free column that was reached.
-pub gain-near : (n : ℕ) (cost : ℕ → ℕ → ℤ) (K : ℕ) → ((i j : ℕ) → Within K (cost i j)) → (x : State) (s : ℕ) (y : State) → Gain n cost x s y
-    → (B : ℕ) → ((k : ℕ) → k < n → NotBelow B (price (x .prices) k)) → (k : ℕ) → k < n → NotBelow (B + 2 * K) (price (y .prices) k)
-gain-near n cost K costs x s y g B low k l =
-    let f = g .reached-free in
-    elim (lt-or-le (at (y .pairs .rows) k) n) [
-      | inl h ↦ fair-near n cost K costs (price (y .prices)) (at (y .pairs .rows)) (f .0) B (f .1) (record { low = omega (zlin, f .3, low (f .0) (f .1) .low) }) (g .fair) k l h
-      | inr h ↦ record { low = omega (zlin, g .free-untouched k l h .1, low k l .low) }
-    ]

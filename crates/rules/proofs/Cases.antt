@@ -1,16 +1,13 @@
 -- Case distinctions that the laws of the rules share: a test, a place and the others. Assumes nothing.
-use mathlib.Core.Path.{_≡_, refl, sym, ap, _∙_, subst}
+use mathlib.Core.Path.{_≡_, refl, sym, subst}
 use mathlib.Core.Logic.{_≢_, _⊎_, inl, inr}
 use mathlib.Core.Bool.{Bool, true, false, cond, true≢false}
-use Prim.Native.Nat.{ℕ, zero, suc, _+_, _-_, _≤_, _<_}
+use Prim.Native.Nat.{ℕ, suc, _-_, _≤_, _<_}
 use native.Mathlib.Decide.{ℕ-discrete, decLt}
-use native.Mathlib.Nat.{add-zero, add-suc}
 use native.Mathlib.Omega.{arith}
 use lib.IntN.{ℤ}
 use lib.Signed.{leZ}
 use Rattle.ints.proofs.Ranges.{zarith}
-use Rattle.lists.specs.Runs.{Turn, on, left, andThen, until}
-use Rattle.lists.proofs.Runs.{upward-keeps, until-last}
 use Rattle.rules.specs.Search.{same}
 
 -- ---- tests and places

@@ -1,5 +1,4 @@
 pub mod Numbers
-pub mod Signs
 pub mod Fields
 pub mod Stores
 pub mod Limits

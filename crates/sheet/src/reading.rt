@@ -7,7 +7,6 @@ ghost use Rattle.lists.specs.Parts.{part};
 ghost use Rattle.sheet.specs.Numbers.{unwrapped, signedValue};
 ghost use Rattle.sheet.specs.Layout.{fields};
 ghost use Rattle.sheet.specs.Reading.{sheetSide, sheetMost, distanceOf, sideOf, editionOf, unmarked, tested};
-ghost use Rattle.lapjv.specs.Solve as lapjv;
 use crate::Tested;
 use crate::values::unwrapped;
 use crate::values::value_at;

@@ -5,7 +5,6 @@ ghost use lib.ListN.{length};
 ghost use lib.Seq.{sets};
 ghost use Rattle.lists.specs.Parts.{part};
 ghost use Rattle.sheet.specs.Numbers.{bytesOf, valueOf, wrapped, unwrapped};
-ghost use Rattle.lapjv.specs.Solve as lapjv;
 
 // A byte as a number.
 fn wide(x: u8) -> usize

@@ -6,7 +6,6 @@ ghost use lib.ListN.{length, drop};
 ghost use lib.Seq.{sets};
 ghost use Rattle.sheet.specs.Numbers.{bytesOf, wrapped, signedBytes};
 ghost use Rattle.sheet.specs.Layout.{slipMark, trailer, slipOf, slipLength, Listed};
-ghost use Rattle.lapjv.specs.Solve as lapjv;
 use crate::values::wrapped;
 use crate::values::write_value;
 

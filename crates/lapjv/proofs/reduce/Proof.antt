@@ -1,13 +1,35 @@
 -- `reduce` runs rule 3 and both passes of rule 4, each on what the one before it left. Assumes nothing.
-use mathlib.Core.Path.{_≡_, sym, ap, _∙_}
+use mathlib.Core.Path.{_≡_, sym, _∙_}
 use native.Mathlib.Omega.{arith}
 use borrow.Author.Needs.{needs}
 use lib.ListN.{length}
-use Rattle.lists.proofs.Parts.{replaced-length}
 use Rattle.lapjv.proofs.Ready.{rule-three}
 use Rattle.lapjv.proofs.Reducing as reducing
 use Rattle.lapjv.proofs.reduce.Statement.{statement}
 use Rattle.lapjv.proofs.reduce.Tie as tie
+
+-- the stages, each with the one before it
+abbrev start : tie.After-ccrrt-dense → tie.Start
+start c = c .before .before .before .before .before .before .before .before
+
+abbrev columns : tie.After-carr-dense → tie.After-ccrrt-dense
+columns c = c .before .before .before .before .before .before .before .before .before .before .before .before
+
+abbrev pass-one : tie.After-carr-dense2 → tie.After-carr-dense
+pass-one c = c .before .before .before .before .before .before .before .before .before .before .before .before
+
+-- what the second pass leaves: lists of the night's side
+sizes : (c : tie.After-carr-dense2)
+    → let left = c .carr-dense2 .last .1 .1 in
+    let n = start (columns (pass-one c)) .args .n in
+    (length (left .0) ≡ n) × (length (left .1 .0) ≡ n) × (length (left .1 .1 .0) ≡ n)
+sizes c =
+    let s = start (columns (pass-one c)) in
+    let a = columns (pass-one c) .ccrrt-dense in
+    let b = pass-one c .carr-dense in
+    let d = c .carr-dense2 in
+    reducing.sizes-two (s .args .n) (s .args .costs .now) (s .pre .0) _ _ _ (a .last .1 .1 .1 .1 .1 .0) (a .result) (a .ensures .0) _ _ _ _ (b .result) (b .ensures)
+    _ _ _ _ (d .result) (d .ensures)
 
 ccrrt-dense-requires : tie.Need-ccrrt-dense-requires
 ccrrt-dense-requires c κs =
@@ -26,8 +48,9 @@ part-carr-dense-end c = search needs
 
 carr-dense-requires : tie.Need-carr-dense-requires
 carr-dense-requires c κs =
-    let s = c .before .before .before .before .before .before .before .before .before .before .before .before .before .before .before .before .before .before .before in
-    let a = c .before .before .before .before .before .before .before .before .before .before .before .ccrrt-dense in
+    let x = c .before .before .before .before .before .before .before .before .before .before .before in
+    let s = start x in
+    let a = x .ccrrt-dense in
     reducing.first-pass (s .args .n) (s .args .costs .now) (s .pre .0) _ _ _ (a .last .1 .1 .1 .1 .1 .0) (a .result) (a .ensures .0)
 
 sub-carr-dense-2 : tie.Need-sub-carr-dense-2
@@ -41,51 +64,46 @@ part-carr-dense-end-2 c = search needs
 
 carr-dense-requires-2 : tie.Need-carr-dense-requires-2
 carr-dense-requires-2 c κs =
-    let s = c .before .before .before .before .before .before .before .before .before .before .before .before .before .before .before .before .before .before .before .before .before .before .before .before .before .before .before .before .before .before .before in
-    let a = c .before .before .before .before .before .before .before .before .before .before .before .before .before .before .before .before .before .before .before .before .before .before .before .ccrrt-dense in
-    let b = c .before .before .before .before .before .before .before .before .before .before .before .carr-dense in
+    let x = c .before .before .before .before .before .before .before .before .before .before .before in
+    let s = start (columns x) in
+    let a = columns x .ccrrt-dense in
+    let b = x .carr-dense in
     reducing.second-pass (s .args .n) (s .args .costs .now) (s .pre .0) _ _ _ (a .last .1 .1 .1 .1 .1 .0) (a .result) (a .ensures .0)
     _ _ _ _ (b .result) (b .ensures)
 
+-- the second pass, from the end
+abbrev pass-two : tie.After-slice-known12 → tie.After-carr-dense2
+pass-two c = c .before .before .before .before .before .before .before
+
 same-length : tie.Need-same-length
-same-length c =
-    let s = c .before .before .before .before .before .before .before .before .before .before .before .before .before .before .before .before .before .before .before .before .before .before .before .before .before .before .before .before .before .before .before .before .before .before .before .before .before .before .before in
-    let a = c .before .before .before .before .before .before .before .before .before .before .before .before .before .before .before .before .before .before .before .before .before .before .before .before .before .before .before .before .before .before .before .ccrrt-dense in
-    let b = c .before .before .before .before .before .before .before .before .before .before .before .before .before .before .before .before .before .before .before .carr-dense in
-    let d = c .before .before .before .before .before .before .before .carr-dense2 in
-    reducing.sizes-two (s .args .n) (s .args .costs .now) (s .pre .0) _ _ _ (a .last .1 .1 .1 .1 .1 .0) (a .result) (a .ensures .0) _ _ _ _ (b .result) (b .ensures) _ _ _ _ (d .result) (d .ensures) .0 ∙ sym (s .pre .1 .cols-size)
+same-length c = sizes (pass-two c) .0 ∙ sym (start (columns (pass-one (pass-two c))) .pre .1 .cols-size)
 
 same-length-2 : tie.Need-same-length-2
-same-length-2 c =
-    let s = c .before .before .before .before .before .before .before .before .before .before .before .before .before .before .before .before .before .before .before .before .before .before .before .before .before .before .before .before .before .before .before .before .before .before .before .before .before .before .before in
-    let a = c .before .before .before .before .before .before .before .before .before .before .before .before .before .before .before .before .before .before .before .before .before .before .before .before .before .before .before .before .before .before .before .ccrrt-dense in
-    let b = c .before .before .before .before .before .before .before .before .before .before .before .before .before .before .before .before .before .before .before .carr-dense in
-    let d = c .before .before .before .before .before .before .before .carr-dense2 in
-    reducing.sizes-two (s .args .n) (s .args .costs .now) (s .pre .0) _ _ _ (a .last .1 .1 .1 .1 .1 .0) (a .result) (a .ensures .0) _ _ _ _ (b .result) (b .ensures) _ _ _ _ (d .result) (d .ensures) .1 ∙ sym (s .pre .1 .rows-size)
+same-length-2 c = sizes (pass-two c) .1 ∙ sym (start (columns (pass-one (pass-two c))) .pre .1 .rows-size)
 
 same-length-3 : tie.Need-same-length-3
-same-length-3 c =
-    let s = c .before .before .before .before .before .before .before .before .before .before .before .before .before .before .before .before .before .before .before .before .before .before .before .before .before .before .before .before .before .before .before .before .before .before .before .before .before .before .before in
-    let a = c .before .before .before .before .before .before .before .before .before .before .before .before .before .before .before .before .before .before .before .before .before .before .before .before .before .before .before .before .before .before .before .ccrrt-dense in
-    let b = c .before .before .before .before .before .before .before .before .before .before .before .before .before .before .before .before .before .before .before .carr-dense in
-    let d = c .before .before .before .before .before .before .before .carr-dense2 in
-    reducing.sizes-two (s .args .n) (s .args .costs .now) (s .pre .0) _ _ _ (a .last .1 .1 .1 .1 .1 .0) (a .result) (a .ensures .0) _ _ _ _ (b .result) (b .ensures) _ _ _ _ (d .result) (d .ensures) .2 ∙ sym (s .pre .1 .prices-size)
+same-length-3 c = sizes (pass-two c) .2 ∙ sym (start (columns (pass-one (pass-two c))) .pre .1 .prices-size)
 
 same-length-4 : tie.Need-same-length-4
 same-length-4 c =
-    let s = c .before .before .before .before .before .before .before .before .before .before .before .before .before .before .before .before .before .before .before .before .before .before .before .before .before .before .before .before .before .before .before .before .before .before .before .before .before .before .before in
-    let a = c .before .before .before .before .before .before .before .before .before .before .before .before .before .before .before .before .before .before .before .before .before .before .before .before .before .before .before .before .before .before .before .ccrrt-dense in
-    let b = c .before .before .before .before .before .before .before .before .before .before .before .before .before .before .before .before .before .before .before .carr-dense in
-    let d = c .before .before .before .before .before .before .before .carr-dense2 in
-    reducing.room-two (s .args .n) (s .args .costs .now) (s .pre .0) _ _ _ (a .last .1 .1 .1 .1 .1 .0) (a .result) (a .ensures .0) _ _ _ _ (b .result) (b .ensures) _ _ _ _ (d .result) (d .ensures) (omega arith) ∙ omega arith
+    let x = pass-two c in
+    let s = start (columns (pass-one x)) in
+    let a = columns (pass-one x) .ccrrt-dense in
+    let b = pass-one x .carr-dense in
+    let d = x .carr-dense2 in
+    reducing.room-two (s .args .n) (s .args .costs .now) (s .pre .0) _ _ _ (a .last .1 .1 .1 .1 .1 .0) (a .result) (a .ensures .0) _ _ _ _ (b .result) (b .ensures)
+    _ _ _ _ (d .result) (d .ensures) (omega (arith, a .kept, s .pre .1 .room-size))
+    ∙ omega (arith, a .kept)
 
 returns : tie.Need-returns
 returns c =
-    let s = c .before .before .before .before .before .before .before .before .before .before .before .before .before .before .before .before .before .before .before .before .before .before .before .before .before .before .before .before .before .before .before .before .before .before .before .before .before .before .before in
-    let a = c .before .before .before .before .before .before .before .before .before .before .before .before .before .before .before .before .before .before .before .before .before .before .before .before .before .before .before .before .before .before .before .ccrrt-dense in
-    let b = c .before .before .before .before .before .before .before .before .before .before .before .before .before .before .before .before .before .before .before .carr-dense in
-    let d = c .before .before .before .before .before .before .before .carr-dense2 in
-    reducing.reduced-by (s .args .n) (s .args .costs .now) (s .pre .0) _ _ _ (a .last .1 .1 .1 .1 .1 .0) (a .result) (a .ensures .0) _ _ _ _ (b .result) (b .ensures) _ _ _ _ (d .result) (d .ensures) (omega arith)
+    let x = pass-two c in
+    let s = start (columns (pass-one x)) in
+    let a = columns (pass-one x) .ccrrt-dense in
+    let b = pass-one x .carr-dense in
+    let d = x .carr-dense2 in
+    reducing.reduced-by (s .args .n) (s .args .costs .now) (s .pre .0) _ _ _ (a .last .1 .1 .1 .1 .1 .0) (a .result) (a .ensures .0) _ _ _ _ (b .result) (b .ensures)
+    _ _ _ _ (d .result) (d .ensures) (omega (arith, a .kept, s .pre .1 .room-size))
 
 pub reduce-spec : {M : Type 1} → statement M
 reduce-spec =

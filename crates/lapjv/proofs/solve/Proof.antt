@@ -1,13 +1,12 @@
 -- `solve` leaves what its definition says: a refusal changes nothing, side 0 has nothing to pair, and else the fronts of the lent lists hold the
 -- answer. Assumes nothing.
-use mathlib.Core.Path.{_≡_, sym, ap, _∙_}
-use Prim.Native.Nat.{ℕ, _*_, _≤_}
+use mathlib.Core.Path.{sym, ap, _∙_}
 use native.Mathlib.Omega.{arith}
 use borrow.Author.Needs.{needs}
 use Rattle.matrix.proofs.Limits.{side-small}
 use Rattle.lapjv.specs.declared.Night.{Night}
 use Rattle.lapjv.specs.declared.Solved.the-variants.{Paired}
-use Rattle.lapjv.specs.Solve.{lentOf, outcomeOf, tested, solve}
+use Rattle.lapjv.specs.Solve.{lentOf, outcomeOf, tested}
 use Rattle.lapjv.specs.Passes.{Passes}
 use Rattle.lapjv.proofs.Tests.{outcome, solve-outcome, passed-passes}
 use Rattle.lapjv.proofs.Solving as solving

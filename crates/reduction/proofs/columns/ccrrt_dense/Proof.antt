@@ -23,38 +23,38 @@ add-n4 c = omega (arith, side-small, c .before .before .before .pre .squared .sm
 minima-requires : tie.Need-minima-requires
 minima-requires c κs = let h = c .before .before .before .before .before .pre in (h .squared, h .rows-size, h .prices-size)
 
-zero-requires : tie.Need-zero-requires
-zero-requires c κs = search needs
+fill-requires : tie.Need-fill-requires
+fill-requires c κs = search needs
 
-mul-zero : tie.Need-mul-zero
-mul-zero c = search needs
+mul-fill : tie.Need-mul-fill
+mul-fill c = search needs
 
-sub-zero : tie.Need-sub-zero
-sub-zero c = search needs
+sub-fill : tie.Need-sub-fill
+sub-fill c = search needs
 
-part-zero-start : tie.Need-part-zero-start
-part-zero-start c = search needs
+part-fill-start : tie.Need-part-fill-start
+part-fill-start c = search needs
 
-part-zero-end : tie.Need-part-zero-end
-part-zero-end c = search needs
+part-fill-end : tie.Need-part-fill-end
+part-fill-end c = search needs
 
-zero-requires-2 : tie.Need-zero-requires-2
-zero-requires-2 c κs = search needs
+fill-requires-2 : tie.Need-fill-requires-2
+fill-requires-2 c κs = search needs
 
 -- places of the code, from the end back to the start
-abbrev start : tie.After-zero2 → tie.Start
+abbrev start : tie.After-fill2 → tie.Start
 start c = c .before .before .before .before .before .before .before .before .before .before .before .before .before .before .before
 
-abbrev minima-at : tie.After-zero2 → tie.After-minima
+abbrev minima-at : tie.After-fill2 → tie.After-minima
 minima-at c = c .before .before .before .before .before .before .before .before .before
 
-abbrev zeroing : tie.After-claim-all → tie.After-zero2
-zeroing c = c .before .before .before .before .before .before
+abbrev filling : tie.After-claim-all → tie.After-fill2
+filling c = c .before .before .before .before .before .before
 
-abbrev claiming : tie.After-zero3 → tie.After-claim-all
+abbrev claiming : tie.After-fill3 → tie.After-claim-all
 claiming c = c .before .before .before .before .before .before .before .before
 
-abbrev clearing : tie.After-slice-known11 → tie.After-zero3
+abbrev clearing : tie.After-slice-known11 → tie.After-fill3
 clearing c = c .before .before .before .before .before .before .before .before .before
 
 mul-claim-all : tie.Need-mul-claim-all
@@ -73,75 +73,75 @@ claim-all-requires : tie.Need-claim-all-requires
 claim-all-requires c κs =
     let d = c .before .before .before .before .before in
     let h = start d .pre in
-    (h .squared .small, ready h (d .before .before .before .before .zero .ensures) (minima-at d .minima .ensures .0) (minima-at d .minima .ensures .1) (d .zero2 .ensures))
+    (h .squared .small, ready h (d .before .before .before .before .fill .ensures) (minima-at d .minima .ensures .0) (minima-at d .minima .ensures .1) (d .fill2 .ensures))
 
 claimed : (c : tie.After-claim-all)
-    → let u = start (zeroing c) .args in
+    → let u = start (filling c) .args in
     claimsOf (c .claim-all .last .1 .0) (c .claim-all .last .1 .1 .0) (c .claim-all .last .1 .1 .1 .0) ≡ claims (u .n) (square (u .n) (u .costs .now) .cost)
 claimed c =
-    let d = zeroing c in
-    claims-are (start d .pre) (d .before .before .before .before .zero .ensures) (minima-at d .minima .ensures .0) (minima-at d .minima .ensures .1) (d .zero2 .ensures) (c .claim-all .ensures)
+    let d = filling c in
+    claims-are (start d .pre) (d .before .before .before .before .fill .ensures) (minima-at d .minima .ensures .0) (minima-at d .minima .ensures .1) (d .fill2 .ensures) (c .claim-all .ensures)
 
-sub-zero-2 : tie.Need-sub-zero-2
-sub-zero-2 c = search needs
+sub-fill-2 : tie.Need-sub-fill-2
+sub-fill-2 c = search needs
 
-part-zero-start-2 : tie.Need-part-zero-start-2
-part-zero-start-2 c = search needs
+part-fill-start-2 : tie.Need-part-fill-start-2
+part-fill-start-2 c = search needs
 
-part-zero-end-2 : tie.Need-part-zero-end-2
-part-zero-end-2 c = search needs
+part-fill-end-2 : tie.Need-part-fill-end-2
+part-fill-end-2 c = search needs
 
-zero-requires-3 : tie.Need-zero-requires-3
-zero-requires-3 c κs = search needs
+fill-requires-3 : tie.Need-fill-requires-3
+fill-requires-3 c κs = search needs
 
-rows-claimed : (c : tie.After-zero3)
-    → let u = start (zeroing (claiming c)) .args in
+rows-claimed : (c : tie.After-fill3)
+    → let u = start (filling (claiming c)) .args in
     claiming c .claim-all .last .1 .1 .0 ≡ claims (u .n) (square (u .n) (u .costs .now) .cost) .rows
 rows-claimed c = ap (λ (x : Claims). x .rows) (claimed (claiming c))
 
-at-clear : (c : tie.After-zero3)
-    → let d = zeroing (claiming c) in
+at-clear : (c : tie.After-fill3)
+    → let d = filling (claiming c) in
     let u = start d .args in
     let a = claiming c .claim-all in
     Cleared (u .n) (square (u .n) (u .costs .now) .cost) (u .room .now) (a .last .1 .0) (minima-at d .minima .last .1 .1 .1 .0)
-    (frontLent (u .n) (c .zero3 .last .0) (roomLent (u .n) (a .last .1 .1 .1 .0) (roomLent (u .n) (d .zero2 .last .0) (u .room .now))))
+    (frontLent (u .n) (c .fill3 .last .0) (roomLent (u .n) (a .last .1 .1 .1 .0) (roomLent (u .n) (d .fill2 .last .0) (u .room .now))))
 at-clear c =
-    let d = zeroing (claiming c) in
-    cleared (start d .pre) (d .before .before .before .before .zero .ensures) (minima-at d .minima .ensures .0) (minima-at d .minima .ensures .1) (d .zero2 .ensures)
-    (claiming c .claim-all .ensures) _ (c .zero3 .ensures)
+    let d = filling (claiming c) in
+    cleared (start d .pre) (d .before .before .before .before .fill .ensures) (minima-at d .minima .ensures .0) (minima-at d .minima .ensures .1) (d .fill2 .ensures)
+    (claiming c .claim-all .ensures) _ (c .fill3 .ensures)
 
 transfers-requires : tie.Need-transfers-requires
 transfers-requires c κs =
     let d = c .before .before .before .before .before in
-    ready-to-transfer (start (zeroing (claiming d)) .pre) (at-clear d)
+    ready-to-transfer (start (filling (claiming d)) .pre) (at-clear d)
 
 same-length : tie.Need-same-length
 same-length c =
     let d = claiming (clearing c) in
-    let s = start (zeroing d) in
+    let s = start (filling d) in
     ap (λ (x : Claims). length (x .cols)) (claimed d) ∙ claims-claimable (s .args .n) (square (s .args .n) (s .args .costs .now) .cost) .cols-size ∙ sym (s .pre .cols-size)
 
 same-length-2 : tie.Need-same-length-2
 same-length-2 c =
     let d = claiming (clearing c) in
-    let s = start (zeroing d) in
+    let s = start (filling d) in
     ap (λ (x : Claims). length (x .rows)) (claimed d) ∙ claims-claimable (s .args .n) (square (s .args .n) (s .args .costs .now) .cost) .rows-size ∙ sym (s .pre .rows-size)
 
 same-length-3 : tie.Need-same-length-3
 same-length-3 c =
-    let d = zeroing (claiming (clearing c)) in
+    let d = filling (claiming (clearing c)) in
     c .before .before .before .transfers .kept .1 .1 .1 .0 ∙ minima-at d .minima .kept .1 .1 .1 .0
 
 same-length-4 : tie.Need-same-length-4
 same-length-4 c =
     let z = clearing c in
-    let s = start (zeroing (claiming z)) in
+    let s = start (filling (claiming z)) in
     after-length (s .pre) (at-clear z) (rows-claimed z) (c .before .before .before .transfers .ensures) ∙ sym (s .pre .room-size)
 
 returns : tie.Need-returns
 returns c =
     let z = clearing c in
-    let h = start (zeroing (claiming z)) .pre in
+    let h = start (filling (claiming z)) .pre in
     let t = c .before .before .before .transfers .ensures in
     (stage-ends h (at-clear z) (rows-claimed z) t, room-ends h (at-clear z) (rows-claimed z) t)
 
@@ -153,21 +153,21 @@ ccrrt-dense-spec =
     add-n3-2
     add-n4
     minima-requires
-    zero-requires
-    mul-zero
-    sub-zero
-    part-zero-start
-    part-zero-end
-    zero-requires-2
+    fill-requires
+    mul-fill
+    sub-fill
+    part-fill-start
+    part-fill-end
+    fill-requires-2
     mul-claim-all
     sub-claim-all
     part-claim-all-start
     part-claim-all-end
     claim-all-requires
-    sub-zero-2
-    part-zero-start-2
-    part-zero-end-2
-    zero-requires-3
+    sub-fill-2
+    part-fill-start-2
+    part-fill-end-2
+    fill-requires-3
     transfers-requires
     same-length
     same-length-2

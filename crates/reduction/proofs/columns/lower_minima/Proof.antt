@@ -12,13 +12,12 @@ use lib.ListN.{length, set, drop}
 use mir.Syntax.{w64}
 use Rattle.ints.proofs.Bits.{read-back, read-wide, wide-fits}
 use Rattle.lists.specs.Permutations.{at, table}
-use Rattle.lists.proofs.Tables.{filled-none, filled-more, filled-length, filled-all}
+use Rattle.lists.proofs.Tables.{filled-none, filled-more, filled-length, filled-all, filled-next, filled-kept}
 use Rattle.assignment.specs.Pairings.{price}
 use Rattle.rules.specs.declared.Low.{Low}
 use Rattle.rules.specs.Lowest.{low}
 use Rattle.matrix.proofs.Limits.{side-small}
 use Rattle.reduction.specs.Columns.{lowAt}
-use Rattle.reduction.proofs.Fills.{filled-next, filled-kept}
 use Rattle.reduction.proofs.columns.lower_minima.Statement.{statement}
 use Rattle.reduction.proofs.columns.lower_minima.Tie as tie
 

@@ -5,8 +5,7 @@ use native.Mathlib.Omega.{arith}
 use borrow.Author.Needs.{needs}
 use lib.ListN.{length}
 use Rattle.lists.specs.Permutations.{table}
-use Rattle.lists.proofs.Tables.{length-table}
-use Rattle.reduction.proofs.Fills.{empty-table}
+use Rattle.lists.proofs.Tables.{length-table, empty-table}
 use Rattle.reduction.proofs.RowParts.{row-length}
 use Rattle.reduction.proofs.Minima.{lowestOf, places, values, places-one, values-one, places-more, values-more}
 use Rattle.reduction.proofs.columns.minima.Statement.{statement}
@@ -28,8 +27,8 @@ returns c =
           (u .v .now) n (c .if1 .taken) (s .pre .2),
     )
 
-zero-requires : tie.Need-zero-requires Inv-loop μ-loop
-zero-requires c κs = search needs
+fill-requires : tie.Need-fill-requires Inv-loop μ-loop
+fill-requires c κs = search needs
 
 row-requires : tie.Need-row-requires Inv-loop μ-loop
 row-requires c κs = (omega arith, c .before .before .before .before .before .before .pre .0 .size)
@@ -48,7 +47,7 @@ loop-holds c =
     let one : 0 < n = omega arith in (
       omega arith,
       one,
-      c .before .before .before .before .before .before .zero .ensures ∙ ap (λ (m : ℕ). table m (λ k. 0)) (s .pre .1) ∙ places-one n costs (row .result .now) one (s .pre .0 .size) (row .ensures),
+      c .before .before .before .before .before .before .fill .ensures ∙ ap (λ (m : ℕ). table m (λ k. 0)) (s .pre .1) ∙ places-one n costs (row .result .now) one (s .pre .0 .size) (row .ensures),
       c .before .widen .ensures ∙ values-one n costs (row .result .now) one (s .pre .0 .size) (row .ensures),
     )
 
@@ -118,7 +117,7 @@ minima-spec =
     Inv-loop
     μ-loop
     returns
-    zero-requires
+    fill-requires
     row-requires
     widen-requires
     loop-holds

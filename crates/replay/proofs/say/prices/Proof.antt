@@ -1,6 +1,5 @@
 -- `prices` reads no entry past the list. Assumes nothing.
 use Prim.Native.Nat.{_≤_, _-_}
-use native.Mathlib.Omega.{arith}
 use borrow.Author.Needs.{needs}
 use lib.ListN.{length}
 use Rattle.replay.proofs.say.prices.Statement.{statement}

@@ -4,7 +4,7 @@ use Prim.Native.Nat.{ℕ, _-_, _^_, _<_}
 use native.Mathlib.Omega.{arith}
 use lib.IntN.{negsuc}
 use Rattle.sheet.specs.Numbers.{wrapped}
-use Rattle.sheet.proofs.Signs.{Negative, negative, Positive, positive}
+use Rattle.ints.proofs.Signs.{Negative, negative, Positive, positive}
 use Rattle.sheet.proofs.values.wrapped.Statement.{statement}
 use Rattle.sheet.proofs.values.wrapped.Tie as tie
 
