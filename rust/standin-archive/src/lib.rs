@@ -140,11 +140,24 @@ pub unsafe extern "C" fn bristlefrost_sheet(
 ) -> u64 {
     let (sheet, slip) = (from_raw_parts(sheet, sheet_len), from_raw_parts_mut(slip, slip_len));
     match refusals::sheet(sheet, slip_len) {
-        Ok(night) => {
+        Ok(mut night) => {
+            if cfg!(feature = "highest-byte-first") {
+                night.costs.iter_mut().for_each(|cost| *cost = cost.swap_bytes());
+            }
             let bytes = sheets::slip(night.n, &rules::solve(night.n, &night.costs));
             slip[..bytes.len()].copy_from_slice(&bytes);
+            if cfg!(feature = "total-left-out") {
+                slip[18 * night.n..18 * night.n + 8].fill(0);
+            }
             0
         }
-        Err(refused) => refusals::code(refused),
+        // The distance points past the sheet's first byte then.
+        Err((14, _)) if cfg!(feature = "distance-not-tested") => 15,
+        Err(refused) => {
+            if cfg!(feature = "slip-before-refusal") && refused.0 == 5 {
+                slip[0] ^= 1;
+            }
+            refusals::code(refused)
+        }
     }
 }

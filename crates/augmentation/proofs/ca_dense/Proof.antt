@@ -32,22 +32,28 @@ mul-start c = search needs
 slice-read-start : tie.Need-slice-read-start Inv-loop μ-loop
 slice-read-start c = search needs
 
+-- the turn that a search and a flip belong to
+abbrev turn-of : tie.After-find-path-dense Inv-loop μ-loop → tie.In-loop Inv-loop μ-loop
+turn-of c = c .before .before .before .before .before .before
+
+abbrev search-of : tie.After-flip-back Inv-loop μ-loop → tie.After-find-path-dense Inv-loop μ-loop
+search-of c = c .before .before .before .before .before .before .before .before .before .before
+
 find-path-dense-requires : tie.Need-find-path-dense-requires Inv-loop μ-loop
 find-path-dense-requires c κs =
-    let l = c .before .before .before .before .before .before .loop in
-    let t = c .before .before .before .before .before .loop-test .taken in
-    let A = l .inv .0 in
+    let t = c .before .before .before .before .before in
+    let A = t .before .loop .inv .0 in
     let p = A .can in (
-      can-search _ _ (p .small) (p .costs-size) (p .costs-near) _ _ _ _ _ (turn A t),
+      can-search _ _ (p .small) (p .costs-size) (p .costs-near) _ _ _ _ _ (turn A (t .loop-test .taken)),
       A .distances-size,
       A .room-size,
     )
 
 add-scanned : tie.Need-add-scanned Inv-loop μ-loop
 add-scanned c =
-    let l = c .before .before .before .before .before .before .before .before .before .before .before .before .loop in
-    let t = c .before .before .before .before .before .before .before .before .before .before .before .loop-test .taken in
-    omega (arith, side-small, l .inv .0 .can .small, l .inv .0 .can .few, l .inv .0 .few, l .inv .0 .reach, found-few (l .inv .0) t (c .before .before .before .before .before .find-path-dense .ensures))
+    let x = c .before .before .before .before .before in
+    let A = turn-of x .before .loop .inv .0 in
+    omega (arith, side-small, A .can .small, A .can .few, A .few, A .reach, found-few A (turn-of x .loop-test .taken) (x .find-path-dense .ensures))
 
 mul-flip-back : tie.Need-mul-flip-back Inv-loop μ-loop
 mul-flip-back c = search needs
@@ -63,9 +69,8 @@ part-flip-back-end c = search needs
 
 flip-back-requires : tie.Need-flip-back-requires Inv-loop μ-loop
 flip-back-requires c κs =
-    let l = c .before .before .before .before .before .before .before .before .before .before .before .before .before .before .before .before .loop in
-    let t = c .before .before .before .before .before .before .before .before .before .before .before .before .before .before .before .loop-test .taken in
-    way-back (l .inv .0) t (c .before .before .before .before .before .before .before .before .before .find-path-dense .ensures)
+    let x = c .before .before .before .before .before .before .before .before .before in
+    way-back (turn-of x .before .loop .inv .0) (turn-of x .loop-test .taken) (x .find-path-dense .ensures)
 
 add-k : tie.Need-add-k Inv-loop μ-loop
 add-k c = search needs
@@ -75,9 +80,9 @@ loop-less c = search needs
 
 loop-again : tie.Need-loop-again Inv-loop μ-loop
 loop-again c =
-    let l = c .before .before .before .before .before .before .before .before .before .before .before .before .before .before .before .before .before .before .before .before .before .loop in
-    let t = c .before .before .before .before .before .before .before .before .before .before .before .before .before .before .before .before .before .before .before .before .loop-test .taken in (
-      next-turn (l .inv .0) t (c .before .before .before .before .before .before .before .before .before .before .before .before .before .before .find-path-dense .ensures) (c .before .before .before .before .flip-back .ensures) (search needs),
+    let f = c .before .before .before .before in
+    let x = search-of f in (
+      next-turn (turn-of x .before .loop .inv .0) (turn-of x .loop-test .taken) (x .find-path-dense .ensures) (f .flip-back .ensures) (search needs),
       search needs,
       search needs,
       search needs,

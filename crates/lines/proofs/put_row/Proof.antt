@@ -24,6 +24,26 @@ barred-short z = by (isBarred z)
     by true = omega arith
     by false = omega arith
 
+-- ---- the start, from each write
+
+abbrev from-row : tie.After-put-decimal → tie.Start
+from-row c = c .before .before .before
+
+abbrev from-blank : tie.After-put-byte → tie.Start
+from-blank c = from-row (c .before .before .before .before)
+
+abbrev from-column : tie.After-put-decimal2 → tie.Start
+from-column c = from-blank (c .before .before .before .before)
+
+abbrev from-second-blank : tie.After-put-byte2 → tie.Start
+from-second-blank c = from-column (c .before .before .before .before)
+
+abbrev from-cost : tie.After-put-signed → tie.Start
+from-cost c = from-second-blank (c .before .before .before .before)
+
+abbrev from-mark : tie.After-put-barred → tie.Start
+from-mark c = from-cost (c .before .before .before .before)
+
 -- ---- how far each write has come
 
 start : (c : tie.Start) → Near (c .args .place) 0 (c .args .place) (c .args .out .now)
@@ -41,23 +61,23 @@ cost-read c = read-wide (c .args .cost) (c .fits .cost .sfits)
 cost-short : (c : tie.Start) → length (signedDecimal (toZ w64 (ofZ w64 (toZ w32 (ofZ w32 (c .args .cost)))))) ≤ 20
 cost-short c = rw (cost-read c) (length-signedDecimal (c .args .cost) (omega (arith, c .fits .cost .sfits)))
 
-after-row : (c : tie.After-put-decimal) → Near (c .before .before .before .args .place) 20 (c .put-decimal .result) (c .put-decimal .last .0)
-after-row c = near-then 20 (start (c .before .before .before)) (c .put-decimal .ensures) (c .put-decimal .kept .0) (row-short (c .before .before .before))
+after-row : (c : tie.After-put-decimal) → Near (from-row c .args .place) 20 (c .put-decimal .result) (c .put-decimal .last .0)
+after-row c = near-then 20 (start (from-row c)) (c .put-decimal .ensures) (c .put-decimal .kept .0) (row-short (from-row c))
 
-after-blank : (c : tie.After-put-byte) → Near (c .before .before .before .before .before .before .before .args .place) 21 (c .put-byte .result) (c .put-byte .last .0)
+after-blank : (c : tie.After-put-byte) → Near (from-blank c .args .place) 21 (c .put-byte .result) (c .put-byte .last .0)
 after-blank c = near-then 1 (after-row (c .before .before .before .before)) (c .put-byte .ensures) (c .put-byte .kept .0) (omega arith)
 
-after-column : (c : tie.After-put-decimal2) → Near (c .before .before .before .before .before .before .before .before .before .before .before .args .place) 41 (c .put-decimal2 .result) (c .put-decimal2 .last .0)
-after-column c = near-then 20 (after-blank (c .before .before .before .before)) (c .put-decimal2 .ensures) (c .put-decimal2 .kept .0) (column-short (c .before .before .before .before .before .before .before .before .before .before .before))
+after-column : (c : tie.After-put-decimal2) → Near (from-column c .args .place) 41 (c .put-decimal2 .result) (c .put-decimal2 .last .0)
+after-column c = near-then 20 (after-blank (c .before .before .before .before)) (c .put-decimal2 .ensures) (c .put-decimal2 .kept .0) (column-short (from-column c))
 
-after-second-blank : (c : tie.After-put-byte2) → Near (c .before .before .before .before .before .before .before .before .before .before .before .before .before .before .before .args .place) 42 (c .put-byte2 .result) (c .put-byte2 .last .0)
+after-second-blank : (c : tie.After-put-byte2) → Near (from-second-blank c .args .place) 42 (c .put-byte2 .result) (c .put-byte2 .last .0)
 after-second-blank c = near-then 1 (after-column (c .before .before .before .before)) (c .put-byte2 .ensures) (c .put-byte2 .kept .0) (omega arith)
 
-after-cost : (c : tie.After-put-signed) → Near (c .before .before .before .before .before .before .before .before .before .before .before .before .before .before .before .before .before .before .before .args .place) 62 (c .put-signed .result) (c .put-signed .last .0)
-after-cost c = near-then 20 (after-second-blank (c .before .before .before .before)) (c .put-signed .ensures) (c .put-signed .kept .0) (cost-short (c .before .before .before .before .before .before .before .before .before .before .before .before .before .before .before .before .before .before .before))
+after-cost : (c : tie.After-put-signed) → Near (from-cost c .args .place) 62 (c .put-signed .result) (c .put-signed .last .0)
+after-cost c = near-then 20 (after-second-blank (c .before .before .before .before)) (c .put-signed .ensures) (c .put-signed .kept .0) (cost-short (from-cost c))
 
-after-mark : (c : tie.After-put-barred) → Near (c .before .before .before .before .before .before .before .before .before .before .before .before .before .before .before .before .before .before .before .before .before .before .before .args .place) 69 (c .put-barred .result) (c .put-barred .last .0)
-after-mark c = near-then 7 (after-cost (c .before .before .before .before)) (c .put-barred .ensures) (c .put-barred .kept .0) (barred-short (toZ w32 (ofZ w32 (c .before .before .before .before .before .before .before .before .before .before .before .before .before .before .before .before .before .before .before .before .before .before .before .args .cost))))
+after-mark : (c : tie.After-put-barred) → Near (from-mark c .args .place) 69 (c .put-barred .result) (c .put-barred .last .0)
+after-mark c = near-then 7 (after-cost (c .before .before .before .before)) (c .put-barred .ensures) (c .put-barred .kept .0) (barred-short (toZ w32 (ofZ w32 (from-mark c .args .cost))))
 
 put-decimal-requires : tie.Need-put-decimal-requires
 put-decimal-requires c κs =
@@ -69,18 +89,18 @@ put-byte-requires c κs = omega (arith, near-fits 1 (after-row (c .before .befor
 
 put-decimal-requires-2 : tie.Need-put-decimal-requires-2
 put-decimal-requires-2 c κs =
-    let s = c .before .before .before .before .before .before .before .before .before .before in
+    let s = from-blank (c .before .before .before) in
     omega (arith, near-fits 20 (after-blank (c .before .before .before)) (omega arith), column-short s)
 
 put-byte-requires-2 : tie.Need-put-byte-requires-2
 put-byte-requires-2 c κs = omega (arith, near-fits 1 (after-column (c .before .before .before)) (omega arith))
 
 cast-put-signed : tie.Need-cast-put-signed
-cast-put-signed c = let s = c .before .before .before .before .before .before .before .before .before .before .before .before .before .before .before .before .before .before in wide-fits (s .args .cost) (s .fits .cost .sfits)
+cast-put-signed c = let s = from-second-blank (c .before .before .before) in wide-fits (s .args .cost) (s .fits .cost .sfits)
 
 put-signed-requires : tie.Need-put-signed-requires
 put-signed-requires c κs =
-    let s = c .before .before .before .before .before .before .before .before .before .before .before .before .before .before .before .before .before .before in
+    let s = from-second-blank (c .before .before .before) in
     omega (arith, near-fits 20 (after-second-blank (c .before .before .before)) (omega arith), cost-short s)
 
 put-barred-requires : tie.Need-put-barred-requires
@@ -102,7 +122,7 @@ returns c =
     let column = second .before .before .before .before in
     let first = column .before .before .before .before in
     let row = first .before .before .before .before in
-    let s = row .before .before .before in
+    let s = from-row row in
     let u = s .args in
     let wide = toZ w64 (ofZ w64 (toZ w32 (ofZ w32 (u .cost)))) in
     let near = toZ w32 (ofZ w32 (u .cost)) in
