@@ -192,6 +192,12 @@ pub fn sheet(random: &mut Random, bytes: &[u8], room: usize) -> Result<u64, Stri
     })?;
     let again = bristlefrost::sheet_into(bytes, &mut found).map(|()| 0);
     expect("the wrapper's sheet", &wrapped(again), &(code, 0))?;
+    let read = refusals::sheet(bytes, usize::MAX).ok().map(|night| night.costs);
+    expect(
+        "the wrapper's reading",
+        &bristlefrost::Sheet::read(bytes).ok().map(|sheet| sheet.costs().to_vec()),
+        &read,
+    )?;
     Ok(code)
 }
 

@@ -30,8 +30,10 @@ pub enum Unfit {
     Side(usize),
     /// A cost lies outside -K..K; the first place i*n+j.
     Cost { place: usize },
-    /// With this note the sheet has over 65,536 bytes.
+    /// The sheet has over 65,536 bytes, its note included.
     Long,
+    /// The bytes are not those of a sheet: what is wrong with them.
+    Sheet(&'static str),
     /// The bytes are not those of a slip: what is wrong with them.
     Slip(&'static str),
 }
@@ -43,13 +45,64 @@ impl fmt::Display for Unfit {
             Unfit::NotSquare { side, costs } => write!(f, "{side} rows want {} costs, not {costs}", side * side),
             Unfit::Side(side) => write!(f, "side {side} is over {LARGEST_SIDE}"),
             Unfit::Cost { place } => write!(f, "the cost at place {place} is outside -{BARRED}..{BARRED}"),
-            Unfit::Long => write!(f, "the sheet would have over {LONGEST_SHEET} bytes"),
+            Unfit::Long => write!(f, "a sheet of over {LONGEST_SHEET} bytes"),
+            Unfit::Sheet(what) => write!(f, "not a sheet: {what}"),
             Unfit::Slip(what) => write!(f, "not a slip: {what}"),
         }
     }
 }
 
 impl std::error::Error for Unfit {}
+
+fn number(bytes: &[u8]) -> i64 {
+    i64::from_le_bytes(bytes.try_into().expect("eight bytes"))
+}
+
+fn numbers(bytes: &[u8]) -> Vec<i64> {
+    bytes.chunks(8).map(number).collect()
+}
+
+fn trailer(distance: usize, side: usize, mark: &[u8; 4]) -> [u8; TRAILER] {
+    let mut bytes = [0; TRAILER];
+    bytes[..4].copy_from_slice(&(distance as u32).to_le_bytes());
+    bytes[4..6].copy_from_slice(&(side as u16).to_le_bytes());
+    bytes[6..8].copy_from_slice(&EDITION.to_le_bytes());
+    bytes[8..].copy_from_slice(mark);
+    bytes
+}
+
+/// What stands before the trailer, and the side; or what is wrong with the trailer.
+fn untrailed<'a>(
+    bytes: &'a [u8],
+    mark: &[u8; 4],
+    distance_of: fn(usize) -> usize,
+) -> Result<(&'a [u8], usize), &'static str> {
+    let (body, found) = bytes.split_last_chunk::<TRAILER>().ok_or("under 12 bytes")?;
+    if found[8..] != *mark {
+        return Err("its mark is another one");
+    }
+    if found[6..8] != EDITION.to_le_bytes() {
+        return Err("its edition is not 1");
+    }
+    let side = usize::from(u16::from_le_bytes([found[4], found[5]]));
+    if side > LARGEST_SIDE {
+        return Err("its side is over 64");
+    }
+    if *found != trailer(distance_of(side), side, mark) {
+        return Err("its distance is not that of its side");
+    }
+    Ok((body, side))
+}
+
+/// The bytes of n*n costs.
+fn costs_length(side: usize) -> usize {
+    4 * side * side
+}
+
+/// The bytes of a slip before its trailer.
+fn slip_body(side: usize) -> usize {
+    18 * side + 8
+}
 
 /// A night to be paired: its costs and a note that nobody reads.
 #[derive(Clone, Debug, PartialEq, Eq)]
@@ -127,11 +180,30 @@ impl Sheet {
     pub fn bytes(&self) -> Vec<u8> {
         let mut bytes = self.note.clone();
         bytes.extend(self.costs.iter().flat_map(|cost| cost.to_le_bytes()));
-        bytes.extend((4 * self.costs.len() as u32).to_le_bytes());
-        bytes.extend((self.side as u16).to_le_bytes());
-        bytes.extend(EDITION.to_le_bytes());
-        bytes.extend(b"MTCH");
+        bytes.extend(trailer(costs_length(self.side), self.side, b"MTCH"));
         bytes
+    }
+
+    /// Reads a sheet. What is unfit here is what the archive refuses, whatever the slip's room.
+    ///
+    /// ```
+    /// use paper::{Sheet, Unfit};
+    ///
+    /// let sheet = Sheet::new(2, &[1, 5, 6, 2])?.noted(b"two guests")?;
+    /// assert_eq!(Sheet::read(&sheet.bytes())?, sheet);
+    /// assert_eq!(Sheet::read(b"two guests"), Err(Unfit::Sheet("under 12 bytes")));
+    /// # Ok::<(), Unfit>(())
+    /// ```
+    pub fn read(bytes: &[u8]) -> Result<Sheet, Unfit> {
+        if bytes.len() > LONGEST_SHEET {
+            return Err(Unfit::Long);
+        }
+        let (body, side) = untrailed(bytes, b"MTCH", costs_length).map_err(Unfit::Sheet)?;
+        let start = body.len().checked_sub(costs_length(side)).ok_or(Unfit::Sheet("its costs are cut off"))?;
+        let (note, costs) = body.split_at(start);
+        let costs: Vec<i32> =
+            costs.chunks(4).map(|four| i32::from_le_bytes(four.try_into().expect("four bytes"))).collect();
+        Sheet::new(side, &costs)?.noted(note)
     }
 }
 
@@ -143,14 +215,6 @@ pub struct Slip {
     pub row_prices: Vec<i64>,
     pub column_prices: Vec<i64>,
     pub total: i64,
-}
-
-fn number(bytes: &[u8]) -> i64 {
-    i64::from_le_bytes(bytes.try_into().expect("eight bytes"))
-}
-
-fn numbers(bytes: &[u8]) -> Vec<i64> {
-    bytes.chunks(8).map(number).collect()
 }
 
 impl Slip {
@@ -166,24 +230,8 @@ impl Slip {
     /// # Ok::<(), paper::Unfit>(())
     /// ```
     pub fn read(bytes: &[u8]) -> Result<Slip, Unfit> {
-        let Some((body, trailer)) = bytes.split_last_chunk::<TRAILER>() else {
-            return Err(Unfit::Slip("under 12 bytes"));
-        };
-        let [d0, d1, d2, d3, s0, s1, e0, e1, mark @ ..] = *trailer;
-        let side = usize::from(u16::from_le_bytes([s0, s1]));
-        if mark != *b"SLIP" {
-            return Err(Unfit::Slip("its mark is another one"));
-        }
-        if u16::from_le_bytes([e0, e1]) != EDITION {
-            return Err(Unfit::Slip("its edition is not 1"));
-        }
-        if side > LARGEST_SIDE {
-            return Err(Unfit::Slip("its side is over 64"));
-        }
-        if u32::from_le_bytes([d0, d1, d2, d3]) as usize != 18 * side + 8 {
-            return Err(Unfit::Slip("its distance is not that of its side"));
-        }
-        if body.len() != 18 * side + 8 {
+        let (body, side) = untrailed(bytes, b"SLIP", slip_body).map_err(Unfit::Slip)?;
+        if body.len() != slip_body(side) {
             return Err(Unfit::Slip("its length is not that of its side"));
         }
         let (columns, rest) = body.split_at(2 * side);

@@ -1,0 +1,41 @@
+//! Slips for people: written from a sheet, and held against one.
+//!
+//!     slip write < SHEET > SLIP    pairs the night of a sheet
+//!     slip audit SHEET SLIP        accepts the slip where it shows the night's least total, without pairing the night
+
+use std::error::Error;
+use std::fs;
+use std::io::{self, Read, Write};
+use std::process::ExitCode;
+
+use bristlefrost::{Sheet, Slip};
+
+fn write() -> Result<(), Box<dyn Error>> {
+    let mut sheet = Vec::new();
+    io::stdin().read_to_end(&mut sheet)?;
+    Ok(io::stdout().write_all(&bristlefrost::sheet(&sheet)?)?)
+}
+
+fn audit(sheet: &str, slip: &str) -> Result<(), Box<dyn Error>> {
+    let night = Sheet::read(&fs::read(sheet)?)?;
+    let slip = Slip::read(&fs::read(slip)?)?;
+    bristlefrost::audit(&night, &slip)?;
+    println!("accepted {} total {}", night.side(), slip.total);
+    Ok(())
+}
+
+fn main() -> ExitCode {
+    let arguments: Vec<String> = std::env::args().skip(1).collect();
+    let done = match arguments.iter().map(String::as_str).collect::<Vec<_>>()[..] {
+        ["write"] => write(),
+        ["audit", sheet, slip] => audit(sheet, slip),
+        _ => Err("slip write < SHEET > SLIP, or slip audit SHEET SLIP".into()),
+    };
+    match done {
+        Ok(()) => ExitCode::SUCCESS,
+        Err(failure) => {
+            eprintln!("slip: {failure}");
+            ExitCode::FAILURE
+        }
+    }
+}
