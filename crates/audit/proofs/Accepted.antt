@@ -57,6 +57,9 @@ module _ (n : ℕ) (costs : List ℤ) (small : n ≤ side) (squared : length cos
       let o = run-owes in
       sym (total-first (square n costs) (answer .cols ++ c)) ∙ ap (total (square n costs)) (take-at (answer .cols) c n (o .cols-size)) ∙ sym (o .total-is)
 
+  pub run-accepted : check n costs (answer .cols) (answer .rows) (answer .rowPrices) (answer .columnPrices) ≡ Total (answer .total)
+  run-accepted = fair-accepted n costs (answer .cols) (answer .rows) (answer .rowPrices) (answer .columnPrices) run-fair ∙ ap Total (sym (run-owes .total-is))
+
   -- The checker accepts the rules' answer, with its total; whatever stands behind it.
   pub checker-accepts-run : (c r : List ℕ) (u v : List ℤ)
       → check n costs (answer .cols ++ c) (answer .rows ++ r) (answer .rowPrices ++ u) (answer .columnPrices ++ v) ≡ Total (answer .total)

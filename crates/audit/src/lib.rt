@@ -1,1 +1,1 @@
-// What holds of the solver and the checker together, for an auditor: see proofs/.
+// What holds of the solver, the checker and the slips together, for an auditor: see proofs/.

@@ -1,0 +1,92 @@
+-- From bytes to a least pairing. Where a sheet is accepted, the bytes of its slip say columns, prices and a total; the checker accepts these
+-- columns and prices on the sheet's costs with that total, and so no pairing of them has a smaller one. Assumes nothing.
+use mathlib.Core.Path.{_≡_, sym, ap, ap₂, _∙_, subst}
+use mathlib.Core.List.{List}
+use Prim.Native.Nat.{ℕ, _*_, _/_, _^_, _≤_, _<_}
+use native.Mathlib.Nat.{mul-le-mul-right}
+use native.Mathlib.Omega.{arith}
+use lib.IntN.{ℤ, pos, negsuc}
+use lib.ListN.{length, take, drop}
+use lib.Seq.{take-at}
+use lib.Signed.{mag}
+use Rattle.ints.specs.Parts.{Within}
+use Rattle.assignment.specs.Pairings.{Least, square, total}
+use Rattle.matrix.specs.Limits.{side, K}
+use Rattle.matrix.specs.declared.Answer.the-variants.{Total}
+use Rattle.matrix.proofs.Limits.{K-small}
+use Rattle.rules.specs.Run.{Answer, run}
+use Rattle.rules.proofs.Run.{Right, right-within-ten}
+use Rattle.checker.specs.Check.{check}
+use Rattle.sheet.specs.Layout.{slipOf, slipLength, slipColumns, slipRowPrices, slipColumnPrices, slipTotal}
+use Rattle.sheet.specs.Reading.{night, read}
+use Rattle.sheet.specs.Settle.{Outcome, pairedAs, pair}
+use Rattle.sheet.proofs.Limits.{sheetSide-within}
+use Rattle.sheet.proofs.Pairing.{Readable, read-right}
+use Rattle.sheet.proofs.Pairing as pairing
+use Rattle.sheet.proofs.Slips.{Held, length-slipOf, slip-columns, slip-row-prices, slip-column-prices, slip-total}
+use Rattle.audit.proofs.Accepted.{run-owes, run-accepted}
+
+-- What lies within a bound below 2^63 fits eight bytes.
+fits-eight : (B : ℕ) (z : ℤ) → B < 2 ^ 63 → Within B z → mag z < 256 ^ 8 / 2
+fits-eight B (pos m) h w = omega arith
+fits-eight B (negsuc m) h w = omega arith
+
+-- A sheet that reads as a night of side n with these costs.
+module _ (sheet room : List ℕ) (n : ℕ) (costs : List ℤ) (e : read (length room) sheet ≡ night n costs) where
+  abbrev answer : Answer
+  answer = run n costs
+
+  readable : Readable (length room) n costs
+  readable = subst (pairing.Right (length room)) e (read-right (length room) sheet)
+
+  owed : Right n costs K answer
+  owed = run-owes n costs (omega (arith, readable .small, sheetSide-within)) (readable .squared) (readable .within)
+
+  held : Held n (answer .cols) (answer .rowPrices) (answer .columnPrices) (answer .total)
+  held = record {
+    columns = owed .cols-size;
+    rows = owed .row-prices-size;
+    prices = owed .column-prices-size;
+    column-fits = λ i l. omega (arith, owed .named .inside i l, readable .few);
+    row-price-fits = λ i l. fits-eight (10 * K) _ (omega (arith, K-small)) (right-within-ten n costs K answer owed .0 i l);
+    column-price-fits = λ j l. fits-eight (10 * K) _ (omega (arith, K-small)) (right-within-ten n costs K answer owed .1 j l);
+    total-fits = fits-eight (n * K) _ (omega (arith, K-small, mul-le-mul-right K (readable .few))) (owed .total-near);
+  }
+
+  -- What is paired, in the slip and in the program's lines, is least.
+  pub night-least : Least (square n costs) (answer .cols)
+  night-least = owed .least
+
+  -- The bytes that are written: the first 18n + 20 of the room.
+  abbrev slip : List ℕ
+  slip = take (slipLength n) (pair sheet room .slip)
+
+  slip-is : slip ≡ slipOf n (answer .cols) (answer .rowPrices) (answer .columnPrices) (answer .total)
+  unfolding pair
+  slip-is =
+      ap (λ (o : Outcome). take (slipLength n) (o .slip)) (ap (pairedAs room) e)
+      ∙ take-at (slipOf n (answer .cols) (answer .rowPrices) (answer .columnPrices) (answer .total)) (drop (slipLength n) room) (slipLength n)
+      (length-slipOf n (answer .cols) (answer .rowPrices) (answer .columnPrices) (answer .total) (owed .cols-size) (owed .row-prices-size) (owed .column-prices-size))
+
+  columns-are : slipColumns n slip ≡ answer .cols
+  columns-are = ap (slipColumns n) slip-is ∙ slip-columns n (answer .cols) (answer .rowPrices) (answer .columnPrices) (answer .total) held
+
+  row-prices-are : slipRowPrices n slip ≡ answer .rowPrices
+  row-prices-are = ap (slipRowPrices n) slip-is ∙ slip-row-prices n (answer .cols) (answer .rowPrices) (answer .columnPrices) (answer .total) held
+
+  column-prices-are : slipColumnPrices n slip ≡ answer .columnPrices
+  column-prices-are = ap (slipColumnPrices n) slip-is ∙ slip-column-prices n (answer .cols) (answer .rowPrices) (answer .columnPrices) (answer .total) held
+
+  total-is : slipTotal n slip ≡ answer .total
+  total-is = ap (slipTotal n) slip-is ∙ slip-total n (answer .cols) (answer .rowPrices) (answer .columnPrices) (answer .total) held
+
+  -- The checker accepts what the slip says, with the total that it says.
+  pub slip-accepted : check n costs (slipColumns n slip) (answer .rows) (slipRowPrices n slip) (slipColumnPrices n slip) ≡ Total (slipTotal n slip)
+  slip-accepted = rw (columns-are, row-prices-are, column-prices-are, total-is) (run-accepted n costs (omega (arith, readable .small, sheetSide-within)) (readable .squared) (readable .within))
+
+  -- No pairing of the sheet's costs has a smaller total than the slip's.
+  pub slip-least : Least (square n costs) (slipColumns n slip)
+  slip-least = rw columns-are night-least
+
+  pub slip-states-total : slipTotal n slip ≡ total (square n costs) (slipColumns n slip)
+  slip-states-total = total-is ∙ owed .total-is ∙ ap (total (square n costs)) (sym columns-are)
