@@ -30,7 +30,7 @@ use Rattle.sheet.specs.declared.Verdict.the-variants.{Paired as Settled�
 use Rattle.sheet.specs.Numbers.{signedValue}
 use Rattle.sheet.specs.Layout.{fields}
 use Rattle.sheet.specs.Reading.{sheetSide, tested, refused, night, readAfter, costsTested, read}
-use Rattle.sheet.specs.Settle.{fresh, lent, loaded, settledAs, settled, Solves}
+use Rattle.sheet.specs.Settle.{fresh, lent, settledAs, settled}
 use Rattle.sheet.proofs.Limits.{sheetSide-small, sheetSide-within}
 use Rattle.sheet.proofs.Fields.{length-fields}
 use Rattle.sheet.proofs.Passing.{Passed, tested-passed, costs-found}
@@ -46,7 +46,7 @@ refuseAt-map {A} {B} f n test refusal rest = by (ltb (first n test) n)
     by false = refl
 
 -- A state made of costs and of what the solver was lent.
-abbrev together : List ℤ → Lent → State
+abbrev pub together : List ℤ → Lent → State
 together costs l = record {
   costs = costs;
   cols = l .cols;
@@ -90,28 +90,20 @@ module _ (n : ℕ) (costs : List ℤ) (size : length costs ≡ n * n) (small : n
       ∙ refuseAt-map after (n * n) far (λ k. lapjv.refused (lent fresh) (CostOutside k)) (lapjv.paired n (lent fresh) (run n costs))
       ∙ sym (refuseAt-map settledAs (n * n) far (λ k. refused (CostOutside k)) (night n costs))
 
--- A sheet that passes the seven tests with side n.
-module _ (room : ℕ) (sheet : List ℕ) (n : ℕ) (e : tested room sheet ≡ Side n) where
-  abbrev p : Passed room sheet n
-  p = tested-passed room sheet n e
+  -- What the code makes of the answer, of the costs that it read and of the arrays that the solver leaves.
+  pub solved-as : (array : List ℤ) (answer : Solved) (left : Lent) → array ≡ costs ++ drop (n * n) (fresh .costs)
+      → lapjv.outcomeOf answer left ≡ solve n (take (n * n) array) (lent fresh) → answered n answer (together array left) ≡ settledAs (costsTested n costs)
+  solved-as array answer left f e =
+      let front : take (n * n) array ≡ costs = ap (take (n * n)) f ∙ take-at costs (drop (n * n) (fresh .costs)) (n * n) size in
+      ap (λ (l : List ℤ). answered n answer (together l left)) f
+      ∙ ap (λ (o : Outcome). answered n (o .answer) (together (costs ++ drop (n * n) (fresh .costs)) (o .lent)))
+      (e ∙ ap (λ (l : List ℤ). solve n l (lent fresh)) front)
+      ∙ solver-settles
 
-  abbrev found : List ℤ
-  found = fields (signedValue 4) (length sheet - 12 - 4 * (n * n)) 4 (n * n) sheet
-
-  found-size : length found ≡ n * n
-  found-size = length-fields (signedValue 4) (length sheet - 12 - 4 * (n * n)) 4 (n * n) sheet
-
-  settled-as : settledAs (costsTested n found) ≡ settled room sheet
-  unfolding settled read
-  settled-as = ap (λ (l : List ℤ). settledAs (costsTested n l)) (sym (costs-found room sheet n p)) ∙ ap (λ (t : Tested). settledAs (readAfter sheet t)) (sym e)
-
-  -- What the code makes of the state that the solver leaves.
-  pub solved-settled : (before after : State) (answer : Solved) → before ≡ loaded n found → Solves n before after answer → answered n answer after ≡ settled room sheet
-  solved-settled before after answer f s =
-      let front : take (n * n) (before .costs) ≡ found = ap (λ (x : State). take (n * n) (x .costs)) f ∙ take-at found (drop (n * n) (fresh .costs)) (n * n) found-size in
-      let outcome : record { answer = answer; lent = lent after } ≡ solve n found (lent fresh) = s .outcome ∙ ap₂ (solve n) front (ap lent f) in
-      let kept : after .costs ≡ found ++ drop (n * n) (fresh .costs) = s .costs-kept ∙ ap (λ (x : State). x .costs) f in
-      ap (λ (l : List ℤ). answered n answer (together l (lent after))) kept
-      ∙ ap (λ (o : Outcome). answered n (o .answer) (together (found ++ drop (n * n) (fresh .costs)) (o .lent))) outcome
-      ∙ solver-settles n found found-size (p .small)
-      ∙ settled-as
+-- A sheet that passes the seven tests with side n settles as its costs.
+pub settled-as : (room : ℕ) (sheet : List ℕ) (n : ℕ) → tested room sheet ≡ Side n
+    → settledAs (costsTested n (fields (signedValue 4) (length sheet - 12 - 4 * (n * n)) 4 (n * n) sheet)) ≡ settled room sheet
+unfolding settled read
+settled-as room sheet n e =
+    ap (λ (l : List ℤ). settledAs (costsTested n l)) (sym (costs-found room sheet n (tested-passed room sheet n e)))
+    ∙ ap (λ (t : Tested). settledAs (readAfter sheet t)) (sym e)

@@ -31,18 +31,6 @@ fresh = record {
 abbrev pub lent : State → lapjv.Lent
 lent s = lapjv.lentOf (s .cols) (s .rows) (s .«row_prices») (s .«col_prices») (s .indices) (s .numbers)
 
--- The state with n*n costs at the front of its costs.
-abbrev pub loaded : ℕ → List ℤ → State
-loaded n costs = record {
-  costs = costs ++ drop (n * n) (fresh .costs);
-  cols = fresh .cols;
-  rows = fresh .rows;
-  «row_prices» = fresh .«row_prices»;
-  «col_prices» = fresh .«col_prices»;
-  indices = fresh .indices;
-  numbers = fresh .numbers;
-}
-
 -- The state in which a night of side n ends: its costs and its answer stand at the front of the arrays, all else is 0.
 abbrev pub ended : ℕ → List ℤ → rules.Answer → State
 ended n costs a = record {
@@ -79,8 +67,3 @@ pairedAs room (night n costs) =
 -- The entry, on the sheet's bytes and the slip's room.
 unfoldable pub pair : List ℕ → List ℕ → Outcome
 pair sheet room = pairedAs room (read (length room) sheet)
-
--- What `solve_state` is lent and leaves: the solver's outcome on the state's arrays, and the costs as they were.
-pub record Solves (n : ℕ) (before after : State) (answer : Solved) : Type 0 where
-  pub outcome : lapjv.outcomeOf answer (lent after) ≡ lapjv.solve n (take (n * n) (before .costs)) (lent before)
-  pub costs-kept : after .costs ≡ before .costs

@@ -5,9 +5,9 @@ ghost use Prim.Native.Nat.{_+_, _*_, _-_, _≤_};
 ghost use lib.ListN.{length, take, drop};
 ghost use Rattle.sheet.specs.Numbers.{signedValue};
 ghost use Rattle.sheet.specs.Layout.{slipOf, slipLength, fields};
-ghost use Rattle.sheet.specs.Reading.{refused};
+ghost use Rattle.sheet.specs.Reading.{sheetSide, refused, costsTested};
 ghost use Rattle.lapjv.specs.Solve.{lentOf, outcomeOf, solve};
-ghost use Rattle.sheet.specs.Settle.{fresh, loaded, settledAs, settled, Outcome, pair, Solves};
+ghost use Rattle.sheet.specs.Settle.{fresh, settledAs, settled, Outcome, pair};
 
 mod reading;
 mod values;
@@ -46,12 +46,6 @@ pub enum Verdict {
 pub struct Settled {
     pub verdict: Verdict,
     pub state: State,
-}
-
-// What the solver answered, and the arrays that it was lent.
-struct Run {
-    answer: Solved,
-    state: State,
 }
 
 // All 0.
@@ -104,65 +98,6 @@ fn solve_arrays(
     )
 }
 
-// The night of a state is solved in its own arrays.
-fn solve_state(state: State, n: usize) -> Run
-    requires { ⌜ n ≤ 64 ⌝ }
-    ensures { λ r. ⌜ Solves n state (r .state) (r .answer) ⌝ }
-{
-    let costs = state.costs;
-    let mut cols = state.cols;
-    let mut rows = state.rows;
-    let mut row_prices = state.row_prices;
-    let mut col_prices = state.col_prices;
-    let mut indices = state.indices;
-    let mut numbers = state.numbers;
-    let answer = solve_arrays(
-        n,
-        &costs,
-        &mut cols,
-        &mut rows,
-        &mut row_prices,
-        &mut col_prices,
-        &mut indices,
-        &mut numbers,
-    );
-    let state = State {
-        costs,
-        cols,
-        rows,
-        row_prices,
-        col_prices,
-        indices,
-        numbers,
-    };
-    Run { answer, state }
-}
-
-// A state with the costs of a sheet of side n.
-fn read_state(sheet: &[u8], n: usize) -> State
-    requires { ⌜ (n ≤ 64) × (4 * (n * n) + 12 ≤ length (now sheet)) ⌝ }
-    ensures { λ r. ⌜ r ≡ loaded n (fields (signedValue 4) (length (now (sheet .entry)) - 12 - 4 * (n * n)) 4 (n * n) (now (sheet .entry))) ⌝ }
-{
-    let count = n * n;
-    let mut costs = [0i32; 4096];
-    read_costs(sheet, sheet.len() - 12 - 4 * count, count, &mut costs);
-    let cols = [0u32; 64];
-    let rows = [0u32; 64];
-    let row_prices = [0i64; 64];
-    let col_prices = [0i64; 64];
-    let indices = [0u32; 256];
-    let numbers = [0i64; 64];
-    State {
-        costs,
-        cols,
-        rows,
-        row_prices,
-        col_prices,
-        indices,
-        numbers,
-    }
-}
-
 // A refusal leaves nothing in the arrays.
 fn refused(refusal: Refusal) -> Settled
     ensures { λ r. ⌜ r ≡ settledAs (refused refusal) ⌝ }
@@ -174,26 +109,56 @@ fn refused(refusal: Refusal) -> Settled
     }
 }
 
+// The costs of a sheet of side n are read into the state's arrays, and the night is solved in them.
+fn solved(sheet: &[u8], n: usize) -> Settled
+    requires { ⌜ (n ≤ sheetSide) × (4 * (n * n) + 12 ≤ length (now sheet)) ⌝ }
+    ensures { λ r. ⌜ r ≡ settledAs (costsTested n (fields (signedValue 4) (length (now (sheet .entry)) - 12 - 4 * (n * n)) 4 (n * n) (now (sheet .entry)))) ⌝ }
+{
+    let count = n * n;
+    let mut costs = [0i32; 4096];
+    read_costs(sheet, sheet.len() - 12 - 4 * count, count, &mut costs);
+    let mut cols = [0u32; 64];
+    let mut rows = [0u32; 64];
+    let mut row_prices = [0i64; 64];
+    let mut col_prices = [0i64; 64];
+    let mut indices = [0u32; 256];
+    let mut numbers = [0i64; 64];
+    match solve_arrays(
+        n,
+        &costs,
+        &mut cols,
+        &mut rows,
+        &mut row_prices,
+        &mut col_prices,
+        &mut indices,
+        &mut numbers,
+    ) {
+        Solved::Refused(refusal) => refused(refusal),
+        Solved::Paired(night) => {
+            let state = State {
+                costs,
+                cols,
+                rows,
+                row_prices,
+                col_prices,
+                indices,
+                numbers,
+            };
+            Settled {
+                verdict: Verdict::Paired(n, night.total),
+                state,
+            }
+        }
+    }
+}
+
 // A sheet is read and its night solved, for a slip room of so many bytes.
 pub fn settle(sheet: &[u8], room: usize) -> Settled
     ensures { λ r. ⌜ r ≡ settled room (now (sheet .entry)) ⌝ }
 {
     match tests(sheet, room) {
         Tested::Refused(refusal) => refused(refusal),
-        Tested::Side(n) => {
-            let run = solve_state(read_state(sheet, n), n);
-            let answer = run.answer;
-            match answer {
-                Solved::Refused(refusal) => refused(refusal),
-                Solved::Paired(night) => {
-                    let state = run.state;
-                    Settled {
-                        verdict: Verdict::Paired(n, night.total),
-                        state,
-                    }
-                }
-            }
-        }
+        Tested::Side(n) => solved(sheet, n),
     }
 }
 
