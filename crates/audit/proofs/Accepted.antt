@@ -2,13 +2,13 @@
 -- lists; and what the solver pairs is least. Assumes nothing.
 use mathlib.Core.Path.{_≡_, sym, ap, _∙_, subst}
 use mathlib.Core.List.{List, _++_}
-use Prim.Native.Nat.{ℕ, _+_, _*_, _≤_, _<_}
+use Prim.Native.Nat.{ℕ, _*_, _≤_, _<_}
 use native.Mathlib.Omega.{arith}
 use lib.IntN.{ℤ}
 use lib.ListN.{length, take, drop}
 use lib.Seq.{take-at}
 use Rattle.ints.specs.Parts.{Within}
-use Rattle.assignment.specs.Pairings.{Least, price, square, total}
+use Rattle.assignment.specs.Pairings.{Least, Named, price, square, total}
 use Rattle.assignment.proofs.Longer.{total-first}
 use Rattle.matrix.specs.Limits.{side, K}
 use Rattle.matrix.specs.declared.Answer.the-variants.{Total}
@@ -57,8 +57,22 @@ module _ (n : ℕ) (costs : List ℤ) (small : n ≤ side) (squared : length cos
       let o = run-owes in
       sym (total-first (square n costs) (answer .cols ++ c)) ∙ ap (total (square n costs)) (take-at (answer .cols) c n (o .cols-size)) ∙ sym (o .total-is)
 
-  pub run-accepted : check n costs (answer .cols) (answer .rows) (answer .rowPrices) (answer .columnPrices) ≡ Total (answer .total)
-  run-accepted = fair-accepted n costs (answer .cols) (answer .rows) (answer .rowPrices) (answer .columnPrices) run-fair ∙ ap Total (sym (run-owes .total-is))
+  -- The checker accepts the rules' columns and prices, with their total, under any rows that the columns name back.
+  pub run-accepted : (rows : List ℕ) → n ≤ length rows → Named (square n costs) (answer .cols) rows
+      → check n costs (answer .cols) rows (answer .rowPrices) (answer .columnPrices) ≡ Total (answer .total)
+  run-accepted rows listed named =
+      let f = run-fair in
+      fair-accepted n costs (answer .cols) rows (answer .rowPrices) (answer .columnPrices)
+      (record {
+        sizes = record { small = small; squared = squared; columns-listed = f .sizes .columns-listed; rows-listed = listed };
+        within = within;
+        named = named;
+        row-prices = f .row-prices;
+        column-prices = f .column-prices;
+        feasible = f .feasible;
+        tight = f .tight;
+      })
+      ∙ ap Total (sym (run-owes .total-is))
 
   -- The checker accepts the rules' answer, with its total; whatever stands behind it.
   pub checker-accepts-run : (c r : List ℕ) (u v : List ℤ)
@@ -75,7 +89,7 @@ module _ (n : ℕ) (costs : List ℤ) (lent : Lent) (p : Passes n costs lent) wh
   abbrev after : Lent
   after = solve n costs lent .lent
 
-  -- "It accepts the solver's answer for every matrix".
+  -- The checker accepts what the solver leaves in the outputs.
   pub checker-accepts-solver : check n costs (after .cols) (after .rows) (after .rowPrices) (after .columnPrices) ≡ Total (run n costs .total)
   checker-accepts-solver =
       subst (λ (o : Outcome). check n costs (o .lent .cols) (o .lent .rows) (o .lent .rowPrices) (o .lent .columnPrices) ≡ Total (run n costs .total))

@@ -1,3 +1,4 @@
 pub mod Front
 pub mod Accepted
 pub mod Slips
+pub mod Starred

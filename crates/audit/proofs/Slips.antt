@@ -1,6 +1,6 @@
 -- From bytes to a least pairing. Where a sheet is accepted, the bytes of its slip say columns, prices and a total; the checker accepts these
 -- columns and prices on the sheet's costs with that total, and so no pairing of them has a smaller one. Assumes nothing.
-use mathlib.Core.Path.{_≡_, sym, ap, ap₂, _∙_, subst}
+use mathlib.Core.Path.{_≡_, sym, ap, _∙_, subst}
 use mathlib.Core.List.{List}
 use Prim.Native.Nat.{ℕ, _*_, _/_, _^_, _≤_, _<_}
 use native.Mathlib.Nat.{mul-le-mul-right}
@@ -10,8 +10,8 @@ use lib.ListN.{length, take, drop}
 use lib.Seq.{take-at}
 use lib.Signed.{mag}
 use Rattle.ints.specs.Parts.{Within}
-use Rattle.assignment.specs.Pairings.{Least, square, total}
-use Rattle.matrix.specs.Limits.{side, K}
+use Rattle.assignment.specs.Pairings.{Least, Named, square, total}
+use Rattle.matrix.specs.Limits.{K}
 use Rattle.matrix.specs.declared.Answer.the-variants.{Total}
 use Rattle.matrix.proofs.Limits.{K-small}
 use Rattle.rules.specs.Run.{Answer, run}
@@ -80,8 +80,9 @@ module _ (sheet room : List ℕ) (n : ℕ) (costs : List ℤ) (e : read (length 
   total-is : slipTotal n slip ≡ answer .total
   total-is = ap (slipTotal n) slip-is ∙ slip-total n (answer .cols) (answer .rowPrices) (answer .columnPrices) (answer .total) held
 
-  -- The checker accepts what the slip says, with the total that it says.
-  pub slip-accepted : check n costs (slipColumns n slip) (answer .rows) (slipRowPrices n slip) (slipColumnPrices n slip) ≡ Total (slipTotal n slip)
+  -- The checker accepts what the slip says, with the total that it says, under any rows that the slip's columns name back.
+  pub slip-accepted : (rows : List ℕ) → n ≤ length rows → Named (square n costs) (slipColumns n slip) rows
+      → check n costs (slipColumns n slip) rows (slipRowPrices n slip) (slipColumnPrices n slip) ≡ Total (slipTotal n slip)
   slip-accepted = rw (columns-are, row-prices-are, column-prices-are, total-is) (run-accepted n costs (omega (arith, readable .small, sheetSide-within)) (readable .squared) (readable .within))
 
   -- No pairing of the sheet's costs has a smaller total than the slip's.

@@ -180,7 +180,7 @@ fn start_search(n: usize, costs: &[i32], start: u32, v: &[i64], d: &mut [i64], r
     lists::fill(&mut room[n2..n3], start);
 }
 
-// Each ready column, those listed before lo, has its distance minus that of the last block added to its price.
+// Each ready column, those listed before lo, has its distance minus the last block's minimum added to its price.
 fn change_prices(lo: usize, list: &[u32], d: &[i64], v: &mut [i64])
     requires { ⌜ CanChange (length (now v)) lo (now list) (now d) (now v) ⌝ }
     ensures { λ r. ⌜ now (v .exit) ≡ newPrices (readyAt lo (now (list .entry)) (now (d .entry))) (now (v .entry)) ⌝ }
@@ -197,7 +197,7 @@ fn change_prices(lo: usize, list: &[u32], d: &[i64], v: &mut [i64])
 
 // Rule 5, the search: from the free row `start` to a free column, and then the new prices. The scan has a cursor of its own; where it is left
 // at a free column, lo and hi keep their values from before it.
-pub fn find_path_dense(
+fn find_path_dense(
     n: usize,
     costs: &[i32],
     rows: &[u32],

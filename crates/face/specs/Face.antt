@@ -5,7 +5,8 @@ use Rattle.matrix.specs.declared.Answer.{Answer}
 use Rattle.matrix.specs.declared.Answer.the-variants.{Total, Refused}
 use Rattle.lapjv.specs.declared.Solved.{Solved}
 use Rattle.lapjv.specs.declared.Solved.the-variants.{Paired}
-use Rattle.lapjv.specs.declared.Solved.the-variants as refused
+use Rattle.lapjv.specs.declared.Solved.the-variants as solved
+use Rattle.lapjv.specs.Solve.{Lent, Outcome}
 use Rattle.face.specs.declared.Solution.{Solution}
 use Rattle.face.specs.declared.Totalled.{Totalled}
 
@@ -25,7 +26,7 @@ solution (Paired night) = record {
   «rows_left» = night .counts .«rows_left»;
   «columns_scanned» = night .counts .«columns_scanned»;
 }
-solution (refused.Refused refusal) = record {
+solution (solved.Refused refusal) = record {
   refusal = codeOf refusal;
   total = pos 0;
   «free_rows» = 0;
@@ -34,3 +35,11 @@ solution (refused.Refused refusal) = record {
   «rows_left» = 0;
   «columns_scanned» = 0;
 }
+
+-- What a C caller gets of the solver and finds in the lent lists.
+pub record Told : Type 0 where
+  pub solution : Solution
+  pub lent : Lent
+
+abbrev pub toldOf : Outcome → Told
+toldOf o = record { solution = solution (o .answer); lent = o .lent }

@@ -6,7 +6,7 @@ ghost use Rattle.checker.specs.Check.{check};
 ghost use Rattle.lapjv.specs.Solve.{lentOf, solve};
 ghost use Rattle.lapjv.proofs.Codes as solved;
 ghost use Rattle.sheet.specs.Settle.{Outcome, pair};
-ghost use Rattle.face.specs.Face.{totalled, solution};
+ghost use Rattle.face.specs.Face.{totalled, solution, Told, toldOf};
 use lapjv::Solved;
 use matrix::Answer;
 
@@ -108,7 +108,7 @@ pub extern "C" fn bristlefrost_solve(
     indices: &mut [u32],
     numbers: &mut [i64],
 ) -> Solution
-    ensures { λ r. ⌜ (r ≡ solution (solve n (now (costs .entry)) (lentOf (now (cols .entry)) (now (rows .entry)) (now («row_prices» .entry)) (now («col_prices» .entry)) (now (indices .entry)) (now (numbers .entry))) .answer)) × (lentOf (now (cols .exit)) (now (rows .exit)) (now («row_prices» .exit)) (now («col_prices» .exit)) (now (indices .exit)) (now (numbers .exit)) ≡ solve n (now (costs .entry)) (lentOf (now (cols .entry)) (now (rows .entry)) (now («row_prices» .entry)) (now («col_prices» .entry)) (now (indices .entry)) (now (numbers .entry))) .lent) ⌝ }
+    ensures { λ r. ⌜ _≡_ {A = Told} (record { solution = r; lent = lentOf (now (cols .exit)) (now (rows .exit)) (now («row_prices» .exit)) (now («col_prices» .exit)) (now (indices .exit)) (now (numbers .exit)) }) (toldOf (solve n (now (costs .entry)) (lentOf (now (cols .entry)) (now (rows .entry)) (now («row_prices» .entry)) (now («col_prices» .entry)) (now (indices .entry)) (now (numbers .entry))))) ⌝ }
 {
     told_solved(lapjv::solve(
         n,

@@ -13,7 +13,7 @@ use Rattle.assignment.specs.Pairings.{price}
 use Rattle.matrix.specs.Limits.{side, K}
 use Rattle.matrix.specs.Refusals.{refuseIf, refuseAt, short, outside}
 use Rattle.matrix.specs.declared.Refusal.{Refusal}
-use Rattle.matrix.proofs.Refusals.{passed}
+use Rattle.matrix.proofs.Refusals.{passed, refuseIf-map, refuseAt-map}
 use Rattle.matrix.proofs.Bounds.{outside-within}
 use Rattle.matrix.proofs.Lengths.{Long, lists-long, long-lists}
 use Rattle.rules.specs.Run.{run}
@@ -25,22 +25,12 @@ use Rattle.lapjv.specs.Passes.{Passes}
 -- ---- a chain of tests, taken over into another answer
 
 module _ {A B : Type 0} (f : A → B) where
-  refuseIf-map : (test : Bool) (refusal rest : A) {rest′ : B} → f rest ≡ rest′ → f (refuseIf test refusal rest) ≡ refuseIf test (f refusal) rest′
-  unfolding refuseIf
-  refuseIf-map true refusal rest e = refl
-  refuseIf-map false refusal rest e = e
-
-  refuseAt-map : (n : ℕ) (test : ℕ → Bool) (refusal : ℕ → A) (rest : A) {rest′ : B} → f rest ≡ rest′
-      → f (refuseAt n test refusal rest) ≡ refuseAt n test (λ k. f (refusal k)) rest′
-  unfolding refuseAt
-  refuseAt-map n test refusal rest e = refuseIf-map _ _ _ e
-
   tests-map : (n : ℕ) (costs : List ℤ) (lent : Lent) (refuse : Refusal → A) (rest : A)
       → f (tests n costs lent refuse rest) ≡ tests n costs lent (λ r. f (refuse r)) (f rest)
   unfolding tests
   tests-map n costs lent refuse rest =
-      refuseIf-map _ _ _
-      (refuseIf-map _ _ _ (refuseAt-map _ _ _ _ (refuseIf-map _ _ _ (refuseIf-map _ _ _ (refuseAt-map _ _ _ _ refl)))))
+      refuseIf-map f _ _ _
+      (refuseIf-map f _ _ _ (refuseAt-map f _ _ _ _ (refuseIf-map f _ _ _ (refuseIf-map f _ _ _ (refuseAt-map f _ _ _ _ refl)))))
 
 -- What a caller gets and finds, from the tests' verdict.
 abbrev pub outcome : ℕ → List ℤ → Lent → Verdict → Outcome
@@ -88,7 +78,7 @@ module _ (n : ℕ) (costs : List ℤ) (lent : Lent) where
             (first-before far (length costs) k (omega (arith, ltb-false (first (length costs) far) (length costs) (t6 .0))));
       }
 
-  -- "[..] is never refused by the solver."
+  -- Such an input is never refused.
   pub passes-paired : Passes n costs lent → solve n costs lent ≡ paired n lent (run n costs)
   unfolding solve tests refuseAt
   passes-paired p =

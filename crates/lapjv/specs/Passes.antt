@@ -1,4 +1,5 @@
--- What an input that the solver pairs is like: "a matrix of side 0 to 1,024 with costs within 1,000,000,000 of zero, with room enough".
+-- What an input that the solver pairs is like: a side within its limit, n*n costs "in -K..K", outputs of "at least n entries", work room of
+-- "at least 4n 32-bit indices" and "at least n 64-bit numbers".
 use mathlib.Core.Path.{_≡_}
 use mathlib.Core.List.{List}
 use Prim.Native.Nat.{ℕ, _*_, _≤_, _<_}

@@ -1,9 +1,8 @@
-// The solver: the tests of its input, and what follows the search. What is promised is said in specs/.
+// The solver: the tests of its input, the stages one after the other, and the entry. What is promised is said in specs/.
 ghost use mathlib.Core.Path.{_≡_};
-ghost use Prim.Native.Nat.{_*_, _<_};
 ghost use lib.IntN.{pos};
 ghost use lib.ListN.{length, replicate};
-ghost use Rattle.assignment.specs.Pairings.{Night, square};
+ghost use Rattle.assignment.specs.Pairings.{square};
 ghost use Rattle.rules.specs.Run.{rowPrices};
 ghost use Rattle.rules.specs.Nights.{five};
 ghost use Rattle.lapjv.specs.Priced.{Priced};

@@ -162,7 +162,8 @@ fn put_night(out: &mut [u8], n: usize, total: i64, state: State) -> usize
     put_arrays(out, place, n, &costs, &cols)
 }
 
-// The program's whole output of a sheet, at the front of the room; how many bytes it is.
+// The program's whole output of a sheet, at the front of the room; how many bytes it is. The slip's room is taken as 18*64 + 20, so that 16 does not
+// arise.
 pub fn print(sheet: &[u8], out: &mut [u8; 8192]) -> usize
     ensures { λ r. ⌜ _≡_ {A = Printed} (record { count = r; room = now (out .exit) }) (printed (now (sheet .entry)) (now (out .entry))) ⌝ }
 {

@@ -38,3 +38,16 @@ module _ {A : Type 0} where
   unfolding refuseAt
   refuseAt-all P n test refusal rest f p =
       refuseIf-all P _ (refusal (first n test)) rest (λ e. f (first n test) (ltb-true (first n test) n e)) (λ e. p)
+
+-- ---- a chain of tests, taken over into another answer
+
+module _ {A B : Type 0} (f : A → B) where
+  pub refuseIf-map : (test : Bool) (refusal rest : A) {rest′ : B} → f rest ≡ rest′ → f (refuseIf test refusal rest) ≡ refuseIf test (f refusal) rest′
+  unfolding refuseIf
+  refuseIf-map true refusal rest e = refl
+  refuseIf-map false refusal rest e = e
+
+  pub refuseAt-map : (n : ℕ) (test : ℕ → Bool) (refusal : ℕ → A) (rest : A) {rest′ : B} → f rest ≡ rest′
+      → f (refuseAt n test refusal rest) ≡ refuseAt n test (λ k. f (refusal k)) rest′
+  unfolding refuseAt
+  refuseAt-map n test refusal rest e = refuseIf-map _ _ _ e

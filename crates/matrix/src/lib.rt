@@ -3,7 +3,7 @@
 ghost use mathlib.Core.Path.{_≡_};
 ghost use mathlib.Core.Bool.{not};
 ghost use mathlib.Core.List.{[], _∷_};
-ghost use Prim.Native.Nat.{_+_, _*_, _^_, _<_, _≤_};
+ghost use Prim.Native.Nat.{_*_, _^_, _<_, _≤_};
 ghost use lib.Dec.{leb, ltb, eqb};
 ghost use lib.IntN.{pos, _+ℤ_, _-ℤ_};
 ghost use lib.ListN.{length, take, drop};
@@ -43,7 +43,7 @@ pub enum Answer {
 }
 
 // The number once more, beside specs/Limits.antt: code cannot read a definition. The promise holds the two together.
-pub fn side() -> usize
+fn side() -> usize
     ensures { λ r. ⌜ r ≡ side ⌝ }
 {
     1024
@@ -115,7 +115,7 @@ pub fn code(refusal: Refusal) -> u64
 }
 
 // Whether x is below -limit or above limit.
-pub fn outside(x: i64, limit: i64) -> bool
+fn outside(x: i64, limit: i64) -> bool
     requires { ⌜ Within (2 ^ 62) limit ⌝ }
     ensures { λ r. ⌜ r ≡ outside limit x ⌝ }
 {

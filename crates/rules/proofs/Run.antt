@@ -114,8 +114,7 @@ pub record Right (n : ℕ) (costs : List ℤ) (K : ℕ) (a : Answer) : Type 0 wh
   pub row-prices-between : (i : ℕ) → i < n → Between 0 (4 * K) (price (a .rowPrices) i)
   pub total-is : a .total ≡ total (square n costs) (a .cols)
   pub total-near : Within (n * K) (a .total)
-  pub left-after-one : ℕ
-  pub counts-right : CountsRight n left-after-one (a .counts)
+  pub counts-right : CountsRight n (stages n (square n costs .cost) .passOne .pass .left) (a .counts)
 
 module _ (n : ℕ) (costs : List ℤ) (K : ℕ) (within : (k : ℕ) → Within K (price costs k)) where
   abbrev cost′ : ℕ → ℕ → ℤ
@@ -152,7 +151,6 @@ module _ (n : ℕ) (costs : List ℤ) (K : ℕ) (within : (k : ℕ) → Within K
               (paired-minimum n costs p v (κ .agree) (κ .fair) (L .all-paired) i l));
           total-is = refl;
           total-near = total-within n costs K within (p .cols);
-          left-after-one = stages n cost′ .passOne .pass .left;
           counts-right = stages-are .counts;
         }
 
@@ -165,6 +163,10 @@ nothing = record { cols = []; rows = []; rowPrices = []; columnPrices = []; tota
 pub side-zero : (costs : List ℤ) → run 0 costs ≡ nothing
 unfolding turns upward downward until table sum lowest leastBut claims transfers columnReduction looks rowReduction augments augmentation stages run
 side-zero costs = refl
+
+none-left : (costs : List ℤ) → stages 0 (square 0 costs .cost) .passOne .pass .left ≡ 0
+unfolding turns upward downward until table lowest leastBut claims transfers columnReduction looks rowReduction augments augmentation stages
+none-left costs = refl
 
 nothing-right : (costs : List ℤ) (K : ℕ) → Right 0 costs K nothing
 unfolding sum
@@ -188,13 +190,12 @@ nothing-right costs K =
       row-prices-between = λ i l. absurd (omega arith);
       total-is = refl;
       total-near = record { low = omega arith; high = omega arith };
-      left-after-one = 0;
       counts-right = record {
         free-few = omega arith;
         one-least = omega arith;
         one-most = omega arith;
-        left-one-few = omega arith;
-        two-least = omega arith;
+        left-one-few = omega (arith, none-left costs);
+        two-least = omega (arith, none-left costs);
         two-most = omega arith;
         left-few = omega arith;
         scanned-few = omega arith;

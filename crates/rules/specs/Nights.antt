@@ -1,4 +1,4 @@
--- The nights on paper: document 01's starred table, and further nights that tell each slip of the hand from the rule.
+-- The nights on paper: document 01's starred nights N0 to N8, and further nights that tell each slip of the hand from the rule.
 use mathlib.Core.List.{List, [], _∷_, map}
 use Prim.Native.Nat.{ℕ, _*_}
 use lib.IntN.{ℤ, pos, negℤ}
@@ -30,7 +30,7 @@ nats l = map pos l
 abbrev pub minus : ℕ → ℤ
 minus k = negℤ (pos k)
 
--- The bound of the costs.
+-- Document 01's K, which `matrix` defines above this crate.
 abbrev pub K : ℕ
 K = 1000000000
 
@@ -42,7 +42,7 @@ five a b c d e = record { «free_rows» = a; «looks_one» = b; «looks_two» = 
 abbrev pub line : ℕ → List ℤ → List ℕ → List ℤ → List ℤ → ℤ → Counts → Line
 line n costs cols v rows total counts = record { side = n; costs = costs; cols = cols; v = v; rowPrices = rows; total = total; counts = counts }
 
--- The table: document 01's, and then a night for each slip.
+-- N0 to N8, and then eight nights that between them tell every slip that can be told.
 abbrev pub nights : List Line
 nights =
     -- N0 to N8.

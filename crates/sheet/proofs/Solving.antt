@@ -1,21 +1,19 @@
 -- The solver on a sheet's night: what it answers and leaves in the arrays is what is settled of the sheet. It rests on the solver's definition
 -- alone, of whose tests only 5 can apply. Assumes nothing.
-use mathlib.Core.Path.{_≡_, refl, sym, ap, ap₂, _∙_}
-use mathlib.Core.Bool.{Bool, true, false, cond}
+use mathlib.Core.Path.{_≡_, refl, sym, ap, _∙_}
+use mathlib.Core.Bool.{Bool}
 use mathlib.Core.List.{List, [], _∷_, _++_}
 use Prim.Native.Nat.{ℕ, _*_, _-_, _≤_}
 use native.Mathlib.Omega.{arith}
 use borrow.Author.Tests.{le-ltb, eq-eqb}
-use lib.Dec.{ltb}
 use lib.IntN.{ℤ, pos}
 use lib.ListN.{length, take, drop}
 use lib.Seq.{take-at}
-use Rattle.lists.specs.Runs.{first}
 use Rattle.assignment.specs.Pairings.{price}
 use Rattle.matrix.specs.Limits.{side, K}
-use Rattle.matrix.specs.Refusals.{refuseIf, refuseAt, outside, short}
+use Rattle.matrix.specs.Refusals.{refuseAt, outside, short}
 use Rattle.matrix.specs.declared.Refusal.the-variants.{CostOutside}
-use Rattle.matrix.proofs.Refusals.{passed, passed-at}
+use Rattle.matrix.proofs.Refusals.{passed, passed-at, refuseAt-map}
 use Rattle.matrix.proofs.Lengths.{Long, long-lists}
 use Rattle.rules.specs.Run.{run}
 use Rattle.lapjv.specs.Solve as lapjv
@@ -32,18 +30,7 @@ use Rattle.sheet.specs.Layout.{fields}
 use Rattle.sheet.specs.Reading.{sheetSide, tested, refused, night, readAfter, costsTested, read}
 use Rattle.sheet.specs.Settle.{fresh, lent, settledAs, settled}
 use Rattle.sheet.proofs.Limits.{sheetSide-small, sheetSide-within}
-use Rattle.sheet.proofs.Fields.{length-fields}
-use Rattle.sheet.proofs.Passing.{Passed, tested-passed, costs-found}
-
--- A search's answer goes over into any other.
-refuseAt-map : {A B : Type 0} (f : A → B) (n : ℕ) (test : ℕ → Bool) (refusal : ℕ → A) (rest : A)
-    → f (refuseAt n test refusal rest) ≡ refuseAt n test (λ k. f (refusal k)) (f rest)
-unfolding refuseAt refuseIf
-refuseAt-map {A} {B} f n test refusal rest = by (ltb (first n test) n)
-  where
-    by : (t : Bool) → f (cond t (refusal (first n test)) rest) ≡ cond t (f (refusal (first n test))) (f rest)
-    by true = refl
-    by false = refl
+use Rattle.sheet.proofs.Passing.{tested-passed, costs-found}
 
 -- A state made of costs and of what the solver was lent.
 abbrev pub together : List ℤ → Lent → State
@@ -87,8 +74,8 @@ module _ (n : ℕ) (costs : List ℤ) (size : length costs ≡ n * n) (small : n
   solver-settles : after (solve n costs (lent fresh)) ≡ settledAs (costsTested n costs)
   solver-settles =
       ap after solver-tests
-      ∙ refuseAt-map after (n * n) far (λ k. lapjv.refused (lent fresh) (CostOutside k)) (lapjv.paired n (lent fresh) (run n costs))
-      ∙ sym (refuseAt-map settledAs (n * n) far (λ k. refused (CostOutside k)) (night n costs))
+      ∙ refuseAt-map after (n * n) far (λ k. lapjv.refused (lent fresh) (CostOutside k)) (lapjv.paired n (lent fresh) (run n costs)) refl
+      ∙ sym (refuseAt-map settledAs (n * n) far (λ k. refused (CostOutside k)) (night n costs) refl)
 
   -- What the code makes of the answer, of the costs that it read and of the arrays that the solver leaves.
   pub solved-as : (array : List ℤ) (answer : Solved) (left : Lent) → array ≡ costs ++ drop (n * n) (fresh .costs)

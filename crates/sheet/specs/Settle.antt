@@ -1,14 +1,12 @@
 -- What comes of a sheet: its night solved, the slip, and what the front desk gets and finds in the slip's room.
-use mathlib.Core.Path.{_≡_}
 use mathlib.Core.List.{List, _++_}
-use Prim.Native.Nat.{ℕ, _+_, _*_}
+use Prim.Native.Nat.{ℕ, _*_}
 use lib.IntN.{ℤ, pos}
-use lib.ListN.{length, take, drop, replicate}
+use lib.ListN.{length, drop, replicate}
 use Rattle.matrix.specs.Refusals.{codeOf}
 use Rattle.rules.specs.Run as rules
 use Rattle.rules.specs.Run.{run}
 use Rattle.lapjv.specs.Solve as lapjv
-use Rattle.lapjv.specs.declared.Solved.{Solved}
 use Rattle.sheet.specs.declared.State.{State}
 use Rattle.sheet.specs.declared.Verdict.the-variants.{Paired, Refused}
 use Rattle.sheet.specs.declared.Settled.{Settled}
@@ -33,15 +31,17 @@ lent s = lapjv.lentOf (s .cols) (s .rows) (s .«row_prices») (s .«col_prices»
 
 -- The state in which a night of side n ends: its costs and its answer stand at the front of the arrays, all else is 0.
 abbrev pub ended : ℕ → List ℤ → rules.Answer → State
-ended n costs a = record {
-  costs = costs ++ drop (n * n) (fresh .costs);
-  cols = a .cols ++ drop n (fresh .cols);
-  rows = a .rows ++ drop n (fresh .rows);
-  «row_prices» = a .rowPrices ++ drop n (fresh .«row_prices»);
-  «col_prices» = a .columnPrices ++ drop n (fresh .«col_prices»);
-  indices = replicate (4 * n) 0 ++ drop (4 * n) (fresh .indices);
-  numbers = replicate n (pos 0) ++ drop n (fresh .numbers);
-}
+ended n costs a =
+    let left = lapjv.paired n (lent fresh) a .lent in
+    record {
+      costs = costs ++ drop (n * n) (fresh .costs);
+      cols = left .cols;
+      rows = left .rows;
+      «row_prices» = left .rowPrices;
+      «col_prices» = left .columnPrices;
+      indices = left .indices;
+      numbers = left .numbers;
+    }
 
 -- What is settled of a sheet as it was read: side, total and the arrays, or the refusal.
 abbrev pub settledAs : Read → Settled

@@ -1,10 +1,10 @@
 // A sheet's tests and its costs.
 ghost use mathlib.Core.Path.{_≡_};
-ghost use Prim.Native.Nat.{_+_, _*_, _-_, _^_, _<_, _≤_};
+ghost use Prim.Native.Nat.{_+_, _*_, _^_, _<_, _≤_};
 ghost use lib.ListN.{length};
 ghost use lib.Seq.{sets};
 ghost use Rattle.lists.specs.Parts.{part};
-ghost use Rattle.sheet.specs.Numbers.{unwrapped, signedValue};
+ghost use Rattle.sheet.specs.Numbers.{signedValue};
 ghost use Rattle.sheet.specs.Layout.{fields};
 ghost use Rattle.sheet.specs.Reading.{sheetSide, sheetMost, distanceOf, sideOf, editionOf, unmarked, tested};
 use crate::Tested;

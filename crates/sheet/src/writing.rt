@@ -4,7 +4,7 @@ ghost use mathlib.Core.List.{_++_, flatMap};
 ghost use Prim.Native.Nat.{_+_, _*_, _^_, _<_, _≤_};
 ghost use lib.ListN.{length, drop};
 ghost use lib.Seq.{sets};
-ghost use Rattle.sheet.specs.Numbers.{bytesOf, wrapped, signedBytes};
+ghost use Rattle.sheet.specs.Numbers.{bytesOf, signedBytes};
 ghost use Rattle.sheet.specs.Layout.{slipMark, trailer, slipOf, slipLength, Listed};
 use crate::values::wrapped;
 use crate::values::write_value;

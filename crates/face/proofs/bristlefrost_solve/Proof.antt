@@ -1,8 +1,9 @@
 -- `bristlefrost_solve` answers what the solver answers, told, and leaves what it leaves. Assumes nothing.
-use mathlib.Core.Path.{sym, ap, _∙_, subst}
+use mathlib.Core.Path.{sym, ap, ap₂, _∙_, subst}
 use borrow.Author.Needs.{needs}
-use Rattle.lapjv.specs.Solve.{Outcome, lentOf}
+use Rattle.lapjv.specs.Solve.{Lent, Outcome, lentOf}
 use Rattle.lapjv.proofs.Codes.{PlaceSmall, solve-places}
+use Rattle.face.specs.declared.Solution.{Solution}
 use Rattle.face.specs.Face.{solution}
 use Rattle.face.proofs.bristlefrost_solve.Statement.{statement}
 use Rattle.face.proofs.bristlefrost_solve.Tie as tie
@@ -37,7 +38,7 @@ same-length-6 c = search needs
 returns : tie.Need-returns
 returns c =
     let e = c .before .before .before .before .before .before .before .before .before .before .solve .ensures in
-    (c .told-solved .ensures ∙ ap (λ (o : Outcome). solution (o .answer)) e, ap (λ (o : Outcome). o .lent) e)
+    ap₂ (λ (s : Solution) (l : Lent). record { solution = s; lent = l }) (c .told-solved .ensures ∙ ap (λ (o : Outcome). solution (o .answer)) e) (ap (λ (o : Outcome). o .lent) e)
 
 pub bristlefrost-solve-spec : {M : Type 1} → statement M
 bristlefrost-solve-spec =

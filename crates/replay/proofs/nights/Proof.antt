@@ -1,5 +1,4 @@
 -- `nights` ends: the number of nights that are left falls. Assumes nothing.
-use Prim.Native.Nat.{_-_}
 use mathlib.Core.Path.{_≡_}
 use borrow.Author.Needs.{needs}
 use lib.ListN.{length}

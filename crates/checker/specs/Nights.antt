@@ -1,0 +1,50 @@
+-- The checker's nights on paper: document 01's starred N9 and N10, and further ones. All are on the costs of N8.
+use mathlib.Core.List.{List, [], _∷_}
+use Prim.Native.Nat.{ℕ}
+use lib.IntN.{ℤ, pos, negsuc}
+use Rattle.matrix.specs.declared.Answer.{Answer}
+use Rattle.matrix.specs.declared.Answer.the-variants.{Total, Refused}
+use Rattle.matrix.specs.declared.Refusal.the-variants.{ListLength, ColumnOutside, RowNotNamed, PriceOutside, PricesOverCost, PricesNotCost}
+use Rattle.checker.specs.Check.{check}
+
+-- Columns, rows, row prices, column prices, and what the checker answers.
+pub record Line : Type 0 where
+  pub cols : List ℕ
+  pub rows : List ℕ
+  pub rowPrices : List ℤ
+  pub columnPrices : List ℤ
+  pub answer : Answer
+
+abbrev pub line : List ℕ → List ℕ → List ℤ → List ℤ → Answer → Line
+line cols rows us vs answer = record { cols = cols; rows = rows; rowPrices = us; columnPrices = vs; answer = answer }
+
+-- N8: [3 1 0 / 0 0 2 / 4 1 0], its row prices and its column prices.
+abbrev pub costs : List ℤ
+costs = pos 3 ∷ pos 1 ∷ pos 0 ∷ pos 0 ∷ pos 0 ∷ pos 2 ∷ pos 4 ∷ pos 1 ∷ pos 0 ∷ []
+
+abbrev pub us : List ℤ
+us = pos 1 ∷ pos 0 ∷ pos 1 ∷ []
+
+abbrev pub vs : List ℤ
+vs = pos 0 ∷ pos 0 ∷ negsuc 0 ∷ []
+
+-- The line that the checker makes of a line's lists.
+abbrev pub checked : Line → Line
+checked l = line (l .cols) (l .rows) (l .rowPrices) (l .columnPrices) (check 3 costs (l .cols) (l .rows) (l .rowPrices) (l .columnPrices))
+
+abbrev pub nights : List Line
+nights =
+    -- "N9: N8's prices, columns 1 0 2: checker accepts, total 1."
+    line (1 ∷ 0 ∷ 2 ∷ []) (1 ∷ 0 ∷ 2 ∷ []) us vs (Total (pos 1))
+    -- "N10: N8's prices, columns 0 1 2: refusal 10, row 0."
+    ∷ line (0 ∷ 1 ∷ 2 ∷ []) (0 ∷ 1 ∷ 2 ∷ []) us vs (Refused (PricesNotCost 0))
+    -- N8's own columns, with entries past the side, which are not read.
+    ∷ line (2 ∷ 0 ∷ 1 ∷ 9 ∷ []) (1 ∷ 2 ∷ 0 ∷ 9 ∷ []) us vs (Total (pos 1))
+    -- A column price list that is short; a column that is not below 3 in row 1, though row 0 is not named back; a column listed twice.
+    ∷ line (1 ∷ 0 ∷ 2 ∷ []) (1 ∷ 0 ∷ 2 ∷ []) us (pos 0 ∷ pos 0 ∷ []) (Refused (ListLength 4))
+    ∷ line (1 ∷ 3 ∷ 2 ∷ []) (1 ∷ 1 ∷ 2 ∷ []) us vs (Refused (ColumnOutside 1))
+    ∷ line (1 ∷ 1 ∷ 2 ∷ []) (1 ∷ 0 ∷ 2 ∷ []) us vs (Refused (RowNotNamed 1))
+    -- A column price over 10K; a column price one too high, and so over the cost at place (0, 1).
+    ∷ line (1 ∷ 0 ∷ 2 ∷ []) (1 ∷ 0 ∷ 2 ∷ []) us (pos 0 ∷ pos 0 ∷ pos 10000000001 ∷ []) (Refused (PriceOutside 5))
+    ∷ line (1 ∷ 0 ∷ 2 ∷ []) (1 ∷ 0 ∷ 2 ∷ []) us (negsuc 0 ∷ pos 1 ∷ negsuc 0 ∷ []) (Refused (PricesOverCost 1))
+    ∷ []
