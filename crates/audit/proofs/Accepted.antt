@@ -15,7 +15,8 @@ use Rattle.matrix.specs.declared.Answer.the-variants.{Total}
 use Rattle.matrix.proofs.Limits.{side-small}
 use Rattle.rules.specs.Columns.{free}
 use Rattle.rules.specs.Run.{Answer, run}
-use Rattle.rules.proofs.Run.{Right, run-right, right-within-ten}
+use Rattle.rules.specs.Right.{Right}
+use Rattle.rules.proofs.Run.{run-right, right-within-ten}
 use Rattle.rules.proofs.Sizes.{within-everywhere}
 use Rattle.checker.specs.Check.{check}
 use Rattle.checker.specs.Fair.{Fair}

@@ -15,7 +15,8 @@ use Rattle.matrix.specs.Limits.{K}
 use Rattle.matrix.specs.declared.Answer.the-variants.{Total}
 use Rattle.matrix.proofs.Limits.{K-small}
 use Rattle.rules.specs.Run.{Answer, run}
-use Rattle.rules.proofs.Run.{Right, right-within-ten}
+use Rattle.rules.specs.Right.{Right}
+use Rattle.rules.proofs.Run.{right-within-ten}
 use Rattle.checker.specs.Check.{check}
 use Rattle.sheet.specs.Layout.{slipOf, slipLength, slipColumns, slipRowPrices, slipColumnPrices, slipTotal}
 use Rattle.sheet.specs.Reading.{night, read}

@@ -29,7 +29,7 @@ pub record Started (n : ℕ) (costs : List ℤ) (start : ℕ) (v : List ℤ) (ro
   pub same : workIn n 0 d room 0 ≡ searchStart n (square n costs .cost) (price v) (λ j. n) start
   pub frame : room ≡ roomWith n (listIn n room) (predecessorsIn n room) room₀
 
--- The column at place lo has a row, and its distance is that of a search.
+-- The column at place lo has a row, and its distance is within twice near.
 pub record CanScan (n : ℕ) (costs : List ℤ) (rows : List ℕ) (lo hi : ℕ) (v d : List ℤ) (room : List ℕ) : Type 0 where
   pub lent : Lent n v rows d room
   pub costs-size : length costs ≡ n * n
@@ -41,7 +41,7 @@ pub record CanScan (n : ℕ) (costs : List ℤ) (rows : List ℕ) (lo hi : ℕ) 
 abbrev pub readyAt : ℕ → List ℕ → List ℤ → Found
 readyAt lo list d = record { column = 0; ready = lo; cursor = record { lo = lo; hi = lo }; work = workOf lo list d [] 0 }
 
--- The first lo columns of the list are ready; there are n prices.
+-- The first lo columns of a list of n are ready; distances and prices are near.
 pub record CanChange (n lo : ℕ) (list : List ℕ) (d v : List ℤ) : Type 0 where
   pub small : n ≤ side
   pub ready-below : lo < n

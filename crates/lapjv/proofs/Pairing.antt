@@ -18,7 +18,8 @@ use Rattle.rules.specs.Rows.{passEnd}
 use Rattle.rules.specs.Augmentation.{State, augments, augmentation}
 use Rattle.rules.specs.Run.{Answer, stages, run, rowPrices}
 use Rattle.rules.proofs.Stages.{search-ready}
-use Rattle.rules.proofs.Run.{Right, run-right}
+use Rattle.rules.specs.Right.{Right}
+use Rattle.rules.proofs.Run.{run-right}
 use Rattle.augmentation.specs.Augmentation.{CanAugment, CanTurn, Augmented, stateOf}
 use Rattle.lapjv.specs.declared.Reduced.{Reduced}
 use Rattle.lapjv.specs.Priced.{Priced}

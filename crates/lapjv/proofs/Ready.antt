@@ -57,6 +57,7 @@ module _ (n : ℕ) (costs : List ℤ) (p : Pairable n costs) where
   pub rule-three : (cols rows : List ℕ) (v : List ℤ) (room : List ℕ) → length cols ≡ n → length rows ≡ n → length v ≡ n → length room ≡ n + n + n + n
       → Reducible n costs cols rows v room
   rule-three cols rows v room a b c d = record {
+    some = p .some;
     squared = square-ok;
     cols-size = a;
     rows-size = b;

@@ -68,10 +68,6 @@ module _ {A : Type 0} where
       ap (λ (t : List A). table k f ++ t) (drop-cons l k d h) ∙ ap (λ (x : A). table k f ++ (x ∷ drop (suc k) l)) (sym e)
       ∙ sym (append-snoc (table k f) (f k) (drop (suc k) l)) ∙ ap (λ (m : ℕ). table m f ++ drop m l) (sym (add-one k))
 
-  -- An empty list is any table of no entries.
-  pub empty-table : (f : ℕ → A) (l : List A) (n : ℕ) → n ≡ 0 → length l ≡ n → l ≡ table n f
-  empty-table f l n e h = filled-none f l ∙ filled-all 0 f l (omega arith) ∙ ap (λ (m : ℕ). table m f) h
-
   -- ---- all entries the same
 
   pub table-constant : (n : ℕ) (x : A) → table n (λ i. x) ≡ replicate n x

@@ -32,6 +32,6 @@ andThen (left r) f = left r
 unfoldable pub until : {S R : Type 0} → ℕ → ℕ → (ℕ → S → Turn S R) → S → Turn S R
 until a b f s = upward a b (λ k t. andThen t (f k)) (on s)
 
--- The first k below n at which the test holds; n where it holds at none.
+-- The first k below n at which the test holds; n where it holds at none. (Before turn k the number is k where the test has held at none, else below k.)
 unfoldable pub first : ℕ → (ℕ → Bool) → ℕ
 first n test = upward 0 n (λ k found. cond (ltb found k) found (cond (test k) k (suc k))) 0

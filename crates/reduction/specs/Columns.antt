@@ -78,6 +78,7 @@ transfersTo n cost m = upward 0 m (transfer n cost (claims n cost)) (untransferr
 
 -- What rule 3 asks: lists of n entries, a room of 4n, and near prices before every row of the transfer.
 pub record Reducible (n : ℕ) (costs : List ℤ) (cols rows : List ℕ) (v : List ℤ) (room : List ℕ) : Type 0 where
+  pub some : 1 ≤ n
   pub squared : Square n costs
   pub cols-size : length cols ≡ n
   pub rows-size : length rows ≡ n

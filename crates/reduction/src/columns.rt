@@ -45,12 +45,9 @@ fn lower_minima(i: usize, row: &[i32], rows: &mut [u32], v: &mut [i64])
 
 // Each column's minimum and its row, ties to the lowest row. The costs are read row by row.
 fn minima(n: usize, costs: &[i32], rows: &mut [u32], v: &mut [i64])
-    requires { ⌜ Square n (now costs) × (length (now rows) ≡ n) × (length (now v) ≡ n) ⌝ }
+    requires { ⌜ Square n (now costs) × (length (now rows) ≡ n) × (length (now v) ≡ n) × (1 ≤ n) ⌝ }
     ensures { λ r. ⌜ (now (rows .exit) ≡ table n (λ j. minimum n (square n (now (costs .entry)) .cost) j .place)) × (now (v .exit) ≡ table n (λ j. minimum n (square n (now (costs .entry)) .cost) j .value)) ⌝ }
 {
-    if n == 0 {
-        return;
-    }
     lists::fill(rows, 0);
     widen(matrix::row(costs, n, 0), v);
     let mut i = 1;
@@ -164,7 +161,6 @@ fn transfer(
     }
     if mark == 1 {
         lower_column(n, costs, i, j, v);
-        return count;
     }
     count
 }

@@ -13,11 +13,6 @@ use mathlib.Core.Logic.{inl, inr}
 pub record NotBelow (k : ℕ) (z : ℤ) : Type 0 where
   pub low : down z ≤ up z + k
 
--- z is in -a..b, both ends included.
-pub record Between (a b : ℕ) (z : ℤ) : Type 0 where
-  pub low : down z ≤ up z + a
-  pub high : up z ≤ down z + b
-
 module _ (n : ℕ) (cost : ℕ → ℕ → ℤ) where
   -- Row i sits at its minimum on column j: no column has a lower reduced cost.
   pub record AtMinimum (v : ℕ → ℤ) (i j : ℕ) : Type 0 where

@@ -24,13 +24,14 @@ use Rattle.rules.specs.Rows.{looks, rowReduction}
 use Rattle.rules.specs.Augmentation.{augments, augmentation}
 use Rattle.rules.specs.Run.{stages, Answer, rowPrices, run}
 use Rattle.rules.specs.Nights.{five}
-use Rattle.rules.proofs.Prices.{NotBelow, Between, AtMinimum, Fair, minimum-pays}
+use Rattle.rules.specs.Right.{Between, Right}
+use Rattle.rules.proofs.Prices.{NotBelow, AtMinimum, Fair, minimum-pays}
 use Rattle.rules.proofs.Sizes.{total-within}
 use Rattle.rules.proofs.Pairs.{Paired, Agree}
 use Rattle.rules.proofs.Lowering.{bounds-low}
 use Rattle.rules.proofs.Kept.{Kept}
 use Rattle.rules.proofs.Claims.{best, first, first-cost, first-least, first-low}
-use Rattle.rules.proofs.Stages.{CountsRight, StagesRight, stages-right}
+use Rattle.rules.proofs.Stages.{StagesRight, stages-right}
 
 -- ---- any state in which every row is paired and sits at its minimum
 
@@ -97,24 +98,6 @@ module _ (n : ℕ) (cost : ℕ → ℕ → ℤ) (one : 1 ≤ n) (K : ℕ) (costs
       between z h g = record { low = omega zlin; high = omega zlin }
 
 -- ---- the run
-
--- All that the answer of a run owes.
-pub record Right (n : ℕ) (costs : List ℤ) (K : ℕ) (a : Answer) : Type 0 where
-  pub cols-size : length (a .cols) ≡ n
-  pub rows-size : length (a .rows) ≡ n
-  pub row-prices-size : length (a .rowPrices) ≡ n
-  pub column-prices-size : length (a .columnPrices) ≡ n
-  pub named : Named (square n costs) (a .cols) (a .rows)
-  pub named-back : Named (square n costs) (a .rows) (a .cols)
-  pub pairing : Pairing (square n costs) (a .cols)
-  pub feasible : Feasible (square n costs) (a .rowPrices) (a .columnPrices)
-  pub tight : Tight (square n costs) (a .rowPrices) (a .columnPrices) (a .cols)
-  pub least : Least (square n costs) (a .cols)
-  pub column-prices-between : (k : ℕ) → k < n → Between (5 * K) K (price (a .columnPrices) k)
-  pub row-prices-between : (i : ℕ) → i < n → Between 0 (4 * K) (price (a .rowPrices) i)
-  pub total-is : a .total ≡ total (square n costs) (a .cols)
-  pub total-near : Within (n * K) (a .total)
-  pub counts-right : CountsRight n (stages n (square n costs .cost) .passOne .pass .left) (a .counts)
 
 module _ (n : ℕ) (costs : List ℤ) (K : ℕ) (within : (k : ℕ) → Within K (price costs k)) where
   abbrev cost′ : ℕ → ℕ → ℤ

@@ -16,6 +16,7 @@ use Rattle.rules.specs.Columns.{free, Stage, columnReduction}
 use Rattle.rules.specs.Rows.{looks, passStart, passEnd, rowReduction}
 use Rattle.rules.specs.Augmentation.{State, augment, augments, augmentation}
 use Rattle.rules.specs.Run.{Stages, stages, countsOf}
+use Rattle.rules.specs.Right.{CountsRight}
 use Rattle.rules.proofs.Prices.{all-near}
 use Rattle.rules.proofs.Pairs.{Paired}
 use Rattle.rules.proofs.Kept.{Kept, within-five}
@@ -25,17 +26,6 @@ use Rattle.rules.proofs.Passes.{looks-none}
 use Rattle.rules.proofs.RowReduction.{PassOf, rowReduction-ok}
 use Rattle.rules.proofs.Augment.{Can, Gain}
 use Rattle.rules.proofs.Augmentation.{Augmented, augmented-can, augments-ok, augmented-paired}
-
--- "A pass over F rows makes F to F*n looks; each search scans at most n-1 columns." `left-one` rows are left after pass one.
-pub record CountsRight (n left-one : ℕ) (c : Counts) : Type 0 where
-  pub free-few : c .«free_rows» ≤ n
-  pub one-least : c .«free_rows» ≤ c .«looks_one»
-  pub one-most : c .«looks_one» ≤ c .«free_rows» * n
-  pub left-one-few : left-one ≤ c .«free_rows»
-  pub two-least : left-one ≤ c .«looks_two»
-  pub two-most : c .«looks_two» ≤ left-one * n
-  pub left-few : c .«rows_left» ≤ left-one
-  pub scanned-few : c .«columns_scanned» ≤ c .«rows_left» * (n - 1)
 
 -- A pass over no rows changes nothing, and makes no look.
 pub no-rows-no-pass : (n : ℕ) (cost : ℕ → ℕ → ℤ) (s : Stage) → s .count ≡ 0 → rowReduction n cost s ≡ passStart s

@@ -5,4 +5,5 @@ pub mod Rows
 pub mod Search
 pub mod Augmentation
 pub mod Run
+pub mod Right
 pub mod Nights

@@ -1,4 +1,4 @@
--- `scan_dense` is the scan of one column: its row's costs, what it has to spare, and the row's look. Assumes nothing.
+-- `scan_dense` is the scan of one column: its row's costs, how far its reduced cost is above the minimum, and what the row lowers. Assumes nothing.
 use mathlib.Core.Path.{_≡_, refl, sym, ap, ap₂, _∙_, subst}
 use Prim.Native.Nat.{ℕ, _+_, _*_, _^_, _<_}
 use native.Mathlib.Omega.{arith}

@@ -21,7 +21,7 @@ add-n4 : tie.Need-add-n4
 add-n4 c = omega (arith, side-small, c .before .before .before .pre .squared .small)
 
 minima-requires : tie.Need-minima-requires
-minima-requires c κs = let h = c .before .before .before .before .before .pre in (h .squared, h .rows-size, h .prices-size)
+minima-requires c κs = let h = c .before .before .before .before .before .pre in (h .squared, h .rows-size, h .prices-size, h .some)
 
 fill-requires : tie.Need-fill-requires
 fill-requires c κs = search needs

@@ -5,7 +5,7 @@ use native.Mathlib.Omega.{arith}
 use borrow.Author.Needs.{needs}
 use lib.ListN.{length}
 use Rattle.lists.specs.Permutations.{table}
-use Rattle.lists.proofs.Tables.{length-table, empty-table}
+use Rattle.lists.proofs.Tables.{length-table}
 use Rattle.reduction.proofs.RowParts.{row-length}
 use Rattle.reduction.proofs.Minima.{lowestOf, places, values, places-one, values-one, places-more, values-more}
 use Rattle.reduction.proofs.columns.minima.Statement.{statement}
@@ -17,34 +17,24 @@ Inv-loop n costs rows₀ v₀ i₀ rows v i = (1 ≤ i) × (i ≤ n) × (rows �
 abbrev μ-loop : tie.MeasureT-loop
 μ-loop n costs rows₀ v₀ i₀ rows v i = n - i
 
-returns : tie.Need-returns Inv-loop μ-loop
-returns c =
-    let s = c .before .before in
-    let u = s .args in
-    let n = u .n in (
-      empty-table (λ j. lowestOf n (u .costs .now) n j .place) (u .rows .now) n (c .if1 .taken) (s .pre .1),
-      empty-table (λ j. lowestOf n (u .costs .now) n j .value)
-          (u .v .now) n (c .if1 .taken) (s .pre .2),
-    )
-
 fill-requires : tie.Need-fill-requires Inv-loop μ-loop
 fill-requires c κs = search needs
 
 row-requires : tie.Need-row-requires Inv-loop μ-loop
-row-requires c κs = (omega arith, c .before .before .before .before .before .before .pre .0 .size)
+row-requires c κs = let h = c .before .before .before .before .before .pre in (h .3, h .0 .size)
 
 widen-requires : tie.Need-widen-requires Inv-loop μ-loop
 widen-requires c κs =
-    let s = c .before .before .before .before .before .before .before .before in
-    s .pre .2 ∙ sym (row-length (s .args .n) 0 (s .args .costs .now) (c .before .row .result .now) (omega arith) (s .pre .0 .size) (c .before .row .ensures))
+    let s = c .before .before .before .before .before .before .before in
+    s .pre .2 ∙ sym (row-length (s .args .n) 0 (s .args .costs .now) (c .before .row .result .now) (s .pre .3) (s .pre .0 .size) (c .before .row .ensures))
 
 loop-holds : tie.Need-loop-holds Inv-loop μ-loop
 loop-holds c =
-    let s = c .before .before .before .before .before .before .before .before .before .before in
+    let s = c .before .before .before .before .before .before .before .before .before in
     let n = s .args .n in
     let costs = s .args .costs .now in
     let row = c .before .before .before .row in
-    let one : 0 < n = omega arith in (
+    let one : 0 < n = s .pre .3 in (
       omega arith,
       one,
       c .before .before .before .before .before .before .fill .ensures ∙ ap (λ (m : ℕ). table m (λ k. 0)) (s .pre .1) ∙ places-one n costs (row .result .now) one (s .pre .0 .size) (row .ensures),
@@ -52,7 +42,7 @@ loop-holds c =
     )
 
 abbrev start : tie.At-loop Inv-loop μ-loop → tie.Start Inv-loop μ-loop
-start c = c .before .before .before .before .before .before .before .before .before .before .before
+start c = c .before .before .before .before .before .before .before .before .before .before
 
 rows-size : (c : tie.At-loop Inv-loop μ-loop) → length (c .loop .rows) ≡ start c .args .n
 rows-size c =
@@ -103,8 +93,8 @@ same-length c = rows-size (c .before) ∙ sym (start (c .before) .pre .1)
 same-length-2 : tie.Need-same-length-2 Inv-loop μ-loop
 same-length-2 c = prices-size (c .before) ∙ sym (start (c .before) .pre .2)
 
-returns-2 : tie.Need-returns-2 Inv-loop μ-loop
-returns-2 c =
+returns : tie.Need-returns Inv-loop μ-loop
+returns c =
     let l = c .before .loop in
     let u = start (c .before) .args in
     let e : l .i ≡ u .n = omega arith in
@@ -116,7 +106,6 @@ minima-spec =
     (tie.spec
     Inv-loop
     μ-loop
-    returns
     fill-requires
     row-requires
     widen-requires
@@ -128,4 +117,4 @@ minima-spec =
     loop-again
     same-length
     same-length-2
-    returns-2)
+    returns)

@@ -1,0 +1,45 @@
+-- What the answer of a run owes: a least pairing, prices that show it, and prices and counts within their bounds.
+use mathlib.Core.Path.{_≡_}
+use mathlib.Core.List.{List}
+use Prim.Native.Nat.{ℕ, _+_, _-_, _*_, _≤_, _<_}
+use lib.IntN.{ℤ}
+use lib.ListN.{length}
+use Rattle.ints.specs.Parts.{up, down, Within}
+use Rattle.assignment.specs.Pairings.{Pairing, Least, Named, square, price, total}
+use Rattle.assignment.specs.Prices.{Feasible, Tight}
+use Rattle.rules.specs.declared.Counts.{Counts}
+use Rattle.rules.specs.Run.{stages, Answer}
+
+-- z is in -a..b, both ends included.
+pub record Between (a b : ℕ) (z : ℤ) : Type 0 where
+  pub low : down z ≤ up z + a
+  pub high : up z ≤ down z + b
+
+-- "A pass over F rows makes F to F*n looks; each search scans at most n-1 columns." `left-one` rows are left after pass one.
+pub record CountsRight (n left-one : ℕ) (c : Counts) : Type 0 where
+  pub free-few : c .«free_rows» ≤ n
+  pub one-least : c .«free_rows» ≤ c .«looks_one»
+  pub one-most : c .«looks_one» ≤ c .«free_rows» * n
+  pub left-one-few : left-one ≤ c .«free_rows»
+  pub two-least : left-one ≤ c .«looks_two»
+  pub two-most : c .«looks_two» ≤ left-one * n
+  pub left-few : c .«rows_left» ≤ left-one
+  pub scanned-few : c .«columns_scanned» ≤ c .«rows_left» * (n - 1)
+
+-- All that the answer of a run owes.
+pub record Right (n : ℕ) (costs : List ℤ) (K : ℕ) (a : Answer) : Type 0 where
+  pub cols-size : length (a .cols) ≡ n
+  pub rows-size : length (a .rows) ≡ n
+  pub row-prices-size : length (a .rowPrices) ≡ n
+  pub column-prices-size : length (a .columnPrices) ≡ n
+  pub named : Named (square n costs) (a .cols) (a .rows)
+  pub named-back : Named (square n costs) (a .rows) (a .cols)
+  pub pairing : Pairing (square n costs) (a .cols)
+  pub feasible : Feasible (square n costs) (a .rowPrices) (a .columnPrices)
+  pub tight : Tight (square n costs) (a .rowPrices) (a .columnPrices) (a .cols)
+  pub least : Least (square n costs) (a .cols)
+  pub column-prices-between : (k : ℕ) → k < n → Between (5 * K) K (price (a .columnPrices) k)
+  pub row-prices-between : (i : ℕ) → i < n → Between 0 (4 * K) (price (a .rowPrices) i)
+  pub total-is : a .total ≡ total (square n costs) (a .cols)
+  pub total-near : Within (n * K) (a .total)
+  pub counts-right : CountsRight n (stages n (square n costs .cost) .passOne .pass .left) (a .counts)
