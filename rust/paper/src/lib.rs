@@ -24,6 +24,10 @@ const EDITION: u16 = 1;
 pub enum Unfit {
     /// A word of the table is no 32-bit number and not `barred`.
     Word { line: usize, word: String },
+    /// A line of the table has nothing before, behind or between its commas.
+    EmptyCell { line: usize },
+    /// A line of the table has not as many costs as the table has rows.
+    Row { line: usize, costs: usize, side: usize },
     /// There are not exactly n*n costs.
     NotSquare { side: usize, costs: usize },
     /// The side is over 64.
@@ -42,6 +46,10 @@ impl fmt::Display for Unfit {
     fn fmt(&self, f: &mut fmt::Formatter<'_>) -> fmt::Result {
         match self {
             Unfit::Word { line, word } => write!(f, "line {line}: '{word}' is neither a number nor 'barred'"),
+            Unfit::EmptyCell { line } => write!(f, "line {line}: a comma without a cost beside it"),
+            Unfit::Row { line, costs, side } => {
+                write!(f, "line {line}: as many costs are wanted as there are rows, {side}, not {costs}")
+            }
             Unfit::NotSquare { side, costs } => write!(f, "{side} rows want {} costs, not {costs}", side * side),
             Unfit::Side(side) => write!(f, "side {side} is over {LARGEST_SIDE}"),
             Unfit::Cost { place } => write!(f, "the cost at place {place} is outside -{BARRED}..{BARRED}"),
@@ -104,6 +112,19 @@ fn slip_body(side: usize) -> usize {
     18 * side + 8
 }
 
+/// The costs in a line of a table.
+fn row(line: usize, text: &str) -> Result<Vec<i32>, Unfit> {
+    if text.split(',').any(|cell| cell.trim().is_empty()) {
+        return Err(Unfit::EmptyCell { line });
+    }
+    let words = text.split([' ', '\t', ',']).filter(|word| !word.is_empty());
+    let cost = |word: &str| match word {
+        "barred" => Ok(BARRED),
+        _ => word.parse().map_err(|_| Unfit::Word { line, word: word.to_string() }),
+    };
+    words.map(cost).collect()
+}
+
 /// A night to be paired: its costs and a note that nobody reads.
 #[derive(Clone, Debug, PartialEq, Eq)]
 pub struct Sheet {
@@ -151,8 +172,8 @@ impl Sheet {
         Ok(Sheet { note: note.to_vec(), ..self })
     }
 
-    /// A sheet from a table: a line for each row, its costs apart by blanks or commas, `barred` for a pair that must
-    /// not be made. A line that begins with '#' goes into the note; an empty line is passed over.
+    /// A sheet from a table: a line for each row, its costs apart by blanks or by a comma, `barred` for a pair that
+    /// must not be made. A line that begins with '#' goes into the note; an empty line is passed over.
     ///
     /// ```
     /// let sheet = paper::Sheet::from_table("# two guests\n1, barred\n-3 2\n")?;
@@ -160,18 +181,19 @@ impl Sheet {
     /// # Ok::<(), paper::Unfit>(())
     /// ```
     pub fn from_table(table: &str) -> Result<Sheet, Unfit> {
-        let (mut side, mut costs, mut note) = (0, Vec::new(), String::new());
-        for (at, line) in table.lines().enumerate() {
-            if line.starts_with('#') {
-                note = note + line + "\n";
-                continue;
+        let (mut rows, mut costs, mut note) = (Vec::new(), Vec::new(), String::new());
+        for (line, text) in (1..).zip(table.lines()) {
+            if text.starts_with('#') {
+                note = note + text + "\n";
+            } else if !text.trim().is_empty() {
+                let row = row(line, text)?;
+                rows.push((line, row.len()));
+                costs.extend(row);
             }
-            let before = costs.len();
-            for word in line.split([' ', '\t', ',']).filter(|word| !word.is_empty()) {
-                let unfit = || Unfit::Word { line: at + 1, word: word.to_string() };
-                costs.push(if word == "barred" { BARRED } else { word.parse().map_err(|_| unfit())? });
-            }
-            side += usize::from(costs.len() > before);
+        }
+        let side = rows.len();
+        if let Some(&(line, costs)) = rows.iter().find(|(_, costs)| *costs != side) {
+            return Err(Unfit::Row { line, costs, side });
         }
         Sheet::new(side, &costs)?.noted(note.as_bytes())
     }

@@ -21,7 +21,12 @@ fn sheets_are_those_of_their_tables() {
 #[test]
 fn unfit_tables_and_slips_are_told() {
     use paper::{Sheet, Slip, Unfit};
-    assert_eq!(Sheet::from_table("1 2\n3"), Err(Unfit::NotSquare { side: 2, costs: 3 }));
+    assert_eq!(Sheet::from_table("1 2\n3"), Err(Unfit::Row { line: 2, costs: 1, side: 2 }));
+    assert_eq!(Sheet::from_table("# a note\n\n1 2 3\n4\n"), Err(Unfit::Row { line: 3, costs: 3, side: 2 }));
+    for (table, line) in [("1,,2\n3,4,5", 1), ("1, ,2\n3,4,5", 1), (",1\n2,3", 1), ("1,2\n3,", 2), (",", 1)] {
+        assert_eq!(Sheet::from_table(table), Err(Unfit::EmptyCell { line }), "{table}");
+    }
+    assert_eq!(Sheet::from_table(" 1 ,\t2\r\n \n3,4"), Sheet::new(2, &[1, 2, 3, 4]));
     assert_eq!(Sheet::from_table("1 2\n3 x"), Err(Unfit::Word { line: 2, word: String::from("x") }));
     assert_eq!(Sheet::from_table("1000000001"), Err(Unfit::Cost { place: 0 }));
     assert_eq!(Sheet::new(65, &[0; 65 * 65]), Err(Unfit::Side(65)));
