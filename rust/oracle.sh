@@ -1,12 +1,17 @@
 #!/bin/sh
 # Writes the fixed list of the crate's answers, oracle.txt, from the crate's source.
 set -eu
-cd "$(dirname "$0")"
-source=${LAPJV_SRC:-../../shared/docs/src/src/lib.rs}
-cargo build --offline --quiet --bin list
+here=$(realpath "$(dirname "$0")")
+LAPJV_SRC=$(realpath -m "${LAPJV_SRC:-$here/../../shared/docs/src/src/lib.rs}")
+export LAPJV_SRC
+cd "$here"
+[ -f "$LAPJV_SRC" ] || { echo "oracle.sh: the crate's source is not at LAPJV_SRC ($LAPJV_SRC)" >&2; exit 1; }
+trap 'rm -f oracle.new' EXIT
 {
-    echo "# Answers of lapjv 0.3.0, src/lib.rs on f64, of sha256 $(sha256sum <"$source" | cut -d' ' -f1),"
-    echo "# written by oracle.sh from seed 1. v on side 1 is document 01's, not the crate's. The row prices are cost minus v."
+    echo "# Answers of lapjv 0.3.0, src/lib.rs on f64, of sha256 $(sha256sum <"$LAPJV_SRC" | cut -d' ' -f1),"
+    echo "# written by oracle.sh: the nights of slips.md, then others from seed 1. v on side 1 is document 01's, not the crate's."
+    echo "# The row prices are cost minus v."
     echo "# side;costs in row order;columns by row;rows by column;v;row prices;total;five counts"
-    target/debug/list write 1
-} >oracle.txt
+    cargo run --offline --quiet --bin list -- write slips.md 1
+} >oracle.new
+mv oracle.new oracle.txt

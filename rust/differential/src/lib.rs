@@ -7,6 +7,7 @@ pub mod checks;
 pub mod command;
 #[cfg(feature = "archive")]
 pub mod damage;
+pub mod listed;
 pub mod nights;
 pub mod oracle;
 pub mod paper;

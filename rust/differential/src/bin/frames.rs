@@ -7,9 +7,9 @@
 //! what else is paired the rules say it, and refusals.rs says what is refused. How a night is laid out in `stdin` is
 //! said in crates/replay/src/main.rt.
 
-use std::fmt::Display;
 use std::process::ExitCode;
 
+use differential::listed::{self, words};
 use differential::nights::Random;
 use differential::{checks, paper, refusals, K};
 
@@ -80,10 +80,6 @@ impl Night {
             input.extend(number.to_le_bytes());
         }
     }
-}
-
-fn words<T: Display>(entries: &[T]) -> String {
-    entries.iter().map(T::to_string).collect::<Vec<_>>().join(" ")
 }
 
 /// The line of a paired night, from the list's parts as text: columns, rows, v, row prices, total, counts.
@@ -163,18 +159,11 @@ fn on_paper(replay: &mut Replay) -> Result<(), String> {
 }
 
 /// The list's nights: every other one with more than it needs.
-fn listed(replay: &mut Replay, list: &str) -> Result<(), String> {
-    for (at, line) in list.lines().filter(|line| !line.starts_with('#')).enumerate() {
-        let parts: Vec<&str> = line.split(';').collect();
-        let [n, costs, columns, rows, v, u, total, counts] = parts[..] else {
-            return Err(format!("no night: {line}"));
-        };
-        let n = n.parse().map_err(|_| format!("no side: {line}"))?;
-        let costs: Option<Vec<i32>> = costs.split_whitespace().map(|cost| cost.parse().ok()).collect();
-        let costs = costs.filter(|costs| costs.len() == n * n).ok_or_else(|| format!("not n*n costs: {line}"))?;
-        let lent = Night::new(n, &costs);
+fn of_list(replay: &mut Replay, list: &str) -> Result<(), String> {
+    for (at, night) in listed::nights(list)?.iter().enumerate() {
+        let lent = Night::new(night.n, &night.costs);
         let lent = if at % 2 == 0 { lent } else { lent.longer(at) };
-        replay.known(&lent, &paired([columns, rows, v, u, total, counts]))?;
+        replay.known(&lent, &paired(night.answer))?;
     }
     replay.kind("of the list of the crate's answers");
     Ok(())
@@ -243,7 +232,7 @@ fn replay(list: &str) -> Result<Replay, String> {
     let text = std::fs::read_to_string(list).map_err(|failure| format!("{list}: {failure}"))?;
     let mut replay = Replay::default();
     on_paper(&mut replay)?;
-    listed(&mut replay, &text)?;
+    of_list(&mut replay, &text).map_err(|wrong| format!("{list}: {wrong}"))?;
     lacking(&mut replay)?;
     outside(&mut replay)?;
     at_the_limit(&mut replay)?;

@@ -1,17 +1,15 @@
-//! A fixed list of the crate's answers, one night on a line.
+//! A fixed list of the crate's answers, one night on a line (`differential::listed`).
 //!
-//!     list write [SEED]    answers by the crate's own file, to standard output (oracle.sh adds the head)
-//!     list FILE            replays FILE: every line again by the rules, and by the crate where it is at hand
+//!     list write SLIPS [SEED]    answers by the crate's own file, to standard output (oracle.sh adds the head)
+//!     list FILE                  replays FILE: every line again by the rules, and by the crate where it is at hand
 //!
-//! A line holds, with semicolons between: side; costs in row order; columns by row; rows by column; v; row prices;
-//! total; the five counts. Lines that begin with # are the list's head.
+//! The list begins with the nights in the table SLIPS, so that every slip of the hand that can be told is told by one
+//! of its nights; nights of every family follow.
 
-use std::fmt::Display;
 use std::process::ExitCode;
 
 use differential::nights::{Random, FAMILIES};
-use differential::rules::Answer;
-use differential::{checks, oracle};
+use differential::{checks, listed, oracle};
 
 /// Sides, and how many nights of each.
 fn sides() -> impl Iterator<Item = (usize, usize)> {
@@ -19,34 +17,28 @@ fn sides() -> impl Iterator<Item = (usize, usize)> {
     small.chain([(12, 8), (16, 6), (24, 3), (33, 2), (64, 2)])
 }
 
-fn words<T: Display>(entries: &[T]) -> String {
-    entries.iter().map(T::to_string).collect::<Vec<_>>().join(" ")
+fn read(file: &str) -> Result<String, String> {
+    std::fs::read_to_string(file).map_err(|failure| format!("{file}: {failure}"))
 }
 
-fn line(n: usize, costs: &[i32], answer: &Answer) -> String {
-    [
-        n.to_string(),
-        words(costs),
-        words(&answer.columns),
-        words(&answer.rows),
-        words(&answer.column_prices),
-        words(&answer.row_prices),
-        answer.total.to_string(),
-        words(&answer.counts.five()),
-    ]
-    .join(";")
-}
-
-fn write(seed: u64) -> Result<(), String> {
+fn write(slips: &str, seed: u64) -> Result<(), String> {
     if !oracle::AT_HAND {
         return Err(String::from(oracle::NOT_RUN));
+    }
+    let told = listed::nights_of_slips(&read(slips)?);
+    if told.is_empty() {
+        return Err(format!("{slips} holds no night"));
+    }
+    for costs in told {
+        let n = costs.len().isqrt();
+        println!("{}", listed::line(n, &costs, &checks::night(n, &costs)?));
     }
     let mut random = Random::new(seed);
     for (n, nights) in sides() {
         for night in 0..nights {
             let family = if nights == FAMILIES.len() { night } else { random.below(FAMILIES.len()) };
             let costs = (FAMILIES[family].costs)(&mut random, n);
-            println!("{}", line(n, &costs, &checks::night(n, &costs)?));
+            println!("{}", listed::line(n, &costs, &checks::night(n, &costs)?));
         }
     }
     Ok(())
@@ -56,35 +48,30 @@ fn replay(file: &str) -> Result<(), String> {
     if !oracle::AT_HAND {
         println!("{}", oracle::NOT_RUN);
     }
-    let text = std::fs::read_to_string(file).map_err(|failure| format!("{file}: {failure}"))?;
-    let mut nights = 0;
-    for (at, written) in text.lines().enumerate().filter(|(_, line)| !line.starts_with('#')) {
-        let wrong = |what: &str| format!("{file}, line {}: {what}", at + 1);
-        let mut parts = written.split(';');
-        let n = parts.next().and_then(|side| side.parse::<usize>().ok()).ok_or_else(|| wrong("no side"))?;
-        let costs = parts.next().ok_or_else(|| wrong("no costs"))?;
-        let costs: Option<Vec<i32>> = costs.split_whitespace().map(|cost| cost.parse().ok()).collect();
-        let costs = costs.filter(|costs| costs.len() == n * n).ok_or_else(|| wrong("not n*n costs"))?;
-        if line(n, &costs, &checks::night(n, &costs)?) != written {
-            return Err(wrong("another answer"));
+    let text = read(file)?;
+    let nights = listed::nights(&text).map_err(|wrong| format!("{file}: {wrong}"))?;
+    for night in &nights {
+        let right = listed::line(night.n, &night.costs, &checks::night(night.n, &night.costs)?);
+        if night.line != right {
+            return Err(format!("{file} has\n{}\nbut the night gives\n{right}", night.line));
         }
-        nights += 1;
     }
-    println!("list: {nights} nights replayed");
-    if nights == 0 {
-        return Err(format!("{file} holds no night"));
-    }
+    println!("list: {} nights replayed", nights.len());
     Ok(())
 }
 
+fn run() -> Result<(), String> {
+    let arguments: Vec<String> = std::env::args().skip(1).collect();
+    match arguments.iter().map(String::as_str).collect::<Vec<_>>()[..] {
+        ["write", slips] => write(slips, 1),
+        ["write", slips, seed] => write(slips, seed.parse().map_err(|_| format!("'{seed}' is no seed"))?),
+        [file] => replay(file),
+        _ => Err(String::from("list write SLIPS [SEED], or list FILE")),
+    }
+}
+
 fn main() -> ExitCode {
-    let mut arguments = std::env::args().skip(1);
-    let done = match arguments.next().as_deref() {
-        Some("write") => write(arguments.next().and_then(|seed| seed.parse().ok()).unwrap_or(1)),
-        Some(file) => replay(file),
-        None => Err(String::from("list write [SEED], or list FILE")),
-    };
-    match done {
+    match run() {
         Ok(()) => ExitCode::SUCCESS,
         Err(failure) => {
             println!("list: FAILED: {failure}");

@@ -1,7 +1,8 @@
 //! For each slip of the hand a smallest night that tells it from the rule.
 //!
 //!     slips search     searches, and writes the table to standard output
-//!     slips FILE       replays the table in FILE: every line is made again from its slip and its costs
+//!     slips FILE LIST  replays the table in FILE: every line is made again from its slip and its costs; and fails
+//!                      where a slip that has a night there is told by no night of LIST (the crate's answers)
 //!
 //! A night's right answer is the rules' and the crate's (`checks::night`).
 
@@ -9,6 +10,7 @@ mod slipped;
 
 use std::process::ExitCode;
 
+use differential::listed::{self, costs_of, words};
 use differential::nights::{Every, Random, FAMILIES};
 use differential::rules::{self, Answer};
 use differential::{checks, oracle};
@@ -153,12 +155,8 @@ fn search() -> Found {
     found
 }
 
-fn list<T: std::fmt::Display>(entries: &[T]) -> String {
-    entries.iter().map(T::to_string).collect::<Vec<_>>().join(" ")
-}
-
 fn shown(n: usize, costs: &[i32]) -> String {
-    let rows: Vec<String> = costs.chunks(n).map(list).collect();
+    let rows: Vec<String> = costs.chunks(n).map(words).collect();
     format!("[{}]", rows.join(" / "))
 }
 
@@ -170,19 +168,19 @@ fn wrong(slip: Slip, n: usize, costs: &[i32], right: &Answer) -> String {
     };
     let mut parts = Vec::new();
     if wrong.columns != right.columns {
-        parts.push(format!("columns {}", list(&wrong.columns)));
+        parts.push(format!("columns {}", words(&wrong.columns)));
     }
     if wrong.column_prices != right.column_prices {
-        parts.push(format!("v {}", list(&wrong.column_prices)));
+        parts.push(format!("v {}", words(&wrong.column_prices)));
     }
     if wrong.row_prices != right.row_prices {
-        parts.push(format!("row prices {}", list(&wrong.row_prices)));
+        parts.push(format!("row prices {}", words(&wrong.row_prices)));
     }
     if wrong.total != right.total {
         parts.push(format!("total {}", wrong.total));
     }
     if wrong.counts.five() != right.counts.five() {
-        parts.push(format!("counts {}", list(&wrong.counts.five())));
+        parts.push(format!("counts {}", words(&wrong.counts.five())));
     }
     parts.join("; ")
 }
@@ -194,12 +192,12 @@ fn line(slip: Slip, letter: &str, what: &str, n: usize, costs: &[i32]) -> Result
     Ok(format!(
         "| {letter} | {what} | {} | {} | {} | {} | {} | {} | {} | {} | {} |",
         shown(n, costs),
-        list(&right.columns),
-        list(&right.rows),
-        list(&right.column_prices),
-        list(&right.row_prices),
+        words(&right.columns),
+        words(&right.rows),
+        words(&right.column_prices),
+        words(&right.row_prices),
         right.total,
-        list(&right.counts.five()),
+        words(&right.counts.five()),
         wrong(slip, n, costs, &right),
         others.join(" "),
     ))
@@ -243,14 +241,29 @@ fn write_table() -> Result<(), String> {
     Ok(())
 }
 
-fn costs_of(shown: &str) -> Option<Vec<i32>> {
-    let inside = shown.strip_prefix('[')?.strip_suffix(']')?;
-    inside.split([' ', '/']).filter(|word| !word.is_empty()).map(|word| word.parse().ok()).collect()
+fn read(file: &str) -> Result<String, String> {
+    std::fs::read_to_string(file).map_err(|failure| format!("{file}: {failure}"))
 }
 
-fn replay(file: &str) -> Result<(), String> {
-    let text = std::fs::read_to_string(file).map_err(|failure| format!("{file}: {failure}"))?;
-    let mut lines = 0;
+/// Tests that each of these slips is told by a night of the list.
+fn told_by_list(file: &str, slips: &[(Slip, &str)]) -> Result<(), String> {
+    let text = read(file)?;
+    let nights = listed::nights(&text).map_err(|wrong| format!("{file}: {wrong}"))?;
+    let tells = |slip, night: &listed::Night| {
+        told(slip, night.n, &night.costs, &rules::solve(night.n, &night.costs)).is_some()
+    };
+    for (slip, letter) in slips {
+        if !nights.iter().any(|night| tells(*slip, night)) {
+            return Err(format!("no night of {file} tells {letter}"));
+        }
+    }
+    println!("slips: {} are told by the list", slips.len());
+    Ok(())
+}
+
+fn replay(file: &str, list: &str) -> Result<(), String> {
+    let text = read(file)?;
+    let (mut lines, mut with_night) = (0, Vec::new());
     for written in text.lines() {
         let cells: Vec<&str> = written.split('|').map(str::trim).collect();
         if let Some((name, n, costs)) = STARRED.iter().find(|(name, _, _)| cells.get(1) == Some(name)) {
@@ -274,23 +287,25 @@ fn replay(file: &str) -> Result<(), String> {
         if wrong(*slip, n, &costs, &rules::solve(n, &costs)).is_empty() {
             return Err(format!("the night does not tell the slip: {written}"));
         }
+        with_night.push((*slip, *letter));
         lines += 1;
     }
     println!("slips: {lines} lines replayed");
     if lines == 0 {
         return Err(format!("{file} holds no line of the table"));
     }
-    Ok(())
+    told_by_list(list, &with_night)
 }
 
 fn main() -> ExitCode {
     if !oracle::AT_HAND {
         println!("{}", oracle::NOT_RUN);
     }
-    let done = match std::env::args().nth(1).as_deref() {
-        Some("search") => write_table(),
-        Some(file) => replay(file),
-        None => Err(String::from("slips search, or slips FILE")),
+    let arguments: Vec<String> = std::env::args().skip(1).collect();
+    let done = match arguments.iter().map(String::as_str).collect::<Vec<_>>()[..] {
+        ["search"] => write_table(),
+        [file, list] => replay(file, list),
+        _ => Err(String::from("slips search, or slips FILE LIST")),
     };
     match done {
         Ok(()) => ExitCode::SUCCESS,
