@@ -75,7 +75,16 @@ pub unsafe extern "C" fn bristlefrost_solve(
     if cfg!(feature = "one-past-the-end") && cols_len > n {
         cols[n] = 0;
     }
-    Solved { refusal: 0, total: night.total, counts: night.counts.five().map(|count| count as u64) }
+    if cfg!(feature = "prices-shifted") {
+        // Every sum of a row price and a column price stays.
+        row_prices[..n].iter_mut().for_each(|price| *price += 1);
+        col_prices[..n].iter_mut().for_each(|price| *price -= 1);
+    }
+    let mut counts = night.counts.five().map(|count| count as u64);
+    if cfg!(feature = "looks-exchanged") {
+        counts.swap(1, 2);
+    }
+    Solved { refusal: 0, total: night.total, counts }
 }
 
 /// # Safety
@@ -106,6 +115,9 @@ pub unsafe extern "C" fn bristlefrost_check(
         if let Some(row) = (0..n).find(|&i| !tight(i)) {
             return answer(Err((10, row as u64)));
         }
+    }
+    if cfg!(feature = "accepts-all") && matches!(result, Err((9 | 10, _))) {
+        return answer(refusals::cost(n, costs, &cols[..n]));
     }
     answer(result)
 }
@@ -138,8 +150,11 @@ pub unsafe extern "C" fn bristlefrost_sheet(
     slip: *mut u8,
     slip_len: usize,
 ) -> u64 {
-    let (sheet, slip) = (from_raw_parts(sheet, sheet_len), from_raw_parts_mut(slip, slip_len));
-    match refusals::sheet(sheet, slip_len) {
+    write_slip(from_raw_parts(sheet, sheet_len), from_raw_parts_mut(slip, slip_len))
+}
+
+fn write_slip(sheet: &[u8], slip: &mut [u8]) -> u64 {
+    match refusals::sheet(sheet, slip.len()) {
         Ok(mut night) => {
             if cfg!(feature = "highest-byte-first") {
                 night.costs.iter_mut().for_each(|cost| *cost = cost.swap_bytes());
@@ -151,8 +166,14 @@ pub unsafe extern "C" fn bristlefrost_sheet(
             }
             0
         }
-        // The distance points past the sheet's first byte then.
-        Err((14, _)) if cfg!(feature = "distance-not-tested") => 15,
+        Err((14, _)) if cfg!(feature = "distance-not-tested") => {
+            // The n*n costs before the trailer are paired, wherever its distance points.
+            let mut pointed = sheet.to_vec();
+            let trailer = sheet.len() - 12;
+            let side = u32::from(u16::from_le_bytes([sheet[trailer + 4], sheet[trailer + 5]]));
+            pointed[trailer..trailer + 4].copy_from_slice(&(4 * side * side).to_le_bytes());
+            write_slip(&pointed, slip)
+        }
         Err(refused) => {
             if cfg!(feature = "slip-before-refusal") && refused.0 == 5 {
                 slip[0] ^= 1;
