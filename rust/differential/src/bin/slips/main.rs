@@ -13,8 +13,11 @@ use std::process::ExitCode;
 use differential::listed::{self, costs_of, words};
 use differential::nights::{Every, Random, FAMILIES};
 use differential::rules::{self, Answer};
-use differential::{checks, oracle};
+use differential::{checks, oracle, paper};
 use slipped::{Slip, SLIPS};
+
+/// How the costs of a slip begin that no night tells.
+const NONE: &str = "none among";
 
 /// A night and how it ranks: the difference shows in the pairing or prices, then side, then shows in the
 /// columns, then the largest cost, the sum, and the costs in order.
@@ -203,16 +206,10 @@ fn line(slip: Slip, letter: &str, what: &str, n: usize, costs: &[i32]) -> Result
     ))
 }
 
-/// Document 01's starred nights that the solver is run on.
-const STARRED: [(&str, usize, &[i32]); 7] = [
-    ("N2", 2, &[1, 2, 3, 4]),
-    ("N3", 3, &[0; 9]),
-    ("N4", 2, &[1, 5, 6, 2]),
-    ("N5", 2, &[-1_000_000_000, 1_000_000_000, 1_000_000_000, -1_000_000_000]),
-    ("N6", 2, &[1, 2, 1, 5]),
-    ("N7", 3, &[3, 1, 0, 0, 0, 2, 9, 9, 0]),
-    ("N8", 3, &[3, 1, 0, 0, 0, 2, 4, 1, 0]),
-];
+/// Document 01's starred nights that tell a slip, N2 to N8, with their names.
+fn starred() -> impl Iterator<Item = (String, &'static paper::Night)> {
+    paper::NIGHTS.iter().enumerate().skip(2).map(|(number, night)| (format!("N{number}"), night))
+}
 
 /// The slips that a night tells.
 fn all_told(n: usize, costs: &[i32], right: &Answer) -> Vec<&'static str> {
@@ -220,7 +217,8 @@ fn all_told(n: usize, costs: &[i32], right: &Answer) -> Vec<&'static str> {
     told.map(|(_, letter, _)| *letter).collect()
 }
 
-fn starred_line(name: &str, n: usize, costs: &[i32]) -> Result<String, String> {
+fn starred_line(name: &str, night: &paper::Night) -> Result<String, String> {
+    let (n, costs) = (night.columns.len(), night.costs);
     Ok(format!("| {name} | {} |", all_told(n, costs, &checks::night(n, costs)?).join(" ")))
 }
 
@@ -231,12 +229,12 @@ fn write_table() -> Result<(), String> {
     for (best, (slip, letter, what)) in found.best.iter().zip(SLIPS) {
         match best {
             Some(night) => println!("{}", line(slip, letter, what, night.n, &night.costs)?),
-            None => println!("| {letter} | {what} | none among {} nights | | | | | | | | |", found.nights),
+            None => println!("| {letter} | {what} | {NONE} {} nights | | | | | | | | |", found.nights),
         }
     }
     println!("\n| night | tells |\n|---|---|");
-    for (name, n, costs) in STARRED {
-        println!("{}", starred_line(name, n, costs)?);
+    for (name, night) in starred() {
+        println!("{}", starred_line(&name, night)?);
     }
     Ok(())
 }
@@ -245,55 +243,68 @@ fn read(file: &str) -> Result<String, String> {
     std::fs::read_to_string(file).map_err(|failure| format!("{file}: {failure}"))
 }
 
-/// Tests that each of these slips is told by a night of the list.
-fn told_by_list(file: &str, slips: &[(Slip, &str)]) -> Result<(), String> {
+/// Tests that the slips that a night of the list tells are those that have a night in the table, by their letters.
+fn told_by_list(file: &str, with_night: &[&str]) -> Result<(), String> {
     let text = read(file)?;
     let nights = listed::nights(&text).map_err(|wrong| format!("{file}: {wrong}"))?;
-    let tells = |slip, night: &listed::Night| {
-        told(slip, night.n, &night.costs, &rules::solve(night.n, &night.costs)).is_some()
-    };
-    for (slip, letter) in slips {
-        if !nights.iter().any(|night| tells(*slip, night)) {
-            return Err(format!("no night of {file} tells {letter}"));
+    let answered: Vec<Answer> = nights.iter().map(|night| rules::solve(night.n, &night.costs)).collect();
+    for (slip, letter, _) in SLIPS {
+        let mut all = nights.iter().zip(&answered);
+        let is_told = all.any(|(night, right)| told(slip, night.n, &night.costs, right).is_some());
+        match (with_night.contains(&letter), is_told) {
+            (true, false) => return Err(format!("no night of {file} tells {letter}")),
+            (false, true) => return Err(format!("the table has no night for {letter}, but {file} has one")),
+            _ => {}
         }
     }
-    println!("slips: {} are told by the list", slips.len());
+    println!("slips: the list tells {} of {}", with_night.len(), SLIPS.len());
     Ok(())
 }
 
+/// What the table must hold, made again.
+fn same_line(written: &str, made: &str) -> Result<(), String> {
+    if written != made {
+        return Err(format!("the table has\n{written}\nbut the night gives\n{made}"));
+    }
+    Ok(())
+}
+
+/// The table's line whose first cell is this, in its cells; there must be exactly one.
+fn only<'a>(table: &'a str, first: &str) -> Result<(&'a str, Vec<&'a str>), String> {
+    let cells = |line: &'a str| (line, line.split('|').map(str::trim).collect::<Vec<_>>());
+    let mut lines = table.lines().map(cells).filter(|(_, cells)| cells.get(1) == Some(&first));
+    match (lines.next(), lines.next()) {
+        (Some(line), None) => Ok(line),
+        (None, _) => Err(format!("the table has no line for {first}")),
+        (Some(_), Some(_)) => Err(format!("the table has two lines for {first}")),
+    }
+}
+
 fn replay(file: &str, list: &str) -> Result<(), String> {
-    let text = read(file)?;
-    let (mut lines, mut with_night) = (0, Vec::new());
-    for written in text.lines() {
-        let cells: Vec<&str> = written.split('|').map(str::trim).collect();
-        if let Some((name, n, costs)) = STARRED.iter().find(|(name, _, _)| cells.get(1) == Some(name)) {
-            let made = starred_line(name, *n, costs)?;
-            if made != written {
-                return Err(format!("the table has\n{written}\nbut the night gives\n{made}"));
-            }
-            lines += 1;
+    let table = read(file)?;
+    let (mut none, mut with_night) = (0, Vec::new());
+    for (slip, letter, what) in SLIPS {
+        let (written, cells) = only(&table, letter)?;
+        let cell = *cells.get(3).ok_or_else(|| format!("no costs: {written}"))?;
+        if cell.starts_with(NONE) {
+            none += 1;
             continue;
         }
-        let slip = SLIPS.iter().find(|(_, letter, _)| cells.get(1) == Some(letter));
-        let (Some((slip, letter, what)), Some(costs)) = (slip, cells.get(3).and_then(|cell| costs_of(cell)))
-        else {
-            continue;
-        };
+        let costs = costs_of(cell).ok_or_else(|| format!("unreadable costs: {written}"))?;
         let n = costs.len().isqrt();
-        let made = line(*slip, letter, what, n, &costs)?;
-        if made != written {
-            return Err(format!("the table has\n{written}\nbut the night gives\n{made}"));
+        if n * n != costs.len() {
+            return Err(format!("not n*n costs: {written}"));
         }
-        if wrong(*slip, n, &costs, &rules::solve(n, &costs)).is_empty() {
+        same_line(written, &line(slip, letter, what, n, &costs)?)?;
+        if wrong(slip, n, &costs, &rules::solve(n, &costs)).is_empty() {
             return Err(format!("the night does not tell the slip: {written}"));
         }
-        with_night.push((*slip, *letter));
-        lines += 1;
+        with_night.push(letter);
     }
-    println!("slips: {lines} lines replayed");
-    if lines == 0 {
-        return Err(format!("{file} holds no line of the table"));
+    for (name, night) in starred() {
+        same_line(only(&table, &name)?.0, &starred_line(&name, night)?)?;
     }
+    println!("slips: {} with their nights and {none} without, and what the starred nights tell", with_night.len());
     told_by_list(list, &with_night)
 }
 
