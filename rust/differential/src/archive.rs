@@ -3,9 +3,10 @@
 
 use std::collections::BTreeMap;
 
-use bristlefrost::{face, Lent};
+use bristlefrost::{face, Lent, Paired, Refusal};
 
 use crate::nights::Random;
+use crate::oracle::Floats;
 use crate::rules::{self, Answer};
 use crate::{refusals, sheets, K};
 
@@ -111,12 +112,24 @@ fn told(right: Result<i64, refusals::Refused>) -> (u64, i64) {
     }
 }
 
-/// The wrapper's answer as number and total.
-fn wrapped(answer: Result<i64, bristlefrost::Refusal>) -> (u64, i64) {
-    told(answer.map_err(|refusal| (refusal.number().into(), refusal.place())))
+/// The archive's number for a refusal of the wrapper.
+fn number_and_place(refusal: Refusal) -> u64 {
+    refusals::code((refusal.number().into(), refusal.place()))
 }
 
-/// Lends the solver lists of these lengths and compares everything.
+/// The wrapper's answer as number and total.
+fn wrapped(answer: Result<i64, Refusal>) -> (u64, i64) {
+    answer.map_or_else(|refusal| (number_and_place(refusal), 0), |total| (0, total))
+}
+
+/// The wrapper's total and counts, from those of document 01.
+fn paired(total: i64, counts: [u64; 5]) -> Paired {
+    let [free_rows, looks_one, looks_two, rows_left, columns_scanned] = counts;
+    Paired { total, free_rows, looks_one, looks_two, rows_left, columns_scanned }
+}
+
+/// Lends the solver lists of these lengths and compares everything; then the wrapper, with lists like them and with
+/// those that it makes itself.
 pub fn solve(
     random: &mut Random,
     n: usize,
@@ -125,8 +138,7 @@ pub fn solve(
     known: Option<&Answer>,
 ) -> Result<u64, String> {
     let before = Lists::new(random, lengths);
-    let mut found = before.clone();
-    let mut right = before;
+    let (mut found, mut again, mut right) = (before.clone(), before.clone(), before);
     let (lists, rooms) = ([lengths[0], lengths[1], lengths[2], lengths[3]], [lengths[4], lengths[5]]);
     let solved = face::solve(n, costs, found.lent());
     let counts = [solved.free_rows, solved.looks_one, solved.looks_two, solved.rows_left, solved.columns_scanned];
@@ -147,8 +159,22 @@ pub fn solve(
     };
     expect("solve", &(solved.refusal, solved.total, counts), &(code, total, five))?;
     expect("lists after solve", &found, &right)?;
-    let again = bristlefrost::solve_into(n, costs, found.lent());
-    expect("the wrapper's solve", &wrapped(again.map(|paired| paired.total)), &(code, total))?;
+
+    let answered = if code == 0 { Ok(paired(total, five)) } else { Err(code) };
+    let wrapped = bristlefrost::solve_into(n, costs, again.lent());
+    expect("the wrapper's solve_into", &wrapped.map_err(number_and_place), &answered)?;
+    expect("lists after the wrapper's solve_into", &again, &right)?;
+    // The wrapper's own lists fit, so that it never answers 3 or 4.
+    if !matches!(code % 256, 3 | 4) {
+        let night = answered.map(|paired| bristlefrost::Night {
+            columns: right.columns[..n].to_vec(),
+            rows: right.rows[..n].to_vec(),
+            row_prices: right.row_prices[..n].to_vec(),
+            column_prices: right.column_prices[..n].to_vec(),
+            paired,
+        });
+        expect("the wrapper's solve", &bristlefrost::solve(n, costs).map_err(number_and_place), &night)?;
+    }
     Ok(code)
 }
 
@@ -192,12 +218,13 @@ pub fn sheet(random: &mut Random, bytes: &[u8], room: usize) -> Result<u64, Stri
     })?;
     let again = bristlefrost::sheet_into(bytes, &mut found).map(|()| 0);
     expect("the wrapper's sheet", &wrapped(again), &(code, 0))?;
-    let read = refusals::sheet(bytes, usize::MAX).ok().map(|night| night.costs);
+    let read = bristlefrost::Sheet::read(bytes).ok();
     expect(
         "the wrapper's reading",
-        &bristlefrost::Sheet::read(bytes).ok().map(|sheet| sheet.costs().to_vec()),
-        &read,
+        &read.as_ref().map(|sheet| (sheet.side(), sheet.costs().to_vec())),
+        &refusals::sheet(bytes, usize::MAX).ok().map(|night| (night.n, night.costs)),
     )?;
+    expect("what is read is written again", &read.is_none_or(|sheet| sheet.bytes() == bytes), &true)?;
     Ok(code)
 }
 
@@ -225,23 +252,17 @@ pub fn night(random: &mut Random, met: &mut Met, n: usize, costs: &[i32], answer
     met.note("solve", solve(random, n, costs, lengths, Some(answer))?);
 
     let lists = longer(random, answer);
-    met.note("check", check(n, costs, &lists)?);
-    expect(
-        "the solver's answer is accepted",
-        &told(Ok(answer.total)),
-        &wrapped(bristlefrost::check(
-            n,
-            costs,
-            &lists.columns,
-            &lists.rows,
-            &lists.row_prices,
-            &lists.column_prices,
-        )),
-    )?;
+    let code = check(n, costs, &lists)?;
+    expect("the solver's answer is accepted", &code, &0)?;
+    met.note("check", code);
 
     met.note("cost", cost(n, costs, &lists.columns[..n])?);
     let listed: Vec<u32> = (0..random.below(n + 1)).map(|_| random.below(n) as u32).collect();
     met.note("cost", cost(n, costs, &listed)?);
+    let columns: Vec<usize> = listed.iter().map(|&column| column as usize).collect();
+    if let Some(total) = Floats::new(n, costs).cost(&columns) {
+        expect("the crate's cost", &Ok(total), &refusals::cost(n, costs, &listed).map(|total| total as f64))?;
+    }
 
     if n <= 64 {
         let note: Vec<u8> = (0..random.below(40)).map(|_| random.number() as u8).collect();
