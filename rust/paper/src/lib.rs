@@ -272,7 +272,7 @@ impl fmt::Display for Slip {
     fn fmt(&self, f: &mut fmt::Formatter<'_>) -> fmt::Result {
         writeln!(f, "side {} total {}", self.columns.len(), self.total)?;
         for (row, (column, price)) in self.columns.iter().zip(&self.row_prices).enumerate() {
-            writeln!(f, "row {row} column {column} price {price}")?;
+            writeln!(f, "row {row} price {price}, column {column}")?;
         }
         for (column, price) in self.column_prices.iter().enumerate() {
             writeln!(f, "column {column} price {price}")?;

@@ -3,29 +3,30 @@
 //!     paper sheet < TABLE > SHEET    a sheet of the costs in a table of numbers
 //!     paper slip < SLIP              the lines of a slip
 
+use std::error::Error;
 use std::io::{self, Read, Write};
 use std::process::ExitCode;
 
 use paper::{Sheet, Slip};
 
-fn run() -> Result<(), String> {
-    let arguments: Vec<String> = std::env::args().skip(1).collect();
+fn input() -> io::Result<Vec<u8>> {
     let mut bytes = Vec::new();
-    let mut read = || io::stdin().read_to_end(&mut bytes).map_err(|failure| failure.to_string());
-    match arguments.iter().map(String::as_str).collect::<Vec<_>>()[..] {
+    io::stdin().read_to_end(&mut bytes)?;
+    Ok(bytes)
+}
+
+fn run() -> Result<(), Box<dyn Error>> {
+    let arguments: Vec<String> = std::env::args().skip(1).collect();
+    let output = match arguments.iter().map(String::as_str).collect::<Vec<_>>()[..] {
         ["sheet"] => {
-            read()?;
-            let table = String::from_utf8(bytes).map_err(|_| "the table is not text")?;
-            let sheet = Sheet::from_table(&table).map_err(|unfit| unfit.to_string())?;
-            io::stdout().write_all(&sheet.bytes()).map_err(|failure| failure.to_string())
+            let table = String::from_utf8(input()?).map_err(|_| "the table is not text")?;
+            Sheet::from_table(&table)?.bytes()
         }
-        ["slip"] => {
-            read()?;
-            print!("{}", Slip::read(&bytes).map_err(|unfit| unfit.to_string())?);
-            Ok(())
-        }
-        _ => Err(String::from("paper sheet < TABLE > SHEET, or paper slip < SLIP")),
-    }
+        ["slip"] => Slip::read(&input()?)?.to_string().into_bytes(),
+        _ => return Err("paper sheet < TABLE > SHEET, or paper slip < SLIP".into()),
+    };
+    io::stdout().write_all(&output)?;
+    Ok(io::stdout().flush()?)
 }
 
 fn main() -> ExitCode {

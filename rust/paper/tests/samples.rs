@@ -1,21 +1,72 @@
-//! Every sample sheet is what its table makes, and no table is left without one.
+//! Every sample sheet is what its table makes, by the program too; what is unfit is told; and a slip's lines.
 
-use std::fs;
-use std::path::Path;
+use std::fs::{self, File};
+use std::io::Write;
+use std::path::{Path, PathBuf};
+use std::process::{Command, Stdio};
+
+/// The program with this command.
+fn program(command: &str) -> Command {
+    let mut program = Command::new(env!("CARGO_BIN_EXE_paper"));
+    program.arg(command).stdin(Stdio::piped()).stdout(Stdio::piped()).stderr(Stdio::piped());
+    program
+}
+
+fn tables() -> impl Iterator<Item = PathBuf> {
+    let samples = Path::new(env!("CARGO_MANIFEST_DIR")).join("../../samples");
+    let files = fs::read_dir(samples).expect("the samples").map(|entry| entry.expect("a sample").path());
+    files.filter(|path| path.extension().is_some_and(|end| end == "table"))
+}
 
 #[test]
 fn sheets_are_those_of_their_tables() {
-    let samples = Path::new(env!("CARGO_MANIFEST_DIR")).join("../../samples");
-    let tables = fs::read_dir(samples).expect("the samples").map(|entry| entry.expect("a sample").path());
     let mut made = 0;
-    for table in tables.filter(|path| path.extension().is_some_and(|end| end == "table")) {
+    for table in tables() {
         let text = fs::read_to_string(&table).expect("a table is text");
         let sheet = paper::Sheet::from_table(&text).expect("a table makes a sheet");
         let kept = fs::read(table.with_extension("sheet")).expect("a table's sheet");
         assert_eq!(sheet.bytes(), kept, "{}", table.display());
+        let output = program("sheet").stdin(File::open(&table).expect("a table")).output().expect("it runs");
+        assert!(output.status.success() && output.stdout == kept, "{}", table.display());
         made += 1;
     }
     assert!(made >= 5, "only {made} samples");
+}
+
+/// Document 01's slip of side 1.
+const SLIP: [u8; 38] = [
+    0, 0, 0, 0, 0, 0, 0, 0, 0, 0, 7, 0, 0, 0, 0, 0, 0, 0, 7, 0, 0, 0, 0, 0, 0, 0, //
+    0x1A, 0, 0, 0, 1, 0, 1, 0, 0x53, 0x4C, 0x49, 0x50,
+];
+
+#[test]
+fn the_lines_of_a_slip() {
+    let mut child = program("slip").spawn().expect("it runs");
+    child.stdin.take().expect("its input").write_all(&SLIP).expect("it reads");
+    let output = child.wait_with_output().expect("it ends");
+    assert!(output.status.success());
+    let lines = "side 1 total 7\nrow 0 price 0, column 0\ncolumn 0 price 7\n";
+    assert_eq!(String::from_utf8_lossy(&output.stdout), lines);
+}
+
+#[test]
+fn a_closed_pipe_is_no_panic() {
+    let mut child = program("slip").spawn().expect("it runs");
+    drop(child.stdout.take());
+    child.stdin.take().expect("its input").write_all(&SLIP).expect("it reads");
+    let output = child.wait_with_output().expect("it ends");
+    assert_eq!(output.status.code(), Some(1));
+    assert!(output.stderr.starts_with(b"paper: "));
+}
+
+#[test]
+fn an_unfit_table_leaves_nothing() {
+    let mut child = program("sheet").spawn().expect("it runs");
+    child.stdin.take().expect("its input").write_all(b"1 2 3\n4\n").expect("it reads");
+    let output = child.wait_with_output().expect("it ends");
+    assert_eq!((output.status.code(), output.stdout.len()), (Some(1), 0));
+    let told = "paper: line 1: as many costs are wanted as there are rows, 2, not 3\n";
+    assert_eq!(String::from_utf8_lossy(&output.stderr), told);
 }
 
 #[test]

@@ -13,15 +13,20 @@ use bristlefrost::{Sheet, Slip};
 fn write() -> Result<(), Box<dyn Error>> {
     let mut sheet = Vec::new();
     io::stdin().read_to_end(&mut sheet)?;
-    Ok(io::stdout().write_all(&bristlefrost::sheet(&sheet)?)?)
+    say(&bristlefrost::sheet(&sheet)?)
+}
+
+/// A closed pipe is an error like any other.
+fn say(bytes: &[u8]) -> Result<(), Box<dyn Error>> {
+    io::stdout().write_all(bytes)?;
+    Ok(io::stdout().flush()?)
 }
 
 fn audit(sheet: &str, slip: &str) -> Result<(), Box<dyn Error>> {
     let night = Sheet::read(&fs::read(sheet)?)?;
     let slip = Slip::read(&fs::read(slip)?)?;
     bristlefrost::audit(&night, &slip)?;
-    println!("accepted {} total {}", night.side(), slip.total);
-    Ok(())
+    say(format!("accepted {} total {}\n", night.side(), slip.total).as_bytes())
 }
 
 fn main() -> ExitCode {
