@@ -1,6 +1,32 @@
 #!/bin/sh
-# Makes each sample's sheet from its table.
-cd "$(dirname "$0")" || exit 2
+# Makes each sample's sheet: from its table by the program paper, and what paper refuses to make by hand.
+set -eu
+cd "$(dirname "$0")"
+trap 'rm -f new' EXIT
+
+# keep FILE: what is read becomes the file, once it has been read in full.
+keep() { cat >new && mv new "$1"; }
+
+full() {
+    echo "# The largest side, 64; row i and column j cost i*j"
+    i=0
+    while [ "$i" -lt 64 ]; do
+        j=0 row=
+        while [ "$j" -lt 64 ]; do row="$row $((i * j))" j=$((j + 1)); done
+        echo "${row# }"
+        i=$((i + 1))
+    done
+}
+full | keep full.table
+
 for table in *.table; do
-    (cd ../rust && cargo run --offline --quiet -p paper -- sheet) <"$table" >"${table%.table}.sheet" || exit 1
+    (cd ../rust && cargo run --offline --quiet -p paper -- sheet) <"$table" >new
+    mv new "${table%.table}.sheet"
 done
+
+# A trailer is the distance (4 bytes), the side (2), the edition (2) and MTCH.
+{ head -c -6 one.sheet; printf '\002\000MTCH'; } | keep edition-2.sheet
+{ head -c 16900 /dev/zero; printf '\004\102\000\000\101\000\001\000MTCH'; } | keep side-65.sheet
+{ head -c -12 one.sheet; printf '\005\000\000\000'; tail -c 8 one.sheet; } | keep distance-one-off.sheet
+tail -c 47 n8.sheet | keep cut-off.sheet
+{ head -c -20 ends.sheet; printf '\001\312\232\073'; tail -c 16 ends.sheet; } | keep over-k.sheet

@@ -12,16 +12,17 @@ fn program(command: &str) -> Command {
     program
 }
 
-fn tables() -> impl Iterator<Item = PathBuf> {
+/// The samples' files of a kind.
+fn samples(kind: &'static str) -> impl Iterator<Item = PathBuf> {
     let samples = Path::new(env!("CARGO_MANIFEST_DIR")).join("../../samples");
     let files = fs::read_dir(samples).expect("the samples").map(|entry| entry.expect("a sample").path());
-    files.filter(|path| path.extension().is_some_and(|end| end == "table"))
+    files.filter(move |path| path.extension().is_some_and(|end| end == kind))
 }
 
 #[test]
 fn sheets_are_those_of_their_tables() {
     let mut made = 0;
-    for table in tables() {
+    for table in samples("table") {
         let text = fs::read_to_string(&table).expect("a table is text");
         let sheet = paper::Sheet::from_table(&text).expect("a table makes a sheet");
         let kept = fs::read(table.with_extension("sheet")).expect("a table's sheet");
@@ -30,7 +31,20 @@ fn sheets_are_those_of_their_tables() {
         assert!(output.status.success() && output.stdout == kept, "{}", table.display());
         made += 1;
     }
-    assert!(made >= 5, "only {made} samples");
+    assert!(made >= 7, "only {made} tables");
+}
+
+/// A sheet without a table is one that the program refuses, and is unfit here too.
+#[test]
+fn refused_sheets_are_unfit() {
+    let mut refused = 0;
+    for sheet in samples("sheet").filter(|sheet| !sheet.with_extension("table").exists()) {
+        let lines = fs::read_to_string(sheet.with_extension("lines")).expect("a sheet's lines");
+        assert!(lines.starts_with("refused "), "{}", sheet.display());
+        assert!(paper::Sheet::read(&fs::read(&sheet).expect("a sheet")).is_err(), "{}", sheet.display());
+        refused += 1;
+    }
+    assert!(refused >= 6, "only {refused} refused sheets");
 }
 
 /// Document 01's slip of side 1.
