@@ -12,7 +12,11 @@ fn main() {
     let archive = directory.join("libface.a");
     println!("cargo:rerun-if-changed={}", archive.display());
     if !archive.exists() {
-        println!("cargo::error=libface.a is missing: build it, or name its directory in BRISTLEFROST_LIB");
+        println!(
+            "cargo::error=no libface.a in {}: run `rt staticlib face` in the repository, or name its directory in \
+             BRISTLEFROST_LIB",
+            directory.display()
+        );
         return;
     }
     let directory = directory.canonicalize().expect("the archive's directory has a full path");

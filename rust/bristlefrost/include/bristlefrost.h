@@ -1,4 +1,8 @@
-/* Least-cost pairing of n rows with n columns, over the archive libface.a.
+/* Least-cost pairing of n rows with n columns, over the archive libface.a. n is the side, at most 1,024; rows and
+ * columns count from 0. The place of row i and column j is i*n+j: row order.
+ *
+ * A price is a number for each row and each column such that row price + column price is at most the cost
+ * everywhere, and equal to it on each pair. Where there are such prices, no pairing has a lower total.
  *
  * Each list is a pointer and, after it, its length in elements. Numbers are handed over by value and the
  * structs below are returned by value.
@@ -10,15 +14,15 @@
  *   - no other thread touches a list during the call (lists that are only read may be read by others).
  * Nothing is kept after the call returns. Nothing else is asked: any side, length and number is answered.
  *
- * A refusal is 0 where the input was accepted, else number + 256*place, with document 01's numbers:
- *    1  side over its limit (1,024; a sheet 64 is number 13)        place 0
- *    2  the costs are not exactly n*n                               0
+ * A refusal is 0 where the input was accepted, else number + 256*place:
+ *    1  side over 1,024                                             place 0
+ *    2  not exactly n*n costs                                       0
  *    3  an output or list shorter than n (cost: longer than n)      the first such, by its number
  *    4  work room too short                                         1 indices, 2 numbers
  *    5  a cost outside -1,000,000,000..1,000,000,000                the first, i*n+j
  *    6  a listed column is not below n                              the first row
  *    7  the column of a row does not name that row back             the first row
- *    8  a price outside -10,000,000,000..10,000,000,000             the first: row i, then n+j
+ *    8  a price outside -10,000,000,000..10,000,000,000             the first: row i is i, column j is n+j
  *    9  row price + column price over the cost                      the first i*n+j
  *   10  on a paired place that sum is not the cost                  the first row
  *   11  sheet under 12 bytes, or wrong mark                         0
@@ -87,8 +91,13 @@ bristlefrost_total bristlefrost_cost(
     const int32_t *costs, size_t costs_len,
     const uint32_t *listed, size_t listed_len);
 
-/* Reads a sheet and writes its slip of 18n+20 bytes; later bytes of the slip's room are untouched. Answers 0, or
- * number + 256*place. Refusals 17 11 12 13 14 15 16 5. */
+/* Reads a sheet and writes its slip of 18n+20 bytes, where n is the sheet's side, at most 64; later bytes of the
+ * slip's room are untouched. Answers 0, or number + 256*place. Refusals 17 11 12 13 14 15 16 5.
+ *
+ * A sheet is any note, the n*n costs (4 bytes each) and a trailer: the distance from the trailer back to the first
+ * cost, 4*n*n (4 bytes), the side (2), the edition, 1 (2), and MTCH. A slip is the columns by row (2 bytes each), row
+ * prices and column prices (8 each), the total (8) and such a trailer, with the distance 18n+8 and SLIP. All numbers
+ * are little-endian. */
 uint64_t bristlefrost_sheet(
     const uint8_t *sheet, size_t sheet_len,
     uint8_t *slip, size_t slip_len);

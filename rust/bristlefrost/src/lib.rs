@@ -2,7 +2,11 @@
 //! prove it. The work is done by the archive libface.a, whose functions are proved; this crate lends it slices
 //! and reads its answers.
 //!
-//! Costs are n*n numbers in row order, within -K..K for K = 1,000,000,000; the side n is at most 1,024.
+//! The side is the number of rows, and of columns, at most 1,024. Costs are side * side numbers in row order, each
+//! within -1,000,000,000..1,000,000,000.
+//!
+//! A price is a number for each row and each column such that row price + column price is at most the cost everywhere,
+//! and equal to it on each pair. Where a pairing has such prices, none has a lower total.
 //!
 //! ```
 //! let night = bristlefrost::solve(3, &[3, 1, 0, 0, 0, 2, 4, 1, 0])?;
@@ -26,27 +30,30 @@
 //! The same on paper: a [`Sheet`] is built from costs or from a table of numbers, [`pair`] answers its [`Slip`], and
 //! [`audit`] holds a slip against its sheet on another machine. [`sheet`] does it on bytes.
 
+#![warn(missing_docs)]
+
 mod desk;
 #[doc(hidden)]
 pub mod face;
 mod refusal;
 
 pub use desk::{audit, pair, Doubt};
-pub use paper::{Sheet, Slip, Unfit};
+pub use paper::{Sheet, Slip, Unfit, BARRED};
 pub use refusal::{List, Refusal, Room};
 
 /// The largest side.
 pub const LARGEST_SIDE: usize = 1024;
 
 /// The largest side on a sheet.
-pub const LARGEST_SHEET_SIDE: usize = 64;
+pub const LARGEST_SHEET_SIDE: usize = paper::LARGEST_SIDE;
 
-/// K: costs lie within -K..K.
-pub const LARGEST_COST: i32 = 1_000_000_000;
+/// The largest cost; the lowest is -LARGEST_COST.
+pub const LARGEST_COST: i32 = BARRED;
 
 /// The total of an accepted night, and how the solver came to it.
 #[derive(Clone, Copy, Debug, PartialEq, Eq)]
 pub struct Paired {
+    /// The total cost of the pairs; no pairing has a lower one.
     pub total: i64,
     /// Free rows after column reduction.
     pub free_rows: u64,
@@ -67,21 +74,27 @@ pub struct Night {
     pub columns: Vec<u32>,
     /// The row of each column.
     pub rows: Vec<u32>,
+    /// The price of each row: row price + column price is at most the cost everywhere, and equal to it on each pair.
     pub row_prices: Vec<i64>,
+    /// The price of each column.
     pub column_prices: Vec<i64>,
+    /// The total and the counts.
     pub paired: Paired,
 }
 
-/// Where [`solve_into`] writes: four outputs of at least n entries each, and two work rooms, of at least 4n indices
-/// and n numbers.
+/// Where [`solve_into`] writes: four outputs of at least side entries each, and two work rooms.
 pub struct Lent<'a> {
     /// The column of each row.
     pub columns: &'a mut [u32],
     /// The row of each column.
     pub rows: &'a mut [u32],
+    /// The price of each row.
     pub row_prices: &'a mut [i64],
+    /// The price of each column.
     pub column_prices: &'a mut [i64],
+    /// Work room of at least 4 * side indices.
     pub indices: &'a mut [u32],
+    /// Work room of at least side numbers.
     pub numbers: &'a mut [i64],
 }
 
@@ -98,9 +111,9 @@ pub struct Lent<'a> {
 /// assert_eq!(solve(1, &[1_000_000_001]), Err(Refusal::CostOutside { place: 0 }));
 /// # Ok::<(), Refusal>(())
 /// ```
-pub fn solve(n: usize, costs: &[i32]) -> Result<Night, Refusal> {
+pub fn solve(side: usize, costs: &[i32]) -> Result<Night, Refusal> {
     // A side over the limit is refused before any list is looked at.
-    let room = if n <= LARGEST_SIDE { n } else { 0 };
+    let room = if side <= LARGEST_SIDE { side } else { 0 };
     let (mut columns, mut rows) = (vec![0; room], vec![0; room]);
     let (mut row_prices, mut column_prices) = (vec![0; room], vec![0; room]);
     let (mut indices, mut numbers) = (vec![0; 4 * room], vec![0; room]);
@@ -112,12 +125,12 @@ pub fn solve(n: usize, costs: &[i32]) -> Result<Night, Refusal> {
         indices: &mut indices,
         numbers: &mut numbers,
     };
-    let paired = solve_into(n, costs, lent)?;
+    let paired = solve_into(side, costs, lent)?;
     Ok(Night { columns, rows, row_prices, column_prices, paired })
 }
 
-/// Pairs a night into lent lists. After acceptance the first n entries of each output hold the answer, the first
-/// 4n indices and n numbers are 0, and later entries are untouched; a refusal changes nothing.
+/// Pairs a night into lent lists. After acceptance the first entries of each output, as many as the side, hold the
+/// answer; the first 4 * side indices and side numbers are 0; later entries are untouched. A refusal changes nothing.
 ///
 /// ```
 /// use bristlefrost::{solve_into, Lent, List, Refusal};
@@ -142,8 +155,8 @@ pub fn solve(n: usize, costs: &[i32]) -> Result<Night, Refusal> {
 /// assert_eq!(column_prices, [-2, -6]);
 /// assert_eq!(numbers, [0, 0, 9]);
 /// ```
-pub fn solve_into(n: usize, costs: &[i32], lent: Lent<'_>) -> Result<Paired, Refusal> {
-    let solved = face::solve(n, costs, lent);
+pub fn solve_into(side: usize, costs: &[i32], lent: Lent<'_>) -> Result<Paired, Refusal> {
+    let solved = face::solve(side, costs, lent);
     Refusal::read(solved.refusal)?;
     Ok(Paired {
         total: solved.total,
@@ -156,7 +169,7 @@ pub fn solve_into(n: usize, costs: &[i32], lent: Lent<'_>) -> Result<Paired, Ref
 }
 
 /// Accepts a pairing and its prices with the pairing's total; accepted means that no pairing has a lower total.
-/// Only the first n entries of each list are read.
+/// Only the first entries of each list are read, as many as the side.
 ///
 /// ```
 /// use bristlefrost::{check, Refusal};
@@ -167,19 +180,20 @@ pub fn solve_into(n: usize, costs: &[i32], lent: Lent<'_>) -> Result<Paired, Ref
 /// assert_eq!(check(2, &costs, &[0, 1], &[0, 1], &[1, 7], &[0, 0]), Err(Refusal::PricesOverCost { place: 2 }));
 /// ```
 pub fn check(
-    n: usize,
+    side: usize,
     costs: &[i32],
     columns: &[u32],
     rows: &[u32],
     row_prices: &[i64],
     column_prices: &[i64],
 ) -> Result<i64, Refusal> {
-    let answer = face::check(n, costs, columns, rows, row_prices, column_prices);
+    let answer = face::check(side, costs, columns, rows, row_prices, column_prices);
     Refusal::read(answer.refusal)?;
     Ok(answer.total)
 }
 
-/// The total over a list of at most n columns: of row 0, of row 1, and so on. It need not be a permutation.
+/// The total over a list of columns: of row 0, of row 1, and so on, at most as many as the side. A column may be
+/// listed twice.
 ///
 /// ```
 /// use bristlefrost::{cost, List, Refusal};
@@ -189,18 +203,18 @@ pub fn check(
 /// assert_eq!(cost(2, &[1, 2, 3, 4], &[0, 2]), Err(Refusal::ColumnNotBelowSide { row: 1 }));
 /// assert_eq!(cost(1, &[1], &[0, 0]), Err(Refusal::ListLength(List::Columns)));
 /// ```
-pub fn cost(n: usize, costs: &[i32], listed: &[u32]) -> Result<i64, Refusal> {
-    let answer = face::cost(n, costs, listed);
+pub fn cost(side: usize, costs: &[i32], listed: &[u32]) -> Result<i64, Refusal> {
+    let answer = face::cost(side, costs, listed);
     Refusal::read(answer.refusal)?;
     Ok(answer.total)
 }
 
-/// The bytes of the slip of a side.
-pub const fn slip_length(n: usize) -> usize {
-    18 * n + 20
+/// The number of bytes of a side's slip.
+pub const fn slip_length(side: usize) -> usize {
+    18 * side + 20
 }
 
-/// Pairs a sheet and answers its slip.
+/// Pairs a sheet's bytes and answers its slip's.
 ///
 /// ```
 /// let sheet = [7, 0, 0, 0, 4, 0, 0, 0, 1, 0, 1, 0, 0x4D, 0x54, 0x43, 0x48];
@@ -222,7 +236,8 @@ pub fn sheet(sheet: &[u8]) -> Result<Vec<u8>, Refusal> {
     Ok(slip)
 }
 
-/// Pairs a sheet and writes its slip, 18n+20 bytes; later bytes are untouched, and a refusal changes nothing.
+/// Pairs a sheet's bytes and writes its slip's, as many as [`slip_length`] says; later bytes are untouched, and a
+/// refusal changes nothing.
 ///
 /// ```
 /// let sheet = [7, 0, 0, 0, 4, 0, 0, 0, 1, 0, 1, 0, 0x4D, 0x54, 0x43, 0x48];

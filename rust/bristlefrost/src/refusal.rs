@@ -1,69 +1,92 @@
-//! The refusals of document 01 by meaning, with their numbers and places.
+//! The refusals by meaning, with their numbers and places.
 
 use std::fmt;
 
-/// A lent list, by document 01's numbers.
+/// A lent list, by its number.
 #[derive(Clone, Copy, Debug, PartialEq, Eq)]
 pub enum List {
-    /// 1: the column of each row (for `cost`, the only list)
+    /// 1: the column of each row; for [`cost`](crate::cost), the only list.
     Columns,
-    /// 2: the row of each column
+    /// 2: the row of each column.
     Rows,
-    /// 3
+    /// 3: the price of each row.
     RowPrices,
-    /// 4
+    /// 4: the price of each column.
     ColumnPrices,
 }
 
-/// A work room, by document 01's numbers.
+/// A work room, by its number.
 #[derive(Clone, Copy, Debug, PartialEq, Eq)]
 pub enum Room {
-    /// 1: at least 4n indices
+    /// 1: at least 4 * side indices.
     Indices,
-    /// 2: at least n numbers
+    /// 2: at least side numbers.
     Numbers,
 }
 
-/// Why an input was refused. Nothing that was lent has changed.
+/// Why an input was refused, by number. Nothing that was lent has changed. A place of a cost is row * side + column.
 #[derive(Clone, Copy, Debug, PartialEq, Eq)]
 #[non_exhaustive]
 pub enum Refusal {
     /// 1: the side is over 1,024.
     SideOverLimit,
-    /// 2: the costs are not exactly n*n.
+    /// 2: there are not exactly side * side costs.
     CostsNotSquare,
-    /// 3: an output or list is shorter than n, or `cost`'s list is longer; the first such.
+    /// 3: an output or list is shorter than the side, or [`cost`](crate::cost)'s is longer; the first such.
     ListLength(List),
     /// 4: a work room is too short; the first such.
     RoomTooShort(Room),
-    /// 5: a cost lies outside -K..K; the first place i*n+j.
-    CostOutside { place: u64 },
-    /// 6: a listed column is not below n; the first row.
-    ColumnNotBelowSide { row: u64 },
-    /// 7: the column of a row does not name that row back; the first row.
-    NotNamedBack { row: u64 },
-    /// 8: a price lies outside -10K..10K; the first, row i as i and column j as n+j.
-    PriceOutside { place: u64 },
-    /// 9: row price + column price is over the cost; the first place i*n+j.
-    PricesOverCost { place: u64 },
-    /// 10: on a paired place that sum is not the cost; the first row.
-    PricesUnderCost { row: u64 },
+    /// 5: a cost lies outside -1,000,000,000..1,000,000,000.
+    CostOutside {
+        /// The first such cost.
+        place: u64,
+    },
+    /// 6: a listed column is not below the side.
+    ColumnNotBelowSide {
+        /// The first such row.
+        row: u64,
+    },
+    /// 7: the column of a row does not name that row back.
+    NotNamedBack {
+        /// The first such row.
+        row: u64,
+    },
+    /// 8: a price lies outside -10,000,000,000..10,000,000,000.
+    PriceOutside {
+        /// The first such price: a row's number, or side + a column's number.
+        place: u64,
+    },
+    /// 9: row price + column price is over the cost.
+    PricesOverCost {
+        /// The first such cost.
+        place: u64,
+    },
+    /// 10: on a pair that sum is not the cost.
+    PricesUnderCost {
+        /// The first such row.
+        row: u64,
+    },
     /// 11: the sheet has under 12 bytes, or a wrong mark.
     SheetMark,
     /// 12: the sheet's edition is not 1.
     SheetEdition,
     /// 13: the sheet's side is over 64.
     SheetSide,
-    /// 14: the sheet's distance is not 4*n*n.
+    /// 14: the sheet's distance is not 4 * side * side.
     SheetDistance,
     /// 15: the sheet's distance exceeds the bytes before the trailer.
     SheetCutOff,
-    /// 16: the slip's room is under 18n+20 bytes.
+    /// 16: the slip's room is under 18 * side + 20 bytes.
     SlipRoom,
     /// 17: the sheet is over 65,536 bytes.
     SheetTooLong,
-    /// A number that document 01 does not have; no archive made for it answers one.
-    Other { number: u8, place: u64 },
+    /// A number without a meaning, which the archive never answers.
+    Other {
+        /// The number.
+        number: u8,
+        /// The place.
+        place: u64,
+    },
 }
 
 impl Refusal {
@@ -107,7 +130,7 @@ impl Refusal {
         Err(refusal)
     }
 
-    /// Document 01's number.
+    /// The refusal's number, 1 to 17.
     pub fn number(&self) -> u8 {
         match *self {
             Refusal::SideOverLimit => 1,
@@ -131,7 +154,7 @@ impl Refusal {
         }
     }
 
-    /// Document 01's place; 0 where none is named.
+    /// The refusal's place; 0 where none is named.
     pub fn place(&self) -> u64 {
         match *self {
             Refusal::ListLength(list) => list as u64 + 1,
@@ -152,23 +175,23 @@ impl fmt::Display for Refusal {
     fn fmt(&self, out: &mut fmt::Formatter<'_>) -> fmt::Result {
         let meaning = match self {
             Refusal::SideOverLimit => "the side is over 1,024",
-            Refusal::CostsNotSquare => "the costs are not exactly n*n",
+            Refusal::CostsNotSquare => "there are not exactly side * side costs",
             Refusal::ListLength(_) => "a list's length does not fit the side",
             Refusal::RoomTooShort(_) => "a work room is too short",
-            Refusal::CostOutside { .. } => "a cost lies outside -K..K",
-            Refusal::ColumnNotBelowSide { .. } => "a listed column is not below n",
+            Refusal::CostOutside { .. } => "a cost lies outside -1,000,000,000..1,000,000,000",
+            Refusal::ColumnNotBelowSide { .. } => "a listed column is not below the side",
             Refusal::NotNamedBack { .. } => "the column of a row does not name that row back",
-            Refusal::PriceOutside { .. } => "a price lies outside -10K..10K",
+            Refusal::PriceOutside { .. } => "a price lies outside -10,000,000,000..10,000,000,000",
             Refusal::PricesOverCost { .. } => "row price + column price is over the cost",
-            Refusal::PricesUnderCost { .. } => "on a paired place the prices do not meet the cost",
+            Refusal::PricesUnderCost { .. } => "on a pair row price + column price is under the cost",
             Refusal::SheetMark => "the sheet is under 12 bytes or its mark is wrong",
             Refusal::SheetEdition => "the sheet's edition is not 1",
             Refusal::SheetSide => "the sheet's side is over 64",
-            Refusal::SheetDistance => "the sheet's distance is not 4*n*n",
+            Refusal::SheetDistance => "the sheet's distance is not 4 * side * side",
             Refusal::SheetCutOff => "the sheet's distance exceeds the bytes before the trailer",
-            Refusal::SlipRoom => "the slip's room is under 18n+20 bytes",
+            Refusal::SlipRoom => "the slip's room is under 18 * side + 20 bytes",
             Refusal::SheetTooLong => "the sheet is over 65,536 bytes",
-            Refusal::Other { .. } => "a number that document 01 does not have",
+            Refusal::Other { .. } => "a number without a meaning",
         };
         write!(out, "refused {} place {}: {meaning}", self.number(), self.place())
     }

@@ -14,11 +14,8 @@ fn the_header_and_the_archive_agree() {
         .arg(Path::new(env!("BRISTLEFROST_DIRECTORY")).join("libface.a"))
         .args(["-lm", "-o"])
         .arg(&program)
-        .status();
-    let Ok(compiled) = compiled else {
-        println!("the C header was not tried: there is no cc");
-        return;
-    };
+        .status()
+        .expect("cc, which Rust links with too");
     assert!(compiled.success());
     assert_eq!(Command::new(&program).status().unwrap().code(), Some(0));
 }

@@ -1,15 +1,17 @@
-//! Sheets and slips as document 01 lays them out, for whoever makes a sheet or reads a slip. Nothing is paired here.
+//! Sheets and slips, for whoever makes a sheet or reads a slip. Nothing is paired here.
 //!
 //! A sheet is any note, the costs in row order (4 bytes each) and a trailer of 12 bytes that points back to the first
 //! cost. A slip is the columns by row (2 bytes each), row prices and column prices (8 each), the total (8) and such a
 //! trailer. All are little-endian.
+
+#![warn(missing_docs)]
 
 use std::fmt;
 
 /// The largest side on a sheet.
 pub const LARGEST_SIDE: usize = 64;
 
-/// K: costs lie within -K..K; a pair that must not be made costs K.
+/// The largest cost, which stands for a pair that must not be made; the lowest is -BARRED.
 pub const BARRED: i32 = 1_000_000_000;
 
 /// The most bytes of a sheet.
@@ -23,17 +25,40 @@ const EDITION: u16 = 1;
 #[non_exhaustive]
 pub enum Unfit {
     /// A word of the table is no 32-bit number and not `barred`.
-    Word { line: usize, word: String },
+    Word {
+        /// The table's line, from 1.
+        line: usize,
+        /// The word.
+        word: String,
+    },
     /// A line of the table has nothing before, behind or between its commas.
-    EmptyCell { line: usize },
+    EmptyCell {
+        /// The table's line, from 1.
+        line: usize,
+    },
     /// A line of the table has not as many costs as the table has rows.
-    Row { line: usize, costs: usize, side: usize },
-    /// There are not exactly n*n costs.
-    NotSquare { side: usize, costs: usize },
+    Row {
+        /// The table's line, from 1.
+        line: usize,
+        /// How many costs it has.
+        costs: usize,
+        /// How many rows the table has.
+        side: usize,
+    },
+    /// There are not exactly side * side costs.
+    NotSquare {
+        /// The side.
+        side: usize,
+        /// How many costs there are.
+        costs: usize,
+    },
     /// The side is over 64.
     Side(usize),
-    /// A cost lies outside -K..K; the first place i*n+j.
-    Cost { place: usize },
+    /// A cost lies outside -1,000,000,000..1,000,000,000.
+    Cost {
+        /// The first such, row * side + column.
+        place: usize,
+    },
     /// The sheet has over 65,536 bytes, its note included.
     Long,
     /// The bytes are not those of a sheet: what is wrong with them.
@@ -102,7 +127,7 @@ fn untrailed<'a>(
     Ok((body, side))
 }
 
-/// The bytes of n*n costs.
+/// The bytes of a side's costs.
 fn costs_length(side: usize) -> usize {
     4 * side * side
 }
@@ -134,7 +159,7 @@ pub struct Sheet {
 }
 
 impl Sheet {
-    /// A sheet of n*n costs in row order, without a note.
+    /// A sheet of side * side costs in row order, without a note.
     ///
     /// ```
     /// let sheet = paper::Sheet::new(1, &[7])?;
@@ -155,6 +180,7 @@ impl Sheet {
         Ok(Sheet { side, costs: costs.to_vec(), note: Vec::new() })
     }
 
+    /// The number of rows, and of columns.
     pub fn side(&self) -> usize {
         self.side
     }
@@ -234,8 +260,11 @@ impl Sheet {
 pub struct Slip {
     /// The column of each row.
     pub columns: Vec<u16>,
+    /// The price of each row: row price + column price is at most the cost everywhere, and equal to it on each pair.
     pub row_prices: Vec<i64>,
+    /// The price of each column.
     pub column_prices: Vec<i64>,
+    /// The total cost of the pairs.
     pub total: i64,
 }
 

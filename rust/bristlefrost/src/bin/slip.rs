@@ -1,7 +1,9 @@
 //! Slips for people: written from a sheet, and held against one.
 //!
-//!     slip write < SHEET > SLIP    pairs the night of a sheet
-//!     slip audit SHEET SLIP        accepts the slip where it shows the night's least total, without pairing the night
+//! ```text
+//! slip write < SHEET > SLIP    pairs the night of a sheet
+//! slip audit SHEET SLIP        accepts the slip where it shows the night's least total, without pairing the night
+//! ```
 
 use std::error::Error;
 use std::fs;
