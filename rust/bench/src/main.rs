@@ -18,9 +18,7 @@ use std::time::{Duration, Instant};
 
 use bristlefrost::Lent;
 use differential::nights::Random;
-use differential::{command, oracle};
-
-const K: i64 = 1_000_000_000;
+use differential::{command, oracle, K};
 
 /// A kind of matrix: its name, and the cost at (i, j).
 type Kind = (&'static str, fn(&mut Random, usize, usize) -> i64);

@@ -93,25 +93,16 @@ impl Refusal {
     /// Reads the archive's answer, 0 or number + 256*place.
     pub(crate) fn read(code: u64) -> Result<(), Refusal> {
         let (number, place) = ((code % 256) as u8, code / 256);
-        let list = |place| match place {
-            1 => Some(List::Columns),
-            2 => Some(List::Rows),
-            3 => Some(List::RowPrices),
-            4 => Some(List::ColumnPrices),
-            _ => None,
-        };
-        let room = |place| match place {
-            1 => Some(Room::Indices),
-            2 => Some(Room::Numbers),
-            _ => None,
-        };
-        let other = Refusal::Other { number, place };
         let refusal = match (number, place) {
             (0, 0) => return Ok(()),
             (1, 0) => Refusal::SideOverLimit,
             (2, 0) => Refusal::CostsNotSquare,
-            (3, _) => list(place).map_or(other, Refusal::ListLength),
-            (4, _) => room(place).map_or(other, Refusal::RoomTooShort),
+            (3, 1) => Refusal::ListLength(List::Columns),
+            (3, 2) => Refusal::ListLength(List::Rows),
+            (3, 3) => Refusal::ListLength(List::RowPrices),
+            (3, 4) => Refusal::ListLength(List::ColumnPrices),
+            (4, 1) => Refusal::RoomTooShort(Room::Indices),
+            (4, 2) => Refusal::RoomTooShort(Room::Numbers),
             (5, _) => Refusal::CostOutside { place },
             (6, _) => Refusal::ColumnNotBelowSide { row: place },
             (7, _) => Refusal::NotNamedBack { row: place },
@@ -125,7 +116,7 @@ impl Refusal {
             (15, 0) => Refusal::SheetCutOff,
             (16, 0) => Refusal::SlipRoom,
             (17, 0) => Refusal::SheetTooLong,
-            _ => other,
+            _ => Refusal::Other { number, place },
         };
         Err(refusal)
     }

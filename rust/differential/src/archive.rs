@@ -5,6 +5,7 @@ use std::collections::BTreeMap;
 
 use bristlefrost::{face, Lent, Paired, Refusal};
 
+use crate::checks::expect;
 use crate::nights::Random;
 use crate::oracle::Floats;
 use crate::rules::{self, Answer};
@@ -95,13 +96,6 @@ fn behind<T>(random: &mut Random, list: &mut Vec<T>, entry: fn(u64) -> T) {
     for _ in 0..random.below(4) {
         list.push(entry(random.number()));
     }
-}
-
-fn expect<T: PartialEq + std::fmt::Debug>(what: &str, found: &T, right: &T) -> Result<(), String> {
-    if found == right {
-        return Ok(());
-    }
-    Err(format!("{what}: {found:?}, but {right:?} was expected"))
 }
 
 /// The archive's number and total for what the plain reading gives.

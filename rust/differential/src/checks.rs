@@ -17,7 +17,8 @@ pub fn night(n: usize, costs: &[i32]) -> Result<Answer, String> {
     Ok(answer)
 }
 
-fn expect<T: PartialEq + std::fmt::Debug>(what: &str, found: &T, right: &T) -> Result<(), String> {
+/// What was found must be what is right.
+pub fn expect<T: PartialEq + std::fmt::Debug>(what: &str, found: &T, right: &T) -> Result<(), String> {
     if found == right {
         return Ok(());
     }

@@ -7,10 +7,10 @@ pub mod checks;
 pub mod command;
 #[cfg(feature = "archive")]
 pub mod damage;
+pub mod document;
 pub mod listed;
 pub mod nights;
 pub mod oracle;
-pub mod paper;
 pub mod refusals;
 pub mod rules;
 pub mod sheets;

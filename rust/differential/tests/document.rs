@@ -1,6 +1,6 @@
 //! Document 01's nights on paper, by the rules and, where its source is at hand, by the crate.
 
-use differential::paper::{Night, NIGHTS};
+use differential::document::{Night, NIGHTS};
 use differential::rules::Answer;
 use differential::{checks, refusals, rules, sheets};
 

@@ -11,7 +11,7 @@ use std::process::ExitCode;
 
 use differential::listed::{self, words};
 use differential::nights::Random;
-use differential::{checks, paper, refusals, K};
+use differential::{checks, document, refusals, K};
 
 const LIMIT: i32 = K as i32;
 
@@ -142,7 +142,7 @@ impl Replay {
 
 /// Document 01's nights, each with what it needs and with more.
 fn on_paper(replay: &mut Replay) -> Result<(), String> {
-    for night in paper::NIGHTS {
+    for night in document::NIGHTS {
         let n = night.columns.len();
         let rows: Vec<usize> =
             (0..n).filter_map(|j| night.columns.iter().position(|&column| column == j)).collect();

@@ -13,7 +13,7 @@ use std::process::ExitCode;
 use differential::listed::{self, costs_of, words};
 use differential::nights::{Every, Random, FAMILIES};
 use differential::rules::{self, Answer};
-use differential::{checks, oracle, paper};
+use differential::{checks, document, oracle};
 use slipped::{Slip, SLIPS};
 
 /// How the costs of a slip begin that no night tells.
@@ -207,8 +207,8 @@ fn line(slip: Slip, letter: &str, what: &str, n: usize, costs: &[i32]) -> Result
 }
 
 /// Document 01's starred nights that tell a slip, N2 to N8, with their names.
-fn starred() -> impl Iterator<Item = (String, &'static paper::Night)> {
-    paper::NIGHTS.iter().enumerate().skip(2).map(|(number, night)| (format!("N{number}"), night))
+fn starred() -> impl Iterator<Item = (String, &'static document::Night)> {
+    document::NIGHTS.iter().enumerate().skip(2).map(|(number, night)| (format!("N{number}"), night))
 }
 
 /// The slips that a night tells.
@@ -217,7 +217,7 @@ fn all_told(n: usize, costs: &[i32], right: &Answer) -> Vec<&'static str> {
     told.map(|(_, letter, _)| *letter).collect()
 }
 
-fn starred_line(name: &str, night: &paper::Night) -> Result<String, String> {
+fn starred_line(name: &str, night: &document::Night) -> Result<String, String> {
     let (n, costs) = (night.columns.len(), night.costs);
     Ok(format!("| {name} | {} |", all_told(n, costs, &checks::night(n, costs)?).join(" ")))
 }
