@@ -5,6 +5,7 @@
 pub mod archive;
 pub mod checks;
 pub mod command;
+pub mod compared;
 #[cfg(feature = "archive")]
 pub mod damage;
 pub mod document;
