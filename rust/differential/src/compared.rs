@@ -4,6 +4,7 @@
 use crate::archive;
 use crate::checks;
 use crate::nights::Random;
+use crate::refusals::{self, Refused};
 use crate::rules::Answer;
 
 /// What fills the lists that the archive is lent, and what it has answered.
@@ -35,5 +36,27 @@ impl Compared {
         #[cfg(feature = "archive")]
         archive::night(&mut self.random, &mut self.met, n, costs, &answer)?;
         Ok(answer)
+    }
+
+    /// The answer to a night that may have costs outside -K..K, or its refusal by document 01 and the archive.
+    pub fn answered(&mut self, n: usize, costs: &[i32], family: &str) -> Result<Result<Answer, Refused>, String> {
+        let lengths = [n, n, n, n, 4 * n, n].map(|length| length + self.random.below(4));
+        let [lists @ .., indices, numbers] = lengths;
+        match refusals::solver(n, costs, lists, [indices, numbers]) {
+            Ok(()) => self.night(n, costs, family).map(Ok),
+            Err(refused) => {
+                #[cfg(feature = "archive")]
+                self.met.note("solve", archive::solve(&mut self.random, n, costs, lengths, None)?);
+                Ok(Err(refused))
+            }
+        }
+    }
+
+    /// The total that all give to a list of columns.
+    pub fn cost(&mut self, n: usize, costs: &[i32], columns: &[usize]) -> Result<i64, String> {
+        let listed: Vec<u32> = columns.iter().map(|&column| column as u32).collect();
+        #[cfg(feature = "archive")]
+        self.met.note("cost", archive::cost(n, costs, &listed)?);
+        checks::cost(n, costs, &listed)
     }
 }

@@ -15,6 +15,7 @@ pub mod oracle;
 pub mod refusals;
 pub mod rules;
 pub mod sheets;
+pub mod surcharges;
 #[cfg(feature = "archive")]
 pub mod torn;
 

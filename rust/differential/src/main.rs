@@ -6,15 +6,17 @@
 //! S is where the random nights begin (1), N how many of sides to 64 are run (20,000), and L how many of each
 //! of the sides 100, 256, 512, 1,023 and 1,024 (2). Small sides over few values are run in full each time; with
 //! --full side 3 over 0..5 too, ten million nights. The archive is also given N damaged nights and lists, those at
-//! the limits, every small damage to one sheet, and B random sheets (20,000), most of them damaged.
+//! the limits, every small damage to one sheet, and B random sheets (20,000), most of them damaged. Last come nights
+//! with amounts on columns and on rows: small ones in full, N / 8 of sides to 64, and L / 5, rounded up, of each of
+//! the sides 100, 256 and 1,024.
 
 use std::process::ExitCode;
 
 use differential::compared::Compared;
-use differential::nights::{Every, Random, FAMILIES};
+use differential::nights::{self, Every, Random, FAMILIES};
 #[cfg(feature = "archive")]
 use differential::{archive, damage, torn};
-use differential::{command, oracle, K};
+use differential::{command, oracle, surcharges, K};
 
 /// What the command line sets.
 struct Settings {
@@ -54,9 +56,6 @@ fn damaged(compared: &mut Compared, settings: &Settings) -> Result<(), String> {
         torn::one(random, met)?;
     }
     println!("{} random sheets, most of them damaged, seed {seed}: {sides}", settings.sheets);
-    for line in met.lines()? {
-        println!("  {line}");
-    }
     Ok(())
 }
 
@@ -96,7 +95,7 @@ fn random(compared: &mut Compared, settings: &Settings) -> Result<usize, String>
     let mut random = Random::new(settings.seed);
     let count = settings.count as usize;
     for night in 0..count {
-        let n = if night % 2 == 0 { 2 + random.below(7) } else { (night / 2) % 65 };
+        let n = nights::side(&mut random, night);
         let family = &FAMILIES[random.below(FAMILIES.len())];
         compared.night(n, &(family.costs)(&mut random, n), family.name)?;
     }
@@ -134,7 +133,16 @@ fn run() -> Result<(), String> {
     println!("{} small nights in full: {sides}", every(&mut compared, &settings)?);
     println!("{} random nights of sides to 64, seed {seed}: {sides}", random(&mut compared, &settings)?);
     println!("{} random nights of sides 100 to 1024, seed {seed}: {sides}", large(&mut compared, &settings)?);
-    damaged(&mut compared, &settings)
+    damaged(&mut compared, &settings)?;
+    let (count, large) = (settings.count / 8, settings.large.div_ceil(5));
+    for line in surcharges::run(&mut compared, seed, count, large)? {
+        println!("{line}, seed {seed}: {sides}");
+    }
+    #[cfg(feature = "archive")]
+    for line in compared.met.lines()? {
+        println!("  {line}");
+    }
+    Ok(())
 }
 
 fn main() -> ExitCode {
