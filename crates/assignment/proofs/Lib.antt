@@ -3,3 +3,4 @@ pub mod Columns
 pub mod Duality
 pub mod Square
 pub mod Longer
+pub mod Amounts

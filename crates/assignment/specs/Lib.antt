@@ -1,2 +1,3 @@
 pub mod Pairings
 pub mod Prices
+pub mod Amounts

@@ -1,10 +1,11 @@
 -- The flags of tests on integers from the orders, and one order or the other. Assumes nothing.
-use mathlib.Core.Path.{_≡_, refl}
+use mathlib.Core.Path.{_≡_, refl, sym, _∙_}
 use mathlib.Core.Bool.{Bool, true, false}
 use mathlib.Core.Logic.{_⊎_, inl, inr, ⊎-elim}
-use lib.IntN.{ℤ}
+use lib.IntN.{ℤ, _+ℤ_}
 use lib.Signed.{_≤ℤ_, _<ℤ_, leZ, ltZ}
 use Rattle.ints.proofs.Orders.{leZ-false, ltZ-true, ltZ-false}
+use Rattle.ints.proofs.Sums.{sum}
 use Rattle.ints.proofs.Ranges.{zarith}
 
 pub not-false-true : {t : Bool} → (t ≡ false → ⊥) → t ≡ true
@@ -34,3 +35,10 @@ le-or-lt a b = by (leZ a b) refl
 
 pub not-lt-le : {a b : ℤ} → ¬ (a <ℤ b) → b ≤ℤ a
 not-lt-le {a} {b} h = ⊎-elim (λ l. l) (λ l. absurd (h l)) (le-or-lt b a)
+
+-- A number that is added to both sides changes no test.
+pub ltZ-plus : (a b d : ℤ) → ltZ (a +ℤ d) (b +ℤ d) ≡ ltZ a b
+ltZ-plus a b d = ⊎-elim
+    (λ h. le-ltZ (a +ℤ d) (b +ℤ d) (omega (zarith, sum a d, sum b d)) ∙ sym (le-ltZ a b h))
+    (λ h. lt-ltZ (a +ℤ d) (b +ℤ d) (omega (zarith, sum a d, sum b d)) ∙ sym (lt-ltZ a b h))
+    (le-or-lt b a)

@@ -5,3 +5,4 @@ pub mod Pairing
 pub mod Solving
 pub mod Codes
 pub mod Determined
+pub mod Surcharge

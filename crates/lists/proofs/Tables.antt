@@ -5,7 +5,7 @@ use Prim.Native.Nat.{ℕ, zero, suc, _+_, _≤_, _<_}
 use native.Mathlib.Decide.{decLt}
 use native.Mathlib.Numerals.{add-one}
 use native.Mathlib.Omega.{arith}
-use lib.ListN.{length, getD, set, drop, replicate, length-append, length-drop, length-replicate, getD-replicate, List·getD-append}
+use lib.ListN.{length, getD, set, drop, replicate, length-append, length-drop, length-replicate, getD-replicate, List·getD-append, List·getD-eq-default}
 use lib.Seq.{ext-getD, getD-at, set-at, drop-cons, drop-length, append-snoc}
 use Rattle.lists.specs.Permutations.{table}
 
@@ -74,3 +74,10 @@ module _ {A : Type 0} where
   table-constant n x =
       ext-getD x (table n (λ i. x)) (replicate n x) (length-table n (λ i. x) ∙ sym (length-replicate n x))
       (λ i h. let l : i < n = omega (arith, length-table n (λ k. x)) in getD-table n (λ k. x) x i l ∙ sym (getD-replicate n i x x l))
+
+  pub getD-constant : (n : ℕ) (x : A) (i : ℕ) → getD (table n (λ k. x)) i x ≡ x
+  getD-constant n x i = by (decLt i n)
+    where
+      by : Dec (i < n) → getD (table n (λ k. x)) i x ≡ x
+      by (yes l) = getD-table n (λ k. x) x i l
+      by (no l) = List·getD-eq-default (table n (λ k. x)) x {n = i} (omega (arith, length-table n (λ k. x)))

@@ -24,3 +24,7 @@ pub mod Augment
 pub mod Augmentation
 pub mod Stages
 pub mod Run
+pub mod SameSearch
+pub mod Risen
+pub mod StagesInStep
+pub mod Surcharge

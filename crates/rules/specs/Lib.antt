@@ -7,3 +7,4 @@ pub mod Augmentation
 pub mod Run
 pub mod Right
 pub mod Nights
+pub mod Surcharge

@@ -1,4 +1,4 @@
--- The nights on paper: document 01's starred nights N0 to N8, and further nights that tell each slip of the hand from the rule.
+-- The nights on paper: document 01's starred nights N0 to N8, further nights that tell each slip of the hand from the rule, and a surcharge on a row.
 use mathlib.Core.List.{List, [], _∷_, map}
 use Prim.Native.Nat.{ℕ, _*_}
 use lib.IntN.{ℤ, pos, negℤ}
@@ -42,7 +42,14 @@ five a b c d e = record { «free_rows» = a; «looks_one» = b; «looks_two» = 
 abbrev pub line : ℕ → List ℤ → List ℕ → List ℤ → List ℤ → ℤ → Counts → Line
 line n costs cols v rows total counts = record { side = n; costs = costs; cols = cols; v = v; rowPrices = rows; total = total; counts = counts }
 
--- N0 to N8, and then eight nights that between them tell every slip that can be told.
+-- A surcharge on a row: a night whose costs are all 0, and the same with 1 on row 0. The same pairings are least, and another is chosen.
+abbrev pub even : Line
+even = line 2 (nats (0 ∷ 0 ∷ 0 ∷ 0 ∷ [])) (1 ∷ 0 ∷ []) (nats (0 ∷ 0 ∷ [])) (nats (0 ∷ 0 ∷ [])) (pos 0) (five 1 1 0 0 0)
+
+abbrev pub rowDearer : Line
+rowDearer = line 2 (nats (1 ∷ 1 ∷ 0 ∷ 0 ∷ [])) (0 ∷ 1 ∷ []) (nats (0 ∷ 0 ∷ [])) (nats (1 ∷ 0 ∷ [])) (pos 1) (five 1 1 0 0 0)
+
+-- N0 to N8, then eight nights that between them tell every slip that can be told, then the surcharge on a row.
 abbrev pub nights : List Line
 nights =
     -- N0 to N8.
@@ -71,4 +78,6 @@ nights =
     ∷ line 4 (nats (0 ∷ 0 ∷ 0 ∷ 0 ∷ 0 ∷ 1 ∷ 0 ∷ 0 ∷ 0 ∷ 1 ∷ 0 ∷ 0 ∷ 0 ∷ 2 ∷ 0 ∷ 0 ∷ [])) (1 ∷ 0 ∷ 2 ∷ 3 ∷ []) (nats (0 ∷ 0 ∷ 0 ∷ 0 ∷ [])) (nats (0 ∷ 0 ∷ 0 ∷ 0 ∷ [])) (pos 0) (five 3 3 1 1 3)
     -- A column that a scan lowers to the minimum joins the block.
     ∷ line 5 (nats (0 ∷ 1 ∷ 2 ∷ 2 ∷ 1 ∷ 0 ∷ 0 ∷ 0 ∷ 0 ∷ 1 ∷ 0 ∷ 2 ∷ 2 ∷ 2 ∷ 1 ∷ 0 ∷ 1 ∷ 1 ∷ 0 ∷ 0 ∷ 0 ∷ 0 ∷ 0 ∷ 0 ∷ 0 ∷ [])) (1 ∷ 3 ∷ 0 ∷ 4 ∷ 2 ∷ []) (minus 1 ∷ pos 0 ∷ pos 0 ∷ pos 0 ∷ pos 0 ∷ []) (nats (1 ∷ 0 ∷ 1 ∷ 0 ∷ 0 ∷ [])) (pos 1) (five 2 2 1 1 3)
+    ∷ even
+    ∷ rowDearer
     ∷ []

@@ -5,9 +5,8 @@ use std::collections::BTreeMap;
 
 use bristlefrost::{face, Lent, Paired, Refusal};
 
-use crate::checks::expect;
+use crate::checks::{self, expect};
 use crate::nights::Random;
-use crate::oracle::Floats;
 use crate::rules::{self, Answer};
 use crate::{refusals, sheets, K};
 
@@ -253,10 +252,7 @@ pub fn night(random: &mut Random, met: &mut Met, n: usize, costs: &[i32], answer
     met.note("cost", cost(n, costs, &lists.columns[..n])?);
     let listed: Vec<u32> = (0..random.below(n + 1)).map(|_| random.below(n) as u32).collect();
     met.note("cost", cost(n, costs, &listed)?);
-    let columns: Vec<usize> = listed.iter().map(|&column| column as usize).collect();
-    if let Some(total) = Floats::new(n, costs).cost(&columns) {
-        expect("the crate's cost", &Ok(total), &refusals::cost(n, costs, &listed).map(|total| total as f64))?;
-    }
+    checks::cost(n, costs, &listed)?;
 
     if n <= 64 {
         let note: Vec<u8> = (0..random.below(40)).map(|_| random.number() as u8).collect();

@@ -3,7 +3,7 @@
 
 use crate::oracle::Floats;
 use crate::rules::{self, Answer};
-use crate::K;
+use crate::{refusals, K};
 
 /// Solves a night by the rules and tests the answer in every way; says what failed.
 pub fn night(n: usize, costs: &[i32]) -> Result<Answer, String> {
@@ -82,21 +82,49 @@ fn bounds(n: usize, answer: &Answer) -> Result<(), String> {
     hold("each search scans at most n-1 columns", counts.columns_scanned <= counts.rows_left * n.saturating_sub(1))
 }
 
+/// The total over a list of columns by the plain reading, which is the crate's.
+pub fn cost(n: usize, costs: &[i32], listed: &[u32]) -> Result<i64, String> {
+    let total = refusals::cost(n, costs, listed).map_err(|refused| format!("cost refuses: {refused:?}"))?;
+    let columns: Vec<usize> = listed.iter().map(|&column| column as usize).collect();
+    if let Some(sum) = Floats::new(n, costs).cost(&columns) {
+        expect("the crate's cost", &sum, &(total as f64))?;
+    }
+    Ok(total)
+}
+
+/// Takes the columns so far through all pairings that begin with them, in dictionary order, each with its total.
+fn pairings(n: usize, costs: &[i32], columns: &mut Vec<usize>, total: i64, each: &mut impl FnMut(&[usize], i64)) {
+    let i = columns.len();
+    if i == n {
+        return each(columns, total);
+    }
+    for j in 0..n {
+        if !columns.contains(&j) {
+            columns.push(j);
+            pairings(n, costs, columns, total + i64::from(costs[i * n + j]), each);
+            columns.pop();
+        }
+    }
+}
+
 /// The least total over all permutations.
 pub fn least(n: usize, costs: &[i32]) -> i64 {
-    fn from(i: usize, n: usize, costs: &[i32], used: &mut [bool]) -> i64 {
-        if i == n {
-            return 0;
+    let mut least = i64::MAX;
+    pairings(n, costs, &mut Vec::new(), 0, &mut |_, total| least = least.min(total));
+    least
+}
+
+/// All permutations of the least total, in dictionary order.
+pub fn least_pairings(n: usize, costs: &[i32]) -> Vec<Vec<usize>> {
+    let (mut least, mut found) = (i64::MAX, Vec::new());
+    pairings(n, costs, &mut Vec::new(), 0, &mut |columns, total| {
+        if total < least {
+            least = total;
+            found.clear();
         }
-        let mut least = i64::MAX;
-        for j in 0..n {
-            if !used[j] {
-                used[j] = true;
-                least = least.min(costs[i * n + j] as i64 + from(i + 1, n, costs, used));
-                used[j] = false;
-            }
+        if total == least {
+            found.push(columns.to_vec());
         }
-        least
-    }
-    from(0, n, costs, &mut vec![false; n])
+    });
+    found
 }

@@ -1,8 +1,8 @@
-//! Document 01's nights on paper, N0 to N8.
+//! Document 01's nights on paper, N0 to N8, and two nights that differ by an amount on a row.
 
 use crate::K;
 
-/// A night of the document: its costs, and columns, v, row prices, total and counts.
+/// A night: its costs, and columns, v, row prices, total and counts.
 pub struct Night {
     pub costs: &'static [i32],
     pub columns: &'static [usize],
@@ -46,4 +46,10 @@ pub const NIGHTS: [Night; 9] = [
         total: 1,
         counts: [1, 1, 1, 1, 1],
     },
+];
+
+/// A night, and the same with 1 on its first row: the solver chooses another of the least pairings.
+pub const SURCHARGED: [Night; 2] = [
+    Night { costs: &[0; 4], columns: &[1, 0], v: &[0; 2], u: &[0; 2], total: 0, counts: [1, 1, 0, 0, 0] },
+    Night { costs: &[1, 1, 0, 0], columns: &[0, 1], v: &[0; 2], u: &[1, 0], total: 1, counts: [1, 1, 0, 0, 0] },
 ];

@@ -5,6 +5,7 @@
 pub mod archive;
 pub mod checks;
 pub mod command;
+pub mod compared;
 #[cfg(feature = "archive")]
 pub mod damage;
 pub mod document;
@@ -14,6 +15,7 @@ pub mod oracle;
 pub mod refusals;
 pub mod rules;
 pub mod sheets;
+pub mod surcharges;
 #[cfg(feature = "archive")]
 pub mod torn;
 

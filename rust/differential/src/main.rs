@@ -6,15 +6,17 @@
 //! S is where the random nights begin (1), N how many of sides to 64 are run (20,000), and L how many of each
 //! of the sides 100, 256, 512, 1,023 and 1,024 (2). Small sides over few values are run in full each time; with
 //! --full side 3 over 0..5 too, ten million nights. The archive is also given N damaged nights and lists, those at
-//! the limits, every small damage to one sheet, and B random sheets (20,000), most of them damaged.
+//! the limits, every small damage to one sheet, and B random sheets (20,000), most of them damaged. Last come nights
+//! with amounts on columns and on rows: small ones in full, N / 8 of sides to 64, and L / 5, rounded up, of each of
+//! the sides 100, 256 and 1,024.
 
 use std::process::ExitCode;
 
-use differential::nights::{Every, Random, FAMILIES};
-use differential::rules::Answer;
+use differential::compared::Compared;
+use differential::nights::{self, Every, Random, FAMILIES};
 #[cfg(feature = "archive")]
 use differential::{archive, damage, torn};
-use differential::{checks, command, oracle, K};
+use differential::{command, oracle, surcharges, K};
 
 /// What the command line sets.
 struct Settings {
@@ -38,74 +40,33 @@ fn settings() -> Result<Settings, String> {
     Ok(settings)
 }
 
-/// What a run compares beside the crate and the rules.
+/// Damaged inputs for the archive, and those at the limits.
 #[cfg(feature = "archive")]
-struct Archive {
-    random: Random,
-    met: archive::Met,
-}
-
-#[cfg(feature = "archive")]
-impl Archive {
-    fn new(settings: &Settings) -> Self {
-        Archive { random: Random::new(!settings.seed), met: archive::Met::default() }
+fn damaged(compared: &mut Compared, settings: &Settings) -> Result<(), String> {
+    let (seed, sides) = (settings.seed, "the archive and document 01");
+    let Compared { random, met } = compared;
+    archive::limits(random)?;
+    for _ in 0..settings.count {
+        damage::one(random, met)?;
     }
-
-    fn night(&mut self, n: usize, costs: &[i32], answer: &Answer) -> Result<(), String> {
-        archive::night(&mut self.random, &mut self.met, n, costs, answer)
+    println!("{} damaged nights and lists, and the limits, seed {seed}: {sides}", settings.count);
+    let every = torn::every(random, met)?;
+    println!("{every} small damages to one sheet: {sides}");
+    for _ in 0..settings.sheets {
+        torn::one(random, met)?;
     }
-
-    /// Damaged inputs, and those at the limits.
-    fn damaged(&mut self, settings: &Settings) -> Result<(), String> {
-        let (seed, sides) = (settings.seed, "the archive and document 01");
-        archive::limits(&mut self.random)?;
-        for _ in 0..settings.count {
-            damage::one(&mut self.random, &mut self.met)?;
-        }
-        println!("{} damaged nights and lists, and the limits, seed {seed}: {sides}", settings.count);
-        let every = torn::every(&mut self.random, &mut self.met)?;
-        println!("{every} small damages to one sheet: {sides}");
-        for _ in 0..settings.sheets {
-            torn::one(&mut self.random, &mut self.met)?;
-        }
-        println!("{} random sheets, most of them damaged, seed {seed}: {sides}", settings.sheets);
-        for line in self.met.lines()? {
-            println!("  {line}");
-        }
-        Ok(())
-    }
+    println!("{} random sheets, most of them damaged, seed {seed}: {sides}", settings.sheets);
+    Ok(())
 }
 
 #[cfg(not(feature = "archive"))]
-struct Archive;
-
-#[cfg(not(feature = "archive"))]
-impl Archive {
-    fn new(_: &Settings) -> Self {
-        Archive
-    }
-
-    fn night(&mut self, _: usize, _: &[i32], _: &Answer) -> Result<(), String> {
-        Ok(())
-    }
-
-    fn damaged(&mut self, _: &Settings) -> Result<(), String> {
-        println!("the comparison with the archive was not run: this was built without the feature `archive`");
-        Ok(())
-    }
-}
-
-/// Tests one night; a failure names the night in full where it is small.
-fn test(archive: &mut Archive, n: usize, costs: &[i32], family: &str) -> Result<(), String> {
-    let tested = checks::night(n, costs).and_then(|answer| archive.night(n, costs, &answer));
-    tested.map_err(|failure| {
-        let night = if n <= 12 { format!("{costs:?}") } else { String::from("(not shown)") };
-        format!("side {n}, {family}: {failure}\ncosts {night}")
-    })
+fn damaged(_: &mut Compared, _: &Settings) -> Result<(), String> {
+    println!("the comparison with the archive was not run: this was built without the feature `archive`");
+    Ok(())
 }
 
 /// Small sides in full.
-fn every(archive: &mut Archive, settings: &Settings) -> Result<usize, String> {
+fn every(compared: &mut Compared, settings: &Settings) -> Result<usize, String> {
     let k = K as i32;
     let full: [(usize, &[i32]); 9] = [
         (0, &[0]),
@@ -122,7 +83,7 @@ fn every(archive: &mut Archive, settings: &Settings) -> Result<usize, String> {
     let mut nights = 0;
     for (n, values) in full.iter().chain(more).copied() {
         for costs in Every::new(n, values) {
-            test(archive, n, &costs, "in full")?;
+            compared.night(n, &costs, "in full")?;
             nights += 1;
         }
     }
@@ -130,25 +91,25 @@ fn every(archive: &mut Archive, settings: &Settings) -> Result<usize, String> {
 }
 
 /// Random nights of every side to 64, half of them of side 8 or less, over all families.
-fn random(archive: &mut Archive, settings: &Settings) -> Result<usize, String> {
+fn random(compared: &mut Compared, settings: &Settings) -> Result<usize, String> {
     let mut random = Random::new(settings.seed);
     let count = settings.count as usize;
     for night in 0..count {
-        let n = if night % 2 == 0 { 2 + random.below(7) } else { (night / 2) % 65 };
+        let n = nights::side(&mut random, night);
         let family = &FAMILIES[random.below(FAMILIES.len())];
-        test(archive, n, &(family.costs)(&mut random, n), family.name)?;
+        compared.night(n, &(family.costs)(&mut random, n), family.name)?;
     }
     Ok(count)
 }
 
 /// A few nights of each large side.
-fn large(archive: &mut Archive, settings: &Settings) -> Result<usize, String> {
+fn large(compared: &mut Compared, settings: &Settings) -> Result<usize, String> {
     let mut random = Random::new(settings.seed ^ 0x6C_61_72_67_65);
     let mut nights = 0;
     for n in [100, 256, 512, 1023, 1024] {
         for _ in 0..settings.large {
             let family = &FAMILIES[random.below(FAMILIES.len())];
-            test(archive, n, &(family.costs)(&mut random, n), family.name)?;
+            compared.night(n, &(family.costs)(&mut random, n), family.name)?;
             nights += 1;
         }
     }
@@ -168,11 +129,20 @@ fn run() -> Result<(), String> {
         sides.push("the archive");
     }
     let (sides, seed) = (sides.join(", "), settings.seed);
-    let mut archive = Archive::new(&settings);
-    println!("{} small nights in full: {sides}", every(&mut archive, &settings)?);
-    println!("{} random nights of sides to 64, seed {seed}: {sides}", random(&mut archive, &settings)?);
-    println!("{} random nights of sides 100 to 1024, seed {seed}: {sides}", large(&mut archive, &settings)?);
-    archive.damaged(&settings)
+    let mut compared = Compared::new(settings.seed);
+    println!("{} small nights in full: {sides}", every(&mut compared, &settings)?);
+    println!("{} random nights of sides to 64, seed {seed}: {sides}", random(&mut compared, &settings)?);
+    println!("{} random nights of sides 100 to 1024, seed {seed}: {sides}", large(&mut compared, &settings)?);
+    damaged(&mut compared, &settings)?;
+    let (count, large) = (settings.count / 8, settings.large.div_ceil(5));
+    for line in surcharges::run(&mut compared, seed, count, large)? {
+        println!("{line}, seed {seed}: {sides}");
+    }
+    #[cfg(feature = "archive")]
+    for line in compared.met.lines()? {
+        println!("  {line}");
+    }
+    Ok(())
 }
 
 fn main() -> ExitCode {

@@ -182,7 +182,16 @@ pub const FAMILIES: [Family; 26] = [
     Family { name: "powers of two", costs: |r, n| each(n, |_, _| r.pick(&[-1, 1]) * (1 << r.below(30))) },
 ];
 
-/// All nights of a side over a few values, in order.
+/// The side of a random night: every one to 64 in turn, and half of the nights of side 2 to 8.
+pub fn side(random: &mut Random, night: usize) -> usize {
+    if night % 2 == 0 {
+        2 + random.below(7)
+    } else {
+        (night / 2) % 65
+    }
+}
+
+/// All lists of a length over a few values, in order.
 pub struct Every<'a> {
     values: &'a [i32],
     digits: Vec<usize>,
@@ -190,8 +199,13 @@ pub struct Every<'a> {
 }
 
 impl<'a> Every<'a> {
+    /// All nights of a side.
     pub fn new(n: usize, values: &'a [i32]) -> Self {
-        Every { values, digits: vec![0; n * n], done: false }
+        Every::list(n * n, values)
+    }
+
+    pub fn list(length: usize, values: &'a [i32]) -> Self {
+        Every { values, digits: vec![0; length], done: false }
     }
 }
 
@@ -202,7 +216,7 @@ impl Iterator for Every<'_> {
         if self.done {
             return None;
         }
-        let night = self.digits.iter().map(|&digit| self.values[digit]).collect();
+        let list = self.digits.iter().map(|&digit| self.values[digit]).collect();
         self.done = true;
         for digit in self.digits.iter_mut().rev() {
             *digit += 1;
@@ -212,6 +226,6 @@ impl Iterator for Every<'_> {
             }
             *digit = 0;
         }
-        Some(night)
+        Some(list)
     }
 }

@@ -1,12 +1,13 @@
-//! Document 01's nights on paper, by the rules and, where its source is at hand, by the crate.
+//! Document 01's nights on paper and a surcharge on a row, by the rules and, where its source is at hand, by the
+//! crate.
 
-use differential::document::{Night, NIGHTS};
+use differential::document::{Night, NIGHTS, SURCHARGED};
 use differential::rules::Answer;
 use differential::{checks, refusals, rules, sheets};
 
 #[test]
-fn nights_0_to_8() {
-    for night in NIGHTS {
+fn nights_0_to_8_and_a_surcharge() {
+    for night in NIGHTS.into_iter().chain(SURCHARGED) {
         let answer = checks::night(night.columns.len(), night.costs).unwrap();
         assert_eq!(answer.columns, night.columns);
         assert_eq!(answer.column_prices, night.v);
@@ -21,6 +22,17 @@ fn nights_9_and_10() {
     let Night { costs, v, u, .. } = NIGHTS[8];
     assert_eq!(refusals::checker(3, costs, &[1, 0, 2], &[1, 0, 2], u, v), Ok(1));
     assert_eq!(refusals::checker(3, costs, &[0, 1, 2], &[0, 1, 2], u, v), Err((10, 0)));
+}
+
+#[test]
+fn an_amount_on_a_row_leaves_the_least_pairings_and_may_choose_another() {
+    let [without, with] = SURCHARGED;
+    let raised: Vec<i32> = (0..4).map(|place| without.costs[place] + i32::from(place < 2)).collect();
+    assert_eq!(with.costs, raised);
+    assert_ne!(with.columns, without.columns);
+    let least = checks::least_pairings(2, without.costs);
+    assert_eq!(least, [[0, 1], [1, 0]]);
+    assert_eq!(checks::least_pairings(2, with.costs), least);
 }
 
 /// The night of the trials that tells a go-back compared with n.

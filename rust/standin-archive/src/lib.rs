@@ -2,6 +2,7 @@
 //! serves to try the wrapper and the comparison. Its features each do one thing wrong.
 
 use std::slice::{from_raw_parts, from_raw_parts_mut};
+use std::sync::Mutex;
 
 use differential::{refusals, rules, sheets};
 
@@ -16,6 +17,36 @@ pub struct Solved {
 pub struct Total {
     refusal: u64,
     total: i64,
+}
+
+/// The night that was paired last, and its answer.
+static LAST: Mutex<Option<(Vec<i32>, rules::Answer)>> = Mutex::new(None);
+
+/// Whether one column alone differs between two nights of a side, and by the same amount on all rows.
+fn surcharged(n: usize, before: &[i32], costs: &[i32]) -> bool {
+    let amount = |i: usize, j: usize| costs[i * n + j] - before[i * n + j];
+    let mut differing = (0..n).filter(|&j| (0..n).any(|i| amount(i, j) != 0));
+    match (differing.next(), differing.next()) {
+        (Some(j), None) => (1..n).all(|i| amount(i, j) == amount(0, j)),
+        _ => false,
+    }
+}
+
+/// A night's answer. A surcharge is overlooked from side 2 on: the nights of side 1 in full follow one another by
+/// such amounts, and would tell it before any other.
+fn paired(n: usize, costs: &[i32]) -> rules::Answer {
+    if !cfg!(feature = "surcharge-overlooked") || n < 2 {
+        return rules::solve(n, costs);
+    }
+    let mut last = LAST.lock().expect("nothing panics while it is held");
+    match &*last {
+        Some((before, answer)) if before.len() == costs.len() && surcharged(n, before, costs) => answer.clone(),
+        _ => {
+            let answer = rules::solve(n, costs);
+            *last = Some((costs.to_vec(), answer.clone()));
+            answer
+        }
+    }
 }
 
 fn answer(result: Result<i64, refusals::Refused>) -> Total {
@@ -61,7 +92,7 @@ pub unsafe extern "C" fn bristlefrost_solve(
         }
         return Solved { refusal: refusals::code(refused), total: 0, counts: [0; 5] };
     }
-    let night = rules::solve(n, costs);
+    let night = paired(n, costs);
     for k in 0..n {
         cols[k] = night.columns[k] as u32;
         rows[k] = night.rows[k] as u32;

@@ -3,9 +3,9 @@
 //!     frames write LIST FOLDER    writes both files
 //!     frames LIST FOLDER          fails where one of them is not what this program writes
 //!
-//! LIST is the fixed list of the crate's answers. Its nights and document 01's are paired as they say there; for
-//! what else is paired the rules say it, and refusals.rs says what is refused. How a night is laid out in `stdin` is
-//! said in crates/replay/src/main.rt.
+//! LIST is the fixed list of the crate's answers. Its nights and those of document.rs are paired as they say there;
+//! for what else is paired the rules say it, and refusals.rs says what is refused. How a night is laid out in `stdin`
+//! is said in crates/replay/src/main.rt.
 
 use std::process::ExitCode;
 
@@ -140,9 +140,9 @@ impl Replay {
     }
 }
 
-/// Document 01's nights, each with what it needs and with more.
-fn on_paper(replay: &mut Replay) -> Result<(), String> {
-    for night in document::NIGHTS {
+/// Nights on paper, each with what it needs and with more.
+fn on_paper(replay: &mut Replay, nights: &[document::Night], name: &'static str) -> Result<(), String> {
+    for night in nights {
         let n = night.columns.len();
         let rows: Vec<usize> =
             (0..n).filter_map(|j| night.columns.iter().position(|&column| column == j)).collect();
@@ -154,7 +154,7 @@ fn on_paper(replay: &mut Replay) -> Result<(), String> {
             replay.known(&if more == 0 { lent } else { lent.longer(more) }, &line)?;
         }
     }
-    replay.kind("of document 01, N0 to N8");
+    replay.kind(name);
     Ok(())
 }
 
@@ -231,7 +231,8 @@ fn at_the_limit(replay: &mut Replay) -> Result<(), String> {
 fn replay(list: &str) -> Result<Replay, String> {
     let text = std::fs::read_to_string(list).map_err(|failure| format!("{list}: {failure}"))?;
     let mut replay = Replay::default();
-    on_paper(&mut replay)?;
+    on_paper(&mut replay, &document::NIGHTS, "of document 01, N0 to N8")?;
+    on_paper(&mut replay, &document::SURCHARGED, "without and with an amount on a row")?;
     of_list(&mut replay, &text).map_err(|wrong| format!("{list}: {wrong}"))?;
     lacking(&mut replay)?;
     outside(&mut replay)?;

@@ -1,0 +1,62 @@
+//! A night through all that answer it: the crate, the rules and, with the feature `archive`, the archive.
+
+#[cfg(feature = "archive")]
+use crate::archive;
+use crate::checks;
+use crate::nights::Random;
+use crate::refusals::{self, Refused};
+use crate::rules::Answer;
+
+/// What fills the lists that the archive is lent, and what it has answered.
+pub struct Compared {
+    pub random: Random,
+    #[cfg(feature = "archive")]
+    pub met: archive::Met,
+}
+
+impl Compared {
+    pub fn new(seed: u64) -> Self {
+        Compared {
+            random: Random::new(!seed),
+            #[cfg(feature = "archive")]
+            met: archive::Met::default(),
+        }
+    }
+
+    /// The answer that all give to a night; a failure names the night in full where it is small.
+    pub fn night(&mut self, n: usize, costs: &[i32], family: &str) -> Result<Answer, String> {
+        self.tested(n, costs).map_err(|failure| {
+            let night = if n <= 12 { format!("{costs:?}") } else { String::from("(not shown)") };
+            format!("side {n}, {family}: {failure}\ncosts {night}")
+        })
+    }
+
+    fn tested(&mut self, n: usize, costs: &[i32]) -> Result<Answer, String> {
+        let answer = checks::night(n, costs)?;
+        #[cfg(feature = "archive")]
+        archive::night(&mut self.random, &mut self.met, n, costs, &answer)?;
+        Ok(answer)
+    }
+
+    /// The answer to a night that may have costs outside -K..K, or its refusal by document 01 and the archive.
+    pub fn answered(&mut self, n: usize, costs: &[i32], family: &str) -> Result<Result<Answer, Refused>, String> {
+        let lengths = [n, n, n, n, 4 * n, n].map(|length| length + self.random.below(4));
+        let [lists @ .., indices, numbers] = lengths;
+        match refusals::solver(n, costs, lists, [indices, numbers]) {
+            Ok(()) => self.night(n, costs, family).map(Ok),
+            Err(refused) => {
+                #[cfg(feature = "archive")]
+                self.met.note("solve", archive::solve(&mut self.random, n, costs, lengths, None)?);
+                Ok(Err(refused))
+            }
+        }
+    }
+
+    /// The total that all give to a list of columns.
+    pub fn cost(&mut self, n: usize, costs: &[i32], columns: &[usize]) -> Result<i64, String> {
+        let listed: Vec<u32> = columns.iter().map(|&column| column as u32).collect();
+        #[cfg(feature = "archive")]
+        self.met.note("cost", archive::cost(n, costs, &listed)?);
+        checks::cost(n, costs, &listed)
+    }
+}
