@@ -48,27 +48,27 @@ least-same night cost t rises cols = (
 -- ---- an amount on each row
 
 module _ (night : Night) (amount : ℕ → ℤ) (cost : ℕ → ℕ → ℤ) (with-amounts : RowAmounts night amount cost) where
-  pub row-amounts-total : (cols : List ℕ) → Pairing night cols → total (withCosts night cost) cols ≡ total night cols +ℤ sum (night .rows) amount
+  pub row-amounts-total : (cols : List ℕ) → Pairing night cols → total (withCosts night cost) cols ≡ total night cols +ℤ sum (night .rowCount) amount
   row-amounts-total cols p =
-      sum-cong (night .rows) (λ i. cost i (at cols i)) (λ i. night .cost i (at cols i) +ℤ amount i)
+      sum-cong (night .rowCount) (λ i. cost i (at cols i)) (λ i. night .cost i (at cols i) +ℤ amount i)
       (λ i l. with-amounts .added i (at cols i) l (p .inside i l) (p .permitted i l))
-      ∙ sum-add (night .rows) (λ i. night .cost i (at cols i)) amount
+      ∙ sum-add (night .rowCount) (λ i. night .cost i (at cols i)) amount
 
   pub row-amounts-least : (cols : List ℕ) → Least night cols ↔ Least (withCosts night cost) cols
-  row-amounts-least = least-same night cost (sum (night .rows) amount) row-amounts-total
+  row-amounts-least = least-same night cost (sum (night .rowCount) amount) row-amounts-total
 
 -- ---- an amount on each column, of as many as there are rows
 
-module _ (night : Night) (even : night .rows ≡ night .columns) (amount : ℕ → ℤ) (cost : ℕ → ℕ → ℤ) (with-amounts : ColumnAmounts night amount cost) where
-  pub column-amounts-total : (cols : List ℕ) → Pairing night cols → total (withCosts night cost) cols ≡ total night cols +ℤ sum (night .rows) amount
+module _ (night : Night) (even : night .rowCount ≡ night .columnCount) (amount : ℕ → ℤ) (cost : ℕ → ℕ → ℤ) (with-amounts : ColumnAmounts night amount cost) where
+  pub column-amounts-total : (cols : List ℕ) → Pairing night cols → total (withCosts night cost) cols ≡ total night cols +ℤ sum (night .rowCount) amount
   column-amounts-total cols p =
-      sum-cong (night .rows) (λ i. cost i (at cols i)) (λ i. night .cost i (at cols i) +ℤ amount (at cols i))
+      sum-cong (night .rowCount) (λ i. cost i (at cols i)) (λ i. night .cost i (at cols i) +ℤ amount (at cols i))
       (λ i l. with-amounts .added i (at cols i) l (p .inside i l) (p .permitted i l))
-      ∙ sum-add (night .rows) (λ i. night .cost i (at cols i)) (λ i. amount (at cols i))
-      ∙ ap (λ (z : ℤ). total night cols +ℤ z) (sum-permuted amount (subst (λ (n : ℕ). Injective (night .rows) n (at cols)) (sym even) (pairing-injective night cols p)))
+      ∙ sum-add (night .rowCount) (λ i. night .cost i (at cols i)) (λ i. amount (at cols i))
+      ∙ ap (λ (z : ℤ). total night cols +ℤ z) (sum-permuted amount (subst (λ (n : ℕ). Injective (night .rowCount) n (at cols)) (sym even) (pairing-injective night cols p)))
 
   pub column-amounts-least : (cols : List ℕ) → Least night cols ↔ Least (withCosts night cost) cols
-  column-amounts-least = least-same night cost (sum (night .rows) amount) column-amounts-total
+  column-amounts-least = least-same night cost (sum (night .rowCount) amount) column-amounts-total
 
 -- ---- prices with the amounts added
 
@@ -115,10 +115,10 @@ module _ (c : ℕ) (a : ℤ) where
           ∙ sym (getD-set-other v c j (price v c +ℤ a) (pos 0) d)
 
 -- A surcharge on one row: every pairing costs the amount more.
-pub row-surcharge-total : (night : Night) (r : ℕ) → r < night .rows → (a : ℤ) (cost : ℕ → ℕ → ℤ) → RowAmounts night (only r a) cost
+pub row-surcharge-total : (night : Night) (r : ℕ) → r < night .rowCount → (a : ℤ) (cost : ℕ → ℕ → ℤ) → RowAmounts night (only r a) cost
     → (cols : List ℕ) → Pairing night cols → total (withCosts night cost) cols ≡ total night cols +ℤ a
 row-surcharge-total night r l a cost with-amounts cols p =
-    row-amounts-total night (only r a) cost with-amounts cols p ∙ ap (λ (z : ℤ). total night cols +ℤ z) (sum-only r a (night .rows) l)
+    row-amounts-total night (only r a) cost with-amounts cols p ∙ ap (λ (z : ℤ). total night cols +ℤ z) (sum-only r a (night .rowCount) l)
 
 -- ---- every square night has one with the amounts
 

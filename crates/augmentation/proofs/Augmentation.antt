@@ -16,16 +16,17 @@ use Rattle.lists.proofs.Injections.{reached}
 use Rattle.lists.proofs.Parts.{part-at}
 use Rattle.assignment.specs.Pairings.{price, square}
 use Rattle.matrix.specs.Limits.{side, near}
-use Rattle.matrix.proofs.Limits.{side-small}
+use Rattle.matrix.proofs.SmallLimits.{side-small}
 use Rattle.rules.specs.declared.Reached.{Reached}
 use Rattle.rules.specs.Columns.{Pairs}
 use Rattle.rules.specs.Search.{Found}
-use Rattle.rules.specs.Augmentation.{flips, flipped, State, augment, augments, augmentation}
+use Rattle.rules.specs.Augmentation.{flips, flipped, Progress, augment, augments, augmentation}
+use Rattle.rules.specs.Asked.{Can}
 use Rattle.rules.proofs.Pairs.{free-column}
 use Rattle.rules.proofs.Scan.{place}
 use Rattle.rules.proofs.Search.{Ended}
 use Rattle.rules.proofs.Flips.{flips-left}
-use Rattle.rules.proofs.Augment.{Can, one, floorOf, found-good, Tree, rank, rooted, flipping, column-below}
+use Rattle.rules.proofs.Augment.{one, floorOf, found-good, Tree, rank, rooted, flipping, column-below}
 use Rattle.augmentation.specs.Room.{freesIn, predecessorsIn, marksIn}
 use Rattle.augmentation.specs.Search.{CanSearch, Searched, foundFrom}
 use Rattle.augmentation.specs.Augmentation.{pairsOf, openAt, CanFlip, stateOf, CanTurn, CanAugment, Augmented}
@@ -39,7 +40,7 @@ module _ (n : ℕ) (costs : List ℤ) (small : n ≤ side) (size : length costs 
   abbrev cost : ℕ → ℕ → ℤ
   cost = square n costs .cost
 
-  abbrev x : State
+  abbrev x : Progress
   x = stateOf cols rows v scanned
 
   C : Can n cost x s
@@ -162,7 +163,7 @@ module _ {n : ℕ} {costs : List ℤ} {count : ℕ} {cols₀ rows₀ : List ℕ}
     pub turn : CanTurn n costs (stateOf cols rows v scanned) (getD room k 0)
     turn =
         subst (CanTurn n costs (stateOf cols rows v scanned)) (sym start-is)
-        (subst (λ (y : State). CanTurn n costs y (at (freesIn n room₀) k)) (sym (A .same)) (A .can .turn k l))
+        (subst (λ (y : Progress). CanTurn n costs y (at (freesIn n room₀) k)) (sym (A .same)) (A .can .turn k l))
 
     abbrev g : Found
     g = foundFrom n costs rows (getD room k 0) v

@@ -1,12 +1,14 @@
 -- The turns of the loops over a block: a column restarts the block, joins it or is passed by; and a column of a fresh block is free or
 -- taken. Assumes nothing.
 use mathlib.Core.Path.{_≡_, sym, ap, _∙_}
-use mathlib.Core.Bool.{true, false}
+use mathlib.Core.Bool.{true, false, cond}
 use mathlib.Core.List.{List}
 use Prim.Native.Nat.{ℕ, _+_, _≤_, _<_}
 use native.Mathlib.Numerals.{add-one}
+use native.Mathlib.Decide.{decLe}
 use native.Mathlib.Omega.{arith}
-use borrow.Author.Tests.{lt-ltb, le-ltb}
+use borrow.Author.Tests.{lt-ltb, le-ltb, le-leb, lt-leb}
+use lib.Dec.{leb}
 use lib.IntN.{ℤ}
 use lib.Signed.{ltZ, leZ}
 use Rattle.ints.proofs.Shapes.{zlin}
@@ -15,6 +17,7 @@ use Rattle.lists.proofs.Runs.{upward-none, upward-last}
 use Rattle.lists.specs.Permutations.{at, exchange, Permutation}
 use Rattle.lists.proofs.Permutations.{exchange-permutation}
 use Rattle.assignment.specs.Pairings.{price}
+use Rattle.rules.specs.declared.LastFree.{LastFree}
 use Rattle.rules.specs.declared.LastFree.the-variants.{NoneYet, At}
 use Rattle.rules.specs.Block.{Block, blockStep, blockStart, block}
 use Rattle.rules.specs.Search.{lastFree}
@@ -22,7 +25,7 @@ use Rattle.rules.specs.Search.{lastFree}
 abbrev blockOf : ℕ → ℤ → List ℕ → Block
 blockOf hi minimum list = record { hi = hi; minimum = minimum; list = list }
 
--- The places from lo up to k have been looked at.
+-- The places from lo up to k have been passed.
 pub record Blocked (n lo : ℕ) (d : List ℤ) (list₀ list : List ℕ) (hi : ℕ) (minimum : ℤ) (k : ℕ) : Type 0 where
   pub past : lo < k
   pub within : k ≤ n
@@ -98,11 +101,12 @@ module _ (n : ℕ) (row : ℕ → ℕ) (list : List ℕ) (lo : ℕ) where
   unfolding lastFree
   last-none = sym (upward-none lo lo _ NoneYet (omega arith))
 
-  module _ (k : ℕ) (l : lo ≤ k) where
-    pub last-free : n ≤ row (at list k) → At (at list k) ≡ lastFree n row list lo (k + 1)
-    unfolding lastFree
-    last-free h = sym (rw (add-one k, upward-last lo k, le-ltb (row (at list k)) n h))
-
-    pub last-taken : row (at list k) < n → lastFree n row list lo k ≡ lastFree n row list lo (k + 1)
-    unfolding lastFree
-    last-taken h = sym (rw (add-one k, upward-last lo k, lt-ltb (row (at list k)) n h))
+  -- One place more: its column where that is free, and else what was found before.
+  pub last-more : (k : ℕ) (found : LastFree) → lo ≤ k → found ≡ lastFree n row list lo k
+      → cond (leb n (row (at list k))) (At (at list k)) found ≡ lastFree n row list lo (k + 1)
+  unfolding lastFree
+  last-more k found l e = elim (decLe n (row (at list k))) [
+    | yes h ↦ sym (rw (add-one k, upward-last lo k, le-ltb (row (at list k)) n h, le-leb n (row (at list k)) h))
+    | no h ↦ let t : row (at list k) < n = omega arith in
+        sym (rw (add-one k, upward-last lo k, lt-ltb (row (at list k)) n t, lt-leb n (row (at list k)) t) (sym e))
+  ]

@@ -10,7 +10,7 @@ use Rattle.assignment.specs.Pairings.{price, square}
 use Rattle.rules.specs.Lowest.{reduced, lowest}
 use Rattle.rules.specs.Search.{Work, workOf, Found, found, searchBlocks, search, foundAt, newPrices}
 use Rattle.rules.proofs.Scan.{Sound}
-use Rattle.rules.proofs.Search.{Good, search-left, search-ok}
+use Rattle.rules.proofs.Search.{Good, search-left, search-good}
 use Rattle.rules.proofs.Augment.{floor-under}
 use Rattle.augmentation.specs.Room.{listIn, predecessorsIn, roomWith}
 use Rattle.augmentation.specs.Search.{CanSearch, CanChange, Started, Searched, readyAt}
@@ -47,7 +47,7 @@ module _ (n : ℕ) (costs : List ℤ) (rows : List ℕ) (start : ℕ) (v : List 
       good : Good n cost (price v) (at rows) start floor f
       good =
           subst (Good n cost (price v) (at rows) start floor) (sym found-is)
-          (search-ok n cost (price v) (at rows) start floor (C .fair) (C .has-free .column) (C .has-free .below) (C .has-free .free)
+          (search-good n cost (price v) (at rows) start floor (C .fair) (C .has-free .column) (C .has-free .below) (C .has-free .free)
           (floor-under n cost (price v) start (one n costs rows start v C)))
 
       S : Sound n cost (price v) (at rows) start floor (f .work)

@@ -23,7 +23,7 @@ use Rattle.augmentation.specs.Room.{roomWith}
 use Rattle.augmentation.specs.Scan.{workIn, Seen, seenIn, seen}
 use Rattle.augmentation.specs.Search.{CanSearch}
 
--- ---- what the look of one row leaves, taken apart
+-- ---- what one row leaves, taken apart
 
 as-work : (w : Work) {hi : ℕ} {list : List ℕ} {distances : List ℤ} {predecessors : List ℕ} {scanned : ℕ} → hi ≡ w .hi → list ≡ w .list → distances ≡ w .distances
     → predecessors ≡ w .predecessors → scanned ≡ w .scanned → w ≡ workOf hi list distances predecessors scanned

@@ -19,7 +19,7 @@ use Rattle.matrix.specs.Limits.{near}
 use Rattle.rules.specs.declared.ScanEnd.{ScanEnd}
 use Rattle.rules.specs.Search.{scanRow, scanColumn}
 use Rattle.augmentation.specs.Room.{listIn}
-use Rattle.augmentation.specs.Scan.{workIn, seen, Looked, Scanned}
+use Rattle.augmentation.specs.Scan.{workIn, seen, ColumnsLowered, Scanned}
 
 -- Row i of n * n costs in row order.
 abbrev pub rowOf : ℕ → List ℤ → ℕ → List ℤ
@@ -41,8 +41,8 @@ column-at n room k l = sym (part-at n n room k 0 l)
 module _ (n : ℕ) (costs v : List ℤ) (rows : List ℕ) (lo hi : ℕ) (d₀ : List ℤ) (room₀ : List ℕ) (j i : ℕ) (row : List ℤ) (minimum h : ℤ)
     (column : j ≡ at (listIn n room₀) lo) (below : j < n) (row-of : i ≡ at rows j) (row-is : row ≡ rowOf n costs i) (least : minimum ≡ price d₀ j)
     (spare : h ≡ (price row j -ℤ price v j) -ℤ minimum) where
-  -- The look of the row of the column at place lo is the scan of that column.
-  pub scanned : {r : ScanEnd} {d : List ℤ} {room : List ℕ} → Looked n i row v rows h minimum hi d₀ room₀ r d room → Scanned n costs v rows lo hi d₀ room₀ r d room
+  -- What the row of the column at place lo leaves is the scan of that column.
+  pub scanned : {r : ScanEnd} {d : List ℤ} {room : List ℕ} → ColumnsLowered n i row v rows h minimum hi d₀ room₀ r d room → Scanned n costs v rows lo hi d₀ room₀ r d room
   scanned {r} {d} {room} L = record { same = λ m. L .same cost agrees (m + 1) ∙ ap seen (as-row m); frame = L .frame }
     where
       cost : ℕ → ℕ → ℤ

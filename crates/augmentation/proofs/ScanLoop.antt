@@ -13,13 +13,13 @@ use lib.ListN.{length}
 use Rattle.lists.specs.Runs.{Turn, on, left, andThen}
 use Rattle.lists.specs.Permutations.{at, Permutation}
 use Rattle.lists.proofs.Leaving.{until-keeps, Either, goes-on, is-left}
+use Rattle.lists.proofs.Cases.{cond-cases}
 use Rattle.assignment.specs.Pairings.{price, square}
 use Rattle.rules.specs.declared.ScanEnd.{ScanEnd}
 use Rattle.rules.specs.Lowest.{reduced, lowest}
 use Rattle.rules.specs.Search.{same, reachBy, join, countOne, afterLowering, scanColumn, Work, workOf, Hit, Found, scanRow, scan, searchBlocks}
-use Rattle.rules.proofs.Cases.{cond-cases}
 use Rattle.rules.proofs.Scan.{Sound}
-use Rattle.rules.proofs.Scans.{Counted, LeftAt, scanRow-ok}
+use Rattle.rules.proofs.Scans.{Counted, LeftAt, scanRow-counted-or-left}
 use Rattle.rules.proofs.Turns.{scan-more, scan-done}
 use Rattle.rules.specs.declared.ScanEnd.the-variants as ends
 use Rattle.augmentation.specs.Room.{listIn, predecessorsIn, roomWith}
@@ -30,7 +30,7 @@ use Rattle.augmentation.proofs.Loops.{distances-near, seen-on, seen-hit
 
 -- ---- a block only grows while it is scanned
 
--- A look goes on with no smaller block.
+-- One row goes on with no smaller block.
 abbrev Grown : ℕ → Turn Work Hit → Type 0
 Grown hi t = Either (λ (x : Work). hi ≤ x .hi) (λ (h : Hit). h .column ≡ h .column) t
 
@@ -126,7 +126,7 @@ module _ (n : ℕ) (costs : List ℤ) (rows : List ℕ) (start : ℕ) (v : List 
         same-row = R .same m ∙ ap (λ (x : Work). seen (scanRow n cost (price v) (at rows) lo x)) work-is
 
         kept : Either (Counted n cost (price v) (at rows) start floor lo₁ (M .minimum) (suc lo)) (LeftAt n cost (price v) (at rows) start floor lo₁ (M .minimum)) (scanRow n cost (price v) (at rows) lo w)
-        kept = scanRow-ok n cost (price v) (at rows) start floor (C .fair) lo₁ (M .minimum) lo w (M .counted) (lo-in .0)
+        kept = scanRow-counted-or-left n cost (price v) (at rows) start floor (C .fair) lo₁ (M .minimum) lo w (M .counted) (lo-in .0)
 
       -- The scan goes on, with the block's end e.
       pub scan-on : {r : ScanEnd} {d′ : List ℤ} {room′ : List ℕ} (e : ℕ) → r ≡ ends.On e → Scanned n costs v rows lo hi d room r d′ room′

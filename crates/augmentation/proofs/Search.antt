@@ -14,9 +14,9 @@ use Rattle.rules.specs.declared.LastFree.the-variants.{NoneYet, At}
 use Rattle.rules.specs.Lowest.{reduced, lowest}
 use Rattle.rules.specs.Block.{Block, block}
 use Rattle.rules.specs.Search.{Work, workOf, Hit, Found, scan, lastFree, freshBlock, afterScan, afterBlock, searchBlock, searchBlocks}
-use Rattle.rules.proofs.FreeColumns.{Sought, lastFree-ok}
-use Rattle.rules.proofs.Block.{IsBlock, block-ok}
-use Rattle.rules.proofs.Search.{Head, to-scan, head-open, searchBlock-ok, start-head}
+use Rattle.rules.proofs.FreeColumns.{Sought, lastFree-sought}
+use Rattle.rules.proofs.Block.{IsBlock, block-of-minima}
+use Rattle.rules.proofs.Search.{Head, to-scan, head-open, searchBlock-grows-or-ends, start-head}
 use Rattle.rules.proofs.Turns.{blocks-first}
 use Rattle.rules.proofs.Augment.{floor-under}
 use Rattle.augmentation.specs.Room.{listIn, predecessorsIn, roomWith}
@@ -89,7 +89,7 @@ module _ (n : ℕ) (costs : List ℤ) (rows : List ℕ) (start : ℕ) (v : List 
       lent-listed = subst (Permutation n) (sym lent-is) (B .head .sound .permutation)
 
       is-block : IsBlock n d lo (B .list) n b
-      is-block = block-ok n d lo (B .list) (B .head .sound .permutation) lo-below
+      is-block = block-of-minima n d lo (B .list) (B .head .sound .permutation) lo-below
 
       -- The list came back with its block.
       module _ (list′ : List ℕ) (hi : ℕ) (hi-is : hi ≡ block n d lo (take (n + n - n) (drop n room)) .hi)
@@ -170,7 +170,7 @@ module _ (n : ℕ) (costs : List ℤ) (rows : List ℕ) (start : ℕ) (v : List 
         -- No column of the block is free.
         module _ (none : NoneYet ≡ lastFree n (at rows) (take (n + n - n) (drop n room′)) lo hi) where
           all-taken : (t : ℕ) → lo ≤ t → t < b .hi → at rows (at (b .list) t) < n
-          all-taken = subst (Sought n (at rows) (b .list) lo (b .hi)) (sym (sought NoneYet none)) (lastFree-ok n (at rows) (b .list) lo (b .hi) (omega (arith, is-block .order)))
+          all-taken = subst (Sought n (at rows) (b .list) lo (b .hi)) (sym (sought NoneYet none)) (lastFree-sought n (at rows) (b .list) lo (b .hi) (omega (arith, is-block .order)))
 
           -- The scan's work is the fresh block's.
           work-is : workIn n hi d room′ m ≡ freshBlock n lo w
@@ -204,7 +204,7 @@ module _ (n : ℕ) (costs : List ℤ) (rows : List ℕ) (start : ℕ) (v : List 
           next-between {d″} {room″} {lo″} {hi″} {m″} M e =
               let x : Work = workOf hi″ (M .list) d″ (M .predecessors) m″ in
               let t : searchBlock n cost (price v) (at rows) w ≡ on x = scan-to (on x) (scan-over n costs rows start v C M e) in
-              let H = either-on (rw t at (searchBlock-ok n cost (price v) (at rows) start floor (C .fair) (C .has-free .column) (C .has-free .below) (C .has-free .free) w (B .head))) in (
+              let H = either-on (rw t at (searchBlock-grows-or-ends n cost (price v) (at rows) start floor (C .fair) (C .has-free .column) (C .has-free .below) (C .has-free .free) w (B .head))) in (
                 record {
                   room-size = B .room-size;
                   list = M .list;

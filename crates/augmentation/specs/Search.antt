@@ -9,8 +9,8 @@ use Rattle.lists.specs.Permutations.{at, Permutation}
 use Rattle.assignment.specs.Pairings.{price, square}
 use Rattle.matrix.specs.Limits.{side, near}
 use Rattle.rules.specs.declared.Reached.{Reached}
-use Rattle.rules.proofs.Prices.{Fair}
 use Rattle.rules.specs.Search.{Found, searchStart, search, newPrices, workOf}
+use Rattle.rules.specs.Asked.{Fair}
 use Rattle.augmentation.specs.Room.{listIn, predecessorsIn, roomWith}
 use Rattle.augmentation.specs.Scan.{Lent, workIn}
 

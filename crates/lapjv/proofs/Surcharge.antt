@@ -16,7 +16,7 @@ use Rattle.assignment.specs.Amounts.{ColumnAmounts, RowAmounts}
 use Rattle.assignment.proofs.Amounts.{withAmounts, column-amounts-made}
 use Rattle.matrix.specs.Limits.{side, K}
 use Rattle.rules.specs.Columns.{free}
-use Rattle.rules.specs.Run.{Answer, run}
+use Rattle.rules.specs.Run.{Result, run}
 use Rattle.rules.specs.Surcharge.{surcharged}
 use Rattle.rules.proofs.Surcharge.{run-right-bounded, run-surcharge, run-row-surcharge}
 use Rattle.lapjv.specs.Solve.{Lent, lentOf, Outcome, paired, solve}
@@ -27,7 +27,7 @@ use Rattle.lapjv.proofs.Ready.{side-free}
 
 -- ---- amounts on the columns
 
-paired-surcharged : (n : ℕ) (lent : Lent) (amount : ℕ → ℤ) (a : Answer) → length (a .columnPrices) ≡ n
+paired-surcharged : (n : ℕ) (lent : Lent) (amount : ℕ → ℤ) (a : Result) → length (a .columnPrices) ≡ n
     → paired n lent (surcharged n amount a) ≡ surchargedOutcome n amount (paired n lent a)
 paired-surcharged n lent amount a size =
     let v = a .columnPrices in

@@ -4,7 +4,7 @@ use mathlib.Core.List.{List, _++_}
 use Prim.Native.Nat.{ℕ, _+_, _≤_}
 use native.Mathlib.Omega.{arith}
 use lib.ListN.{length, length-append}
-use Rattle.sheet.proofs.Stores.{stored-then}
+use Rattle.layout.proofs.Stores.{stored-then}
 use Rattle.lines.specs.Put.{Put}
 
 module _ (p q : List ℕ) {l m r : List ℕ} {i j k : ℕ} where

@@ -12,8 +12,8 @@ use Rattle.assignment.specs.Pairings.{square, price}
 use Rattle.rules.specs.declared.Low.{Low}
 use Rattle.rules.specs.declared.TwoLowest.{TwoLowest}
 use Rattle.rules.specs.declared.TwoLowest.the-variants.{One, Two}
-use Rattle.rules.specs.declared.Least.{Least}
-use Rattle.rules.specs.declared.Least.the-variants.{NoneYet, Of}
+use Rattle.rules.specs.declared.LeastSoFar.{LeastSoFar}
+use Rattle.rules.specs.declared.LeastSoFar.the-variants.{NoneYet, Of}
 use Rattle.rules.specs.Lowest.{reduced, twoLowest, leastBut}
 use Rattle.rules.proofs.Lowest.{RightTwo, twoLowest-is, RightBut, leastBut-is}
 use Rattle.matrix.specs.Limits.{near}
@@ -38,7 +38,7 @@ module _ (n : ℕ) (costs v : List ℤ) (s : Square n costs) (prices : Near n v)
     twoLowest-near =
         two-near (twoLowest n (reduced (square n costs .cost) (price v) i)) (omega arith) (twoLowest-is n (reduced (square n costs .cost) (price v) i) (omega arith))
 
-    least-near : (j : ℕ) (o : Least) → RightBut (reduced (square n costs .cost) (price v) i) j n o → NearLeast o
+    least-near : (j : ℕ) (o : LeastSoFar) → RightBut (reduced (square n costs .cost) (price v) i) j n o → NearLeast o
     least-near j NoneYet r = tt
     least-near j (Of b) r = reduced-near i (r .one .0) b li (r .one .1) (r .one .3)
 

@@ -9,7 +9,7 @@ use Rattle.lists.specs.Parts.{part}
 use Rattle.assignment.specs.Pairings.{square, price}
 use Rattle.rules.specs.Lowest.{reduced, twoLowest, leastBut}
 use Rattle.rules.proofs.Lowest.{twoLowest-cong, leastBut-cong}
-use Rattle.matrix.proofs.Rows as parts
+use Rattle.matrix.proofs.RowParts as parts
 
 module _ (n i : ℕ) (costs row : List ℤ) (inside : i < n) (size : length costs ≡ n * n) (is : row ≡ part (i * n) n costs) where
   pub row-length : length row ≡ n

@@ -22,7 +22,7 @@ fn below(row: &[i32], v: &[i64], j: usize, bound: i64) -> bool
     requires { ⌜ (length (now v) ≡ length (now row)) × Near (length (now row)) (now v) × (j < length (now row)) ⌝ }
     ensures { λ r. ⌜ r ≡ ltZ (price (now (row .entry)) j -ℤ price (now (v .entry)) j) bound ⌝ }
 {
-    matrix::reduced_cost(row[j], v[j]) < bound
+    matrix::rows::reduced_cost(row[j], v[j]) < bound
 }
 
 // The first column from `from` on whose reduced cost is below a bound; the length where there is none. Four columns a turn while there are four.
@@ -86,21 +86,21 @@ pub fn find_umins_plain(row: &[i32], v: &[i64]) -> TwoLowest
     ensures { λ r. ⌜ r ≡ twoLowest (length (now (row .entry))) (λ j. price (now (row .entry)) j -ℤ price (now (v .entry)) j) ⌝ }
 {
     let first = Low {
-        value: matrix::reduced_cost(row[0], v[0]),
+        value: matrix::rows::reduced_cost(row[0], v[0]),
         place: 0,
     };
     if row.len() == 1 {
         return TwoLowest::One(first);
     }
     let next = Low {
-        value: matrix::reduced_cost(row[1], v[1]),
+        value: matrix::rows::reduced_cost(row[1], v[1]),
         place: 1,
     };
     let mut two = beside(first, next);
     let mut j = next_below(row, v, 2, bound(two));
     while j < row.len() {
         let h = Low {
-            value: matrix::reduced_cost(row[j], v[j]),
+            value: matrix::rows::reduced_cost(row[j], v[j]),
             place: j,
         };
         let lowest = two.lowest;

@@ -16,12 +16,12 @@ use Rattle.assignment.specs.Pairings.{price}
 use Rattle.rules.specs.Lowest.{reduced, lowest}
 use Rattle.rules.specs.Columns.{Pairs}
 use Rattle.rules.specs.Search.{Work, Found, search, newPrices}
-use Rattle.rules.specs.Augmentation.{State, augment}
+use Rattle.rules.specs.Augmentation.{Progress, augment}
+use Rattle.rules.specs.Asked.{AtMinimum, Fair, Paired, Unpaired, Agree, Can}
 use Rattle.rules.proofs.Lowest.{lowest-is}
-use Rattle.rules.proofs.Prices.{AtMinimum, Fair}
-use Rattle.rules.proofs.Pairs.{Paired, Unpaired, Agree, free-column}
+use Rattle.rules.proofs.Pairs.{free-column}
 use Rattle.rules.proofs.Scan.{place, far, FromColumn, Sound}
-use Rattle.rules.proofs.Search.{Ended, Good, search-ok}
+use Rattle.rules.proofs.Search.{Ended, Good, search-good}
 use Rattle.rules.proofs.PriceChange.{new-size, new-fair, new-falls, free-same, leads-minimum}
 use Rattle.rules.proofs.Flips.{Before, Rooted, Flipping, Whole, flips-whole, free-open}
 
@@ -93,7 +93,7 @@ module _ (n : ℕ) (cost : ℕ → ℕ → ℤ) (v : ℕ → ℤ) (p : Pairs) (s
 -- ---- one row more
 
 -- What a search from row s, its price change and its flips make of a state.
-pub record Gain (n : ℕ) (cost : ℕ → ℕ → ℤ) (x : State) (s : ℕ) (y : State) : Type 0 where
+pub record Gain (n : ℕ) (cost : ℕ → ℕ → ℤ) (x : Progress) (s : ℕ) (y : Progress) : Type 0 where
   pub agree : Agree n (y .pairs)
   pub prices-size : length (y .prices) ≡ n
   pub fair : Fair n cost (price (y .prices)) (at (y .pairs .rows))
@@ -105,15 +105,7 @@ pub record Gain (n : ℕ) (cost : ℕ → ℕ → ℤ) (x : State) (s : ℕ) (y 
   pub free-untouched : (k : ℕ) → k < n → n ≤ at (y .pairs .rows) k → (n ≤ at (x .pairs .rows) k) × (price (y .prices) k ≡ price (x .prices) k)
   pub scanned-few : y .scanned ≤ x .scanned + (n - 1)
 
--- A state from which row s can get a column.
-pub record Can (n : ℕ) (cost : ℕ → ℕ → ℤ) (x : State) (s : ℕ) : Type 0 where
-  pub agree : Agree n (x .pairs)
-  pub prices-size : length (x .prices) ≡ n
-  pub fair : Fair n cost (price (x .prices)) (at (x .pairs .rows))
-  pub start-below : s < n
-  pub start-unpaired : Unpaired n (x .pairs) s
-
-module _ (n : ℕ) (cost : ℕ → ℕ → ℤ) (x : State) (s : ℕ) (C : Can n cost x s) where
+module _ (n : ℕ) (cost : ℕ → ℕ → ℤ) (x : Progress) (s : ℕ) (C : Can n cost x s) where
   abbrev v : ℕ → ℤ
   v = price (x .prices)
 
@@ -127,7 +119,7 @@ module _ (n : ℕ) (cost : ℕ → ℕ → ℤ) (x : State) (s : ℕ) (C : Can n
   pub found-good : Good n cost v row s (floorOf n cost v s one) (search n cost v row s)
   found-good =
       let y = free-column n (x .pairs) (C .agree) s (C .start-below) (C .start-unpaired) in
-      search-ok n cost v row s (floorOf n cost v s one) (C .fair) (y .0) (y .1) (y .2) (floor-under n cost v s one)
+      search-good n cost v row s (floorOf n cost v s one) (C .fair) (y .0) (y .1) (y .2) (floor-under n cost v s one)
 
   pub augment-gain : Gain n cost x s (augment n cost x s)
   augment-gain =

@@ -13,12 +13,12 @@ use Rattle.ints.proofs.Ranges.{zarith}
 use Rattle.lists.specs.Permutations.{at, Permutation, exchange}
 use Rattle.lists.proofs.Runs.{upward-keeps}
 use Rattle.lists.proofs.Permutations.{exchange-second, exchange-first, exchange-other, exchange-permutation}
+use Rattle.lists.proofs.Cases.{cond-cases, lt-or-le, here-or-elsewhere}
 use Rattle.assignment.specs.Pairings.{price}
 use Rattle.rules.specs.Block.{Block, blockWith, blockStep, blockStart, block}
-use Rattle.rules.proofs.Cases.{cond-cases, lt-or-le, here-or-elsewhere}
 
 module _ (n : ℕ) (d : List ℤ) (lo : ℕ) (list : List ℕ) where
-  -- The places before k have been looked at.
+  -- The places before k have been passed.
   pub record IsBlock (k : ℕ) (b : Block) : Type 0 where
     pub permutation : Permutation n (b .list)
     pub order : (lo < b .hi) × (b .hi ≤ k) × (k ≤ n)
@@ -28,9 +28,9 @@ module _ (n : ℕ) (d : List ℤ) (lo : ℕ) (list : List ℕ) where
     pub not-less : (t : ℕ) → b .hi ≤ t → t < k → b .minimum ≤ℤ price d (at (b .list) t)
 
   -- The columns at k and p change places, and the minimum is that of the column at k: p is the block's last place then.
-  swap-ok : (k p : ℕ) (b : Block) → IsBlock k b → k < n → lo ≤ p → p ≤ b .hi → price d (at (b .list) k) ≤ℤ b .minimum
+  block-one-more : (k p : ℕ) (b : Block) → IsBlock k b → k < n → lo ≤ p → p ≤ b .hi → price d (at (b .list) k) ≤ℤ b .minimum
       → ((t : ℕ) → lo ≤ t → t < p → b .minimum ≤ℤ price d (at (b .list) k)) → IsBlock (suc k) (blockWith b k (price d (at (b .list) k)) p)
-  swap-ok k p b B l h g e f =
+  block-one-more k p b B l h g e f =
       let xs = b .list in
       let ys = exchange xs k p in
       let lp : p < n = omega (arith, B .order) in
@@ -64,12 +64,12 @@ module _ (n : ℕ) (d : List ℤ) (lo : ℕ) (list : List ℕ) where
         ];
       }
 
-  pub blockStep-ok : (k : ℕ) (b : Block) → IsBlock k b → k < n → IsBlock (suc k) (blockStep d lo k b)
-  blockStep-ok k b B l =
+  pub block-more : (k : ℕ) (b : Block) → IsBlock k b → k < n → IsBlock (suc k) (blockStep d lo k b)
+  block-more k b B l =
       cond-cases (leZ h (b .minimum)) (IsBlock (suc k)) (blockWith b k h (cond (ltZ h (b .minimum)) lo (b .hi))) b
       (λ e. cond-cases (ltZ h (b .minimum)) (λ p. IsBlock (suc k) (blockWith b k h p)) lo (b .hi)
-      (λ a. swap-ok k lo b B l (omega arith) (omega (arith, B .order)) (omega zarith) (λ t m q. absurd (omega arith)))
-      (λ a. swap-ok k (b .hi) b B l (omega (arith, B .order)) (omega arith) (omega zarith) (λ t m q. omega zarith)))
+      (λ a. block-one-more k lo b B l (omega arith) (omega (arith, B .order)) (omega zarith) (λ t m q. absurd (omega arith)))
+      (λ a. block-one-more k (b .hi) b B l (omega (arith, B .order)) (omega arith) (omega zarith) (λ t m q. omega zarith)))
       (λ e. record {
         permutation = B .permutation;
         order = omega (arith, B .order);
@@ -85,8 +85,8 @@ module _ (n : ℕ) (d : List ℤ) (lo : ℕ) (list : List ℕ) where
       h : ℤ
       h = price d (at (b .list) k)
 
-  pub blockStart-ok : Permutation n list → lo < n → IsBlock (lo + 1) (blockStart d lo list)
-  blockStart-ok p l = record {
+  pub block-first : Permutation n list → lo < n → IsBlock (lo + 1) (blockStart d lo list)
+  block-first p l = record {
     permutation = p;
     order = omega arith;
     before-kept = λ t m. refl;
@@ -95,6 +95,6 @@ module _ (n : ℕ) (d : List ℤ) (lo : ℕ) (list : List ℕ) where
     not-less = λ t a m. absurd (omega arith);
   }
 
-  pub block-ok : Permutation n list → lo < n → IsBlock n (block n d lo list)
+  pub block-of-minima : Permutation n list → lo < n → IsBlock n (block n d lo list)
   unfolding block
-  block-ok p l = upward-keeps IsBlock (lo + 1) n (blockStep d lo) (blockStart d lo list) (omega arith) (blockStart-ok p l) (λ k b a m B. blockStep-ok k b B m)
+  block-of-minima p l = upward-keeps IsBlock (lo + 1) n (blockStep d lo) (blockStart d lo list) (omega arith) (block-first p l) (λ k b a m B. block-more k b B m)

@@ -15,9 +15,9 @@ use Rattle.lists.specs.Permutations.{at}
 use Rattle.assignment.specs.Pairings.{price}
 use Rattle.rules.specs.Lowest.{reduced}
 use Rattle.rules.specs.Columns.{Pairs}
-use Rattle.rules.proofs.Prices.{NotBelow, Fair, all-near}
+use Rattle.rules.specs.Asked.{Fair, Paired, Unpaired, Agree}
+use Rattle.rules.proofs.Prices.{NotBelow, all-near}
 use Rattle.rules.proofs.Sizes.{within-everywhere}
-use Rattle.rules.proofs.Pairs.{Agree, Paired, Unpaired}
 use Rattle.rules.proofs.Lowering.{Lowers, Put, Bounds, lowers-fair, never-rises, lowers-bounds, bounds-low}
 
 -- The rows with no column stand in the list at the places In, each once.

@@ -14,6 +14,7 @@ use lib.Seq.{getD-set-same, getD-set-other}
 use Rattle.ints.proofs.Sums.{dif}
 use Rattle.ints.proofs.Shapes.{zlin}
 use Rattle.lists.specs.Permutations.{at}
+use Rattle.lists.proofs.Cases.{cond-cases, here-or-elsewhere}
 use Rattle.assignment.specs.Pairings.{price}
 use Rattle.rules.specs.declared.Low.{Low}
 use Rattle.rules.specs.declared.TwoLowest.{TwoLowest}
@@ -22,9 +23,9 @@ use Rattle.rules.specs.declared.Choice.{Choice}
 use Rattle.rules.specs.Lowest.{reduced}
 use Rattle.rules.specs.Columns.{Pairs}
 use Rattle.rules.specs.Rows.{keepPrice, lowerPrice, choose, takeColumn}
-use Rattle.rules.proofs.Cases.{cond-cases, here-or-elsewhere}
+use Rattle.rules.specs.Asked.{Paired, Unpaired, Agree}
 use Rattle.rules.proofs.Lowest.{AreLowest, RightTwo}
-use Rattle.rules.proofs.Pairs.{Agree, Paired, Unpaired, kept-col, took-row, kept-row, taken-paired}
+use Rattle.rules.proofs.Pairs.{kept-col, took-row, kept-row, taken-paired}
 use Rattle.rules.proofs.Lowering.{Lowers}
 use Rattle.rules.proofs.Kept.{Listed}
 

@@ -16,11 +16,11 @@ use Rattle.lists.specs.Runs.{upward}
 use Rattle.lists.specs.Permutations.{at, Permutation}
 use Rattle.lists.proofs.Runs.{upward-keeps}
 use Rattle.lists.proofs.Injections.{reached}
+use Rattle.lists.proofs.Cases.{cond-cases, lt-or-le, below-suc}
 use Rattle.assignment.specs.Pairings.{price}
 use Rattle.rules.specs.Lowest.{reduced}
-use Rattle.rules.specs.Search.{Work, Found, raise, newPrices}
-use Rattle.rules.proofs.Cases.{cond-cases, lt-or-le, below-suc}
-use Rattle.rules.proofs.Prices.{AtMinimum, Fair}
+use Rattle.rules.specs.Search.{Work, Found, addDistance, newPrices}
+use Rattle.rules.specs.Asked.{AtMinimum, Fair}
 use Rattle.rules.proofs.Potentials.{Settled, lowered, still-fair, start-minimum, step-minimum}
 use Rattle.rules.proofs.Scan.{place, far, FromColumn}
 use Rattle.rules.proofs.Search.{Ended}
@@ -51,16 +51,16 @@ module _ (n : ℕ) (d : List ℤ) (list : List ℕ) (P : Permutation n list) (μ
     pub changed : (t : ℕ) → t < m → price x (at list t) ≡ price v (at list t) +ℤ (price d (at list t) -ℤ μ)
     pub unchanged : (t : ℕ) → m ≤ t → t < n → price x (at list t) ≡ price v (at list t)
 
-  pub raise-ok : (m : ℕ) (x : List ℤ) → m < n → Changed m x → Changed (suc m) (raise d μ (at list m) x)
-  raise-ok m x l C =
+  pub changed-more : (m : ℕ) (x : List ℤ) → m < n → Changed m x → Changed (suc m) (addDistance d μ (at list m) x)
+  changed-more m x l C =
       let j = at list m in
       let y = price x j +ℤ (price d j -ℤ μ) in
-      let here : price (raise d μ j x) j ≡ y = getD-set-same x j y (pos 0) (omega (arith, C .prices-size, P .injective .below m l)) in
-      let there : (t : ℕ) → t < n → t ≢ m → price (raise d μ j x) (at list t) ≡ price x (at list t) =
+      let here : price (addDistance d μ j x) j ≡ y = getD-set-same x j y (pos 0) (omega (arith, C .prices-size, P .injective .below m l)) in
+      let there : (t : ℕ) → t < n → t ≢ m → price (addDistance d μ j x) (at list t) ≡ price x (at list t) =
       λ t k f. getD-set-other x j (at list t) y (pos 0) (λ e. f (P .injective .once t m k l e)) in
       record {
         prices-size = length-set x j y ∙ C .prices-size;
-        changed = below-suc (λ t. price (raise d μ j x) (at list t) ≡ price v (at list t) +ℤ (price d (at list t) -ℤ μ))
+        changed = below-suc (λ t. price (addDistance d μ j x) (at list t) ≡ price v (at list t) +ℤ (price d (at list t) -ℤ μ))
             (λ t k. there t (omega arith) (λ e. omega arith) ∙ C .changed t k)
             (here ∙ ap (λ z. z +ℤ (price d j -ℤ μ)) (C .unchanged m (omega arith) l));
         unchanged = λ t a k. there t k (λ e. omega arith) ∙ C .unchanged t (omega arith) k;
@@ -69,8 +69,8 @@ module _ (n : ℕ) (d : List ℤ) (list : List ℕ) (P : Permutation n list) (μ
   pub changed-start : Changed 0 v
   changed-start = record { prices-size = size; changed = λ t k. absurd (omega arith); unchanged = λ t a k. refl }
 
-  raised-ok : (m : ℕ) → m ≤ n → Changed m (upward 0 m (λ k. raise d μ (at list k)) v)
-  raised-ok m h = upward-keeps Changed 0 m (λ k. raise d μ (at list k)) v (omega arith) changed-start (λ k x a l C. raise-ok k x (omega arith) C)
+  changed-after : (m : ℕ) → m ≤ n → Changed m (upward 0 m (λ k. addDistance d μ (at list k)) v)
+  changed-after m h = upward-keeps Changed 0 m (λ k. addDistance d μ (at list k)) v (omega arith) changed-start (λ k x a l C. changed-more k x (omega arith) C)
 
 -- ---- after a search
 
@@ -90,12 +90,12 @@ module _ (n : ℕ) (cost : ℕ → ℕ → ℤ) (v : List ℤ) (row : ℕ → �
   where-is : (k : ℕ) → k < n → (t : ℕ) × (t < n) × (place w t ≡ k)
   where-is k l = reached (E .sound .permutation .injective) k l
 
-  changed-ok : Changed n (w .distances) (w .list) (E .sound .permutation) μ v size (f .ready) v′
+  changed-ready : Changed n (w .distances) (w .list) (E .sound .permutation) μ v size (f .ready) v′
   unfolding newPrices
-  changed-ok =
+  changed-ready =
       let z : price (w .distances) (at (w .list) (f .cursor .lo)) ≡ μ = ap (λ (t : ℕ). far w (place w t)) (E .cursor-kept) ∙ E .is-minimum in
-      subst (λ (x : ℤ). Changed n (w .distances) (w .list) (E .sound .permutation) μ v size (f .ready) (upward 0 (f .ready) (λ k. raise (w .distances) x (at (w .list) k)) v)) (sym z)
-      (raised-ok n (w .distances) (w .list) (E .sound .permutation) μ v size (f .ready) (omega (arith, E .ready-below)))
+      subst (λ (x : ℤ). Changed n (w .distances) (w .list) (E .sound .permutation) μ v size (f .ready) (upward 0 (f .ready) (λ k. addDistance (w .distances) x (at (w .list) k)) v)) (sym z)
+      (changed-after n (w .distances) (w .list) (E .sound .permutation) μ v size (f .ready) (omega (arith, E .ready-below)))
 
   settled : Settled n cost (price v) row s e μ
   settled = record {
@@ -132,10 +132,10 @@ module _ (n : ℕ) (cost : ℕ → ℕ → ℤ) (v : List ℤ) (row : ℕ → �
   -- The list has the lowered prices.
   new-price : (k : ℕ) → k < n → price v′ k ≡ lowered n cost (price v) e μ k
   new-price k l = let P = where-is k l in subst (λ (x : ℕ). price v′ x ≡ lowered n cost (price v) e μ x) (P .2) (elim (lt-or-le (P .0) (f .ready)) [
-    | inl a ↦ changed-ok .changed (P .0) a
+    | inl a ↦ changed-ready .changed (P .0) a
         ∙ ap (λ z. price v (place w (P .0)) +ℤ (z -ℤ μ)) (sym (lesser-first (far w (place w (P .0))) μ (E .low (P .0) a)))
     | inr a ↦ let x = place w (P .0) in
-        changed-ok .unchanged (P .0) a (P .1)
+        changed-ready .unchanged (P .0) a (P .1)
         ∙ omega (zarith, lesser-second (far w x) μ (E .high (P .0) a (P .1)), dif (e x) μ, sum (price v x) (e x -ℤ μ))
   ])
 
@@ -147,7 +147,7 @@ module _ (n : ℕ) (cost : ℕ → ℕ → ℤ) (v : List ℤ) (row : ℕ → �
   }
 
   pub new-size : length v′ ≡ n
-  new-size = changed-ok .prices-size
+  new-size = changed-ready .prices-size
 
   pub new-fair : Fair n cost (price v′) row
   new-fair = record { paired-at-minimum = λ j l h. to-list (row j) j l (still-fair n cost (price v) row s e μ settled .paired-at-minimum j l h) }

@@ -14,12 +14,12 @@ use Rattle.ints.proofs.Tests.{ltZ-plus}
 use Rattle.lists.specs.Permutations.{table}
 use Rattle.lists.proofs.Tables.{length-table, getD-table, table-cong}
 use Rattle.lists.proofs.InStep.{upward-both}
+use Rattle.lists.proofs.Cases.{cond-both, here-or-elsewhere}
 use Rattle.assignment.specs.Pairings.{price}
 use Rattle.assignment.specs.Amounts.{risen}
 use Rattle.assignment.proofs.Amounts.{length-risen, price-risen}
 use Rattle.rules.specs.declared.Low.{Low}
 use Rattle.rules.specs.Lowest.{reduced, low, lower, lowest}
-use Rattle.rules.proofs.Cases.{cond-both, here-or-elsewhere}
 
 -- ---- prices
 

@@ -8,7 +8,6 @@ use native.Mathlib.Decide.{ℕ-discrete}
 use native.Mathlib.Omega.{arith}
 use lib.IntN.{ℤ, pos, _-ℤ_, +ℤ-idl}
 use lib.Signed.{_≤ℤ_}
-use lib.ListN.{length}
 use Rattle.ints.specs.Parts.{Within}
 use Rattle.ints.proofs.Shapes.{zlin}
 use Rattle.lists.specs.Runs.{turns, upward, downward, until}
@@ -22,12 +21,12 @@ use Rattle.rules.specs.Lowest.{reduced, lowest, leastBut}
 use Rattle.rules.specs.Columns.{free, Pairs, claims, transfers, columnReduction}
 use Rattle.rules.specs.Rows.{looks, rowReduction}
 use Rattle.rules.specs.Augmentation.{augments, augmentation}
-use Rattle.rules.specs.Run.{stages, Answer, rowPrices, run}
+use Rattle.rules.specs.Run.{stages, Result, rowPrices, run}
 use Rattle.rules.specs.Nights.{five}
 use Rattle.rules.specs.Right.{Between, Right}
-use Rattle.rules.proofs.Prices.{NotBelow, AtMinimum, Fair, minimum-pays}
+use Rattle.rules.specs.Asked.{AtMinimum, Fair, Paired, Agree}
+use Rattle.rules.proofs.Prices.{NotBelow, minimum-pays}
 use Rattle.rules.proofs.Sizes.{total-within}
-use Rattle.rules.proofs.Pairs.{Paired, Agree}
 use Rattle.rules.proofs.Lowering.{bounds-low}
 use Rattle.rules.proofs.Kept.{Kept}
 use Rattle.rules.proofs.Claims.{best, first, first-cost, first-least, first-low}
@@ -140,7 +139,7 @@ module _ (n : ℕ) (costs : List ℤ) (K : ℕ) (within : (k : ℕ) → Within K
 -- ---- sides 0 and 1
 
 -- Side 0: nothing, total 0, counts 0.
-abbrev pub nothing : Answer
+abbrev pub nothing : Result
 nothing = record { cols = []; rows = []; rowPrices = []; columnPrices = []; total = pos 0; counts = five 0 0 0 0 0 }
 
 pub side-zero : (costs : List ℤ) → run 0 costs ≡ nothing
@@ -186,7 +185,7 @@ nothing-right costs K =
     }
 
 -- Side 1: "v is the cost and the row price 0"; no look.
-pub record SideOne (c : ℤ) (a : Answer) : Type 0 where
+pub record SideOne (c : ℤ) (a : Result) : Type 0 where
   pub cols-are : a .cols ≡ 0 ∷ []
   pub rows-are : a .rows ≡ 0 ∷ []
   pub row-prices-are : a .rowPrices ≡ pos 0 ∷ []
@@ -215,6 +214,6 @@ run-right zero costs K within room = subst (Right 0 costs K) (sym (side-zero cos
 run-right (suc n) costs K within room = one-right (suc n) costs K within (omega arith) room
 
 -- All prices lie within 10K, as the checker asks.
-pub right-within-ten : (n : ℕ) (costs : List ℤ) (K : ℕ) (a : Answer) → Right n costs K a
+pub right-within-ten : (n : ℕ) (costs : List ℤ) (K : ℕ) (a : Result) → Right n costs K a
     → ((i : ℕ) → i < n → Within (10 * K) (price (a .rowPrices) i)) × ((j : ℕ) → j < n → Within (10 * K) (price (a .columnPrices) j))
 right-within-ten n costs K a R = (λ i l. omega (arith, R .row-prices-between i l), λ j l. omega (arith, R .column-prices-between j l))

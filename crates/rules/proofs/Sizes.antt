@@ -8,8 +8,8 @@ use lib.ListN.{length, List·getD-eq-default}
 use Rattle.ints.specs.Parts.{Within}
 use Rattle.lists.specs.Permutations.{at}
 use Rattle.lists.proofs.Sums.{sum-within}
+use Rattle.lists.proofs.Cases.{lt-or-le}
 use Rattle.assignment.specs.Pairings.{square, price, total}
-use Rattle.rules.proofs.Cases.{lt-or-le}
 
 -- Past the end of a list of costs or prices stands 0, which lies within any bound.
 pub within-everywhere : (K : ℕ) (l : List ℤ) → ((k : ℕ) → k < length l → Within K (price l k)) → (k : ℕ) → Within K (price l k)

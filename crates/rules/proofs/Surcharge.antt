@@ -23,7 +23,7 @@ use Rattle.rules.specs.Columns.{free, claims, transfers, columnReduction
 use Rattle.rules.specs.Rows.{looks, rowReduction}
 use Rattle.rules.specs.Search.{scan, lastFree, searchBlocks, search, newPrices}
 use Rattle.rules.specs.Augmentation.{flips, augments, augmentation}
-use Rattle.rules.specs.Run.{stages, rowPrices, Answer, answerOf, run}
+use Rattle.rules.specs.Run.{stages, rowPrices, Result, answerOf, run}
 use Rattle.rules.specs.Right.{Right}
 use Rattle.rules.specs.Nights.{even, rowDearer}
 use Rattle.rules.specs.Surcharge.{surcharged}
@@ -93,8 +93,8 @@ pub run-one-surcharge : (n : ℕ) → n ≤ free → (c : ℕ) → c < n → (a 
     × (run n costs′ .total ≡ run n costs .total +ℤ a)
 run-one-surcharge n room c l a costs costs′ with-amounts =
     let e = run-surcharge n room (only c a) costs costs′ with-amounts in (
-      ap (λ (x : Answer). x .columnPrices) e ∙ risen-only c a (run n costs .columnPrices) (omega (arith, run-right-bounded n costs room .column-prices-size)),
-      ap (λ (x : Answer). x .total) e ∙ ap (λ (z : ℤ). run n costs .total +ℤ z) (sum-only c a n l),
+      ap (λ (x : Result). x .columnPrices) e ∙ risen-only c a (run n costs .columnPrices) (omega (arith, run-right-bounded n costs room .column-prices-size)),
+      ap (λ (x : Result). x .total) e ∙ ap (λ (z : ℤ). run n costs .total +ℤ z) (sum-only c a n l),
     )
 
 -- ---- an amount on each row

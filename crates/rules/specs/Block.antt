@@ -26,7 +26,7 @@ blockStep distances lo k b =
     let h = price distances (at (b .list) k) in
     cond (leZ h (b .minimum)) (blockWith b k h (cond (ltZ h (b .minimum)) lo (b .hi))) b
 
--- Before the places after lo are looked at.
+-- Before the places after lo are passed.
 abbrev pub blockStart : List ℤ → ℕ → List ℕ → Block
 blockStart distances lo list = record { hi = lo + 1; minimum = price distances (at list lo); list = list }
 

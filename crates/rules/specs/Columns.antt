@@ -9,8 +9,8 @@ use Rattle.lists.specs.Runs.{upward, downward}
 use Rattle.lists.specs.Permutations.{at, table}
 use Rattle.assignment.specs.Pairings.{price}
 use Rattle.rules.specs.declared.Low.{Low}
-use Rattle.rules.specs.declared.Least.{Least}
-use Rattle.rules.specs.declared.Least.the-variants.{NoneYet, Of}
+use Rattle.rules.specs.declared.LeastSoFar.{LeastSoFar}
+use Rattle.rules.specs.declared.LeastSoFar.the-variants.{NoneYet, Of}
 use Rattle.rules.specs.Lowest.{reduced, lowest, leastBut}
 
 -- The row of a free column: the free mark, which is no row.
@@ -69,7 +69,7 @@ pub record Transfer : Type 0 where
   pub count : ℕ
 
 -- A price, lowered by a least value. Side 1 has no other column, and there the price stays.
-abbrev pub lessLeast : ℤ → Least → ℤ
+abbrev pub lessLeast : ℤ → LeastSoFar → ℤ
 lessLeast v NoneYet = v
 lessLeast v (Of h) = v -ℤ h
 

@@ -5,10 +5,14 @@ use Prim.Native.Nat.{ℕ, _+_, _-_, _*_, _≤_, _<_}
 use lib.IntN.{ℤ}
 use lib.ListN.{length}
 use Rattle.ints.specs.Parts.{up, down, Within}
+use Rattle.lists.specs.Runs.{left}
+use Rattle.lists.specs.Permutations.{at}
 use Rattle.assignment.specs.Pairings.{Pairing, Least, Named, square, price, total}
 use Rattle.assignment.specs.Prices.{Feasible, Tight}
 use Rattle.rules.specs.declared.Counts.{Counts}
-use Rattle.rules.specs.Run.{stages, Answer}
+use Rattle.rules.specs.Search.{searchBlocks, searchStart, search}
+use Rattle.rules.specs.Augmentation.{Progress, flips, augment}
+use Rattle.rules.specs.Run.{stages, Result}
 
 -- z is in -a..b, both ends included.
 pub record Between (a b : ℕ) (z : ℤ) : Type 0 where
@@ -26,8 +30,17 @@ pub record CountsRight (n left-one : ℕ) (c : Counts) : Type 0 where
   pub left-few : c .«rows_left» ≤ left-one
   pub scanned-few : c .«columns_scanned» ≤ c .«rows_left» * (n - 1)
 
+-- How a search from row s ends: within n blocks, fewer than n columns scanned, and the pairs flip back within n flips. "The source's answer for
+-- more than n flips must be shown never to arise."
+pub record SearchEnds (n : ℕ) (cost : ℕ → ℕ → ℤ) (x : Progress) (s : ℕ) : Type 0 where
+  pub found-within : let v = price (x .prices) in let row = at (x .pairs .rows) in
+      searchBlocks n cost v row n (searchStart n cost v row s) ≡ left (search n cost v row s)
+  pub scanned-few : search n cost (price (x .prices)) (at (x .pairs .rows)) s .work .scanned < n
+  pub flipped-within : let f = search n cost (price (x .prices)) (at (x .pairs .rows)) s in
+      flips n s (f .work .predecessors) (record { column = f .column; pairs = x .pairs }) ≡ left (augment n cost x s .pairs)
+
 -- All that the answer of a run owes.
-pub record Right (n : ℕ) (costs : List ℤ) (K : ℕ) (a : Answer) : Type 0 where
+pub record Right (n : ℕ) (costs : List ℤ) (K : ℕ) (a : Result) : Type 0 where
   pub cols-size : length (a .cols) ≡ n
   pub rows-size : length (a .rows) ≡ n
   pub row-prices-size : length (a .rowPrices) ≡ n

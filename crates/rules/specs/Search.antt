@@ -134,11 +134,11 @@ module _ (n : ℕ) (cost : ℕ → ℕ → ℤ) (v : ℕ → ℤ) (row : ℕ →
 -- ---- "Then each ready column (those listed before the last block) has its distance minus that block's minimum added to v."
 
 -- A column's price, with its distance minus the minimum added.
-abbrev pub raise : List ℤ → ℤ → ℕ → List ℤ → List ℤ
-raise distances minimum j v = set v j (price v j +ℤ (price distances j -ℤ minimum))
+abbrev pub addDistance : List ℤ → ℤ → ℕ → List ℤ → List ℤ
+addDistance distances minimum j v = set v j (price v j +ℤ (price distances j -ℤ minimum))
 
 -- The prices after a search.
 unfoldable pub newPrices : Found → List ℤ → List ℤ
 newPrices f v =
     let w = f .work in
-    upward 0 (f .ready) (λ k. raise (w .distances) (price (w .distances) (at (w .list) (f .cursor .lo))) (at (w .list) k)) v
+    upward 0 (f .ready) (λ k. addDistance (w .distances) (price (w .distances) (at (w .list) (f .cursor .lo))) (at (w .list) k)) v

@@ -10,7 +10,7 @@ use mir.Val.{toZ}
 use Rattle.ints.proofs.Bits.{read-back}
 use Rattle.lists.specs.Permutations.{at}
 use Rattle.assignment.specs.Pairings.{price}
-use Rattle.matrix.proofs.Limits.{side-small}
+use Rattle.matrix.proofs.SmallLimits.{side-small}
 use Rattle.augmentation.proofs.Prices.{Changing, first-change, size, changed, column-below, sub-fits, add-fits, next}
 use Rattle.augmentation.proofs.change_prices.Statement.{statement}
 use Rattle.augmentation.proofs.change_prices.Tie as tie

@@ -13,7 +13,7 @@ use Rattle.ints.proofs.Ranges.{within-mono}
 use Rattle.lists.specs.Permutations.{at}
 use Rattle.assignment.specs.Pairings.{price}
 use Rattle.matrix.specs.Limits.{near}
-use Rattle.matrix.proofs.Limits.{side-small}
+use Rattle.matrix.proofs.SmallLimits.{side-small}
 use Rattle.augmentation.proofs.Scan.{row-length, spare-near, column-at, scanned}
 use Rattle.augmentation.proofs.scan_dense.Statement.{statement}
 use Rattle.augmentation.proofs.scan_dense.Tie as tie

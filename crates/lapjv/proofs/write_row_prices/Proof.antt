@@ -13,7 +13,7 @@ use Rattle.ints.proofs.Bits.{read-back}
 use Rattle.lists.specs.Permutations.{at, table}
 use Rattle.lists.proofs.Tables.{filled-none, filled-more, filled-length, filled-all}
 use Rattle.assignment.specs.Pairings.{price, square}
-use Rattle.matrix.proofs.Limits.{side-small}
+use Rattle.matrix.proofs.SmallLimits.{side-small}
 use Rattle.matrix.proofs.Places.{place-below}
 use Rattle.rules.specs.Lowest.{reduced}
 use Rattle.lapjv.proofs.write_row_prices.Statement.{statement}

@@ -16,7 +16,7 @@ use Rattle.lists.specs.Permutations.{at}
 use Rattle.lists.proofs.Sums.{sum-none, sum-last}
 use Rattle.assignment.specs.Pairings.{price}
 use Rattle.matrix.specs.Cost.{totalOf}
-use Rattle.matrix.proofs.Limits.{side-small}
+use Rattle.matrix.proofs.SmallLimits.{side-small}
 use Rattle.matrix.proofs.Places.{place-below}
 use borrow.Author.Needs.{needs}
 use Rattle.matrix.proofs.total.Statement.{statement}

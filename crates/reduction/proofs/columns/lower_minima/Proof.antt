@@ -16,7 +16,7 @@ use Rattle.lists.proofs.Tables.{filled-none, filled-more, filled-length, filled
 use Rattle.assignment.specs.Pairings.{price}
 use Rattle.rules.specs.declared.Low.{Low}
 use Rattle.rules.specs.Lowest.{low}
-use Rattle.matrix.proofs.Limits.{side-small}
+use Rattle.matrix.proofs.SmallLimits.{side-small}
 use Rattle.reduction.specs.Columns.{lowAt}
 use Rattle.reduction.proofs.columns.lower_minima.Statement.{statement}
 use Rattle.reduction.proofs.columns.lower_minima.Tie as tie

@@ -11,7 +11,7 @@ use mir.Syntax.{w64}
 use mir.Val.{SFits, toZ, ofZ}
 use mir.Facts.{toZ-ofZ}
 use Rattle.assignment.specs.Pairings.{price}
-use Rattle.rules.specs.declared.Least.the-variants.{Of}
+use Rattle.rules.specs.declared.LeastSoFar.the-variants.{Of}
 use Rattle.reduction.specs.Ranges.{NextBelow}
 use Rattle.reduction.specs.Columns.{NextLeast}
 use Rattle.reduction.proofs.columns.next_least.Statement.{statement}
