@@ -10,21 +10,21 @@ use Rattle.ints.proofs.Shapes.{zlin}
 use Rattle.lists.specs.Sums.{sum}
 use Rattle.lists.specs.Permutations.{at}
 use Rattle.lists.proofs.Sums.{sum-cong, sum-add, sum-le, sum-le-tight}
-use Rattle.assignment.specs.Pairings.{Night, Pairing, total, Least, price}
+use Rattle.assignment.specs.Pairings.{Night, Pairing, total, Least, signedAt}
 use Rattle.assignment.specs.Prices.{priced, Feasible, Tight, SparesNotBelow}
 use Rattle.assignment.proofs.Pairings.{pairing-injective}
 use Rattle.assignment.proofs.Columns.{columns-least, columns-least-only}
 
 -- What the prices of all rows and of the columns used come to.
 abbrev pub worth : Night → List ℤ → List ℤ → List ℕ → ℤ
-worth night us vs cols = sum (night .rowCount) (price us) +ℤ sum (night .rowCount) (λ i. price vs (at cols i))
+worth night us vs cols = sum (night .rowCount) (signedAt us) +ℤ sum (night .rowCount) (λ i. signedAt vs (at cols i))
 
 module _ (night : Night) (us vs : List ℤ) where
   abbrev paired : List ℕ → ℕ → ℤ
   paired cols i = priced us vs i (at cols i)
 
   worth-paired : (cols : List ℕ) → sum (night .rowCount) (paired cols) ≡ worth night us vs cols
-  worth-paired cols = sum-add (night .rowCount) (price us) (λ i. price vs (at cols i))
+  worth-paired cols = sum-add (night .rowCount) (signedAt us) (λ i. signedAt vs (at cols i))
 
   -- A pairing's total, where the prices are tight on it: the row prices and the used column prices.
   pub tight-total : (cols : List ℕ) → Tight night us vs cols → total night cols ≡ worth night us vs cols
@@ -39,9 +39,9 @@ module _ (night : Night) (us vs : List ℤ) where
       omega (zlin, worth-paired cols, sum-le (night .rowCount) (paired cols) (λ i. night .cost i (at cols i)) (under-paired fair cols p))
 
   module _ (fair : Feasible night us vs) (cols : List ℕ) (p : Pairing night cols) (tight : Tight night us vs cols) (spares : SparesNotBelow night vs cols) where
-    used-least : (other : List ℕ) → Pairing night other → sum (night .rowCount) (λ i. price vs (at cols i)) ≤ℤ sum (night .rowCount) (λ i. price vs (at other i))
+    used-least : (other : List ℕ) → Pairing night other → sum (night .rowCount) (λ i. signedAt vs (at cols i)) ≤ℤ sum (night .rowCount) (λ i. signedAt vs (at other i))
     used-least other q =
-        columns-least (price vs) (night .rowCount) (at cols) (at other) (pairing-injective night cols p) (pairing-injective night other q) (spares .not-below)
+        columns-least (signedAt vs) (night .rowCount) (at cols) (at other) (pairing-injective night cols p) (pairing-injective night other q) (spares .not-below)
 
     -- The pairing is least.
     pub prices-least : Least night cols
@@ -59,7 +59,7 @@ module _ (night : Night) (us vs : List ℤ) where
     pub least-spares : (other : List ℕ) → Least night other → SparesNotBelow night vs other
     least-spares other o =
         record {
-          not-below = columns-least-only (price vs) (night .rowCount) (at cols) (at other) (pairing-injective night cols p)
+          not-below = columns-least-only (signedAt vs) (night .rowCount) (at cols) (at other) (pairing-injective night cols p)
               (pairing-injective night other (o .pairing)) (spares .not-below)
               (omega (zlin, o .least cols p, tight-total cols tight, worth-total fair other (o .pairing)));
         }

@@ -7,7 +7,7 @@ use lib.Dec.{eqb}
 use lib.IntN.{ℤ, pos, _+ℤ_}
 use lib.ListN.{length}
 use Rattle.lists.specs.Permutations.{table}
-use Rattle.assignment.specs.Pairings.{Night, price}
+use Rattle.assignment.specs.Pairings.{Night, signedAt}
 
 -- The night with other costs: the same rows, columns and allowed places.
 abbrev pub withCosts : Night → (ℕ → ℕ → ℤ) → Night
@@ -27,4 +27,4 @@ only c a k = cond (eqb k c) a (pos 0)
 
 -- Prices, each higher by its column's amount.
 unfoldable pub risen : (ℕ → ℤ) → List ℤ → List ℤ
-risen amount prices = table (length prices) (λ j. price prices j +ℤ amount j)
+risen amount prices = table (length prices) (λ j. signedAt prices j +ℤ amount j)

@@ -43,15 +43,15 @@ pub record Named (night : Night) (cols rows : List ℕ) : Type 0 where
   pub inside : (i : ℕ) → i < night .rowCount → at cols i < night .columnCount
   pub back : (i : ℕ) → i < night .rowCount → at rows (at cols i) ≡ i
 
--- What stands at i in a list of costs or prices: 0 past its end.
-abbrev pub price : List ℤ → ℕ → ℤ
-price ps i = getD ps i (pos 0)
+-- What stands at i in a list of signed numbers, as costs, prices and distances are: 0 past its end.
+abbrev pub signedAt : List ℤ → ℕ → ℤ
+signedAt l i = getD l i (pos 0)
 
 -- The square night of side n: its n * n costs in row order, every place allowed.
 abbrev pub square : ℕ → List ℤ → Night
 square n costs = record {
   rowCount = n;
   columnCount = n;
-  cost = λ i j. price costs (i * n + j);
+  cost = λ i j. signedAt costs (i * n + j);
   allowed = λ i j. true;
 }

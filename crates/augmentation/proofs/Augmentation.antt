@@ -14,7 +14,7 @@ use Rattle.lists.proofs.Runs.{upward-none, upward-last}
 use Rattle.lists.specs.Permutations.{at}
 use Rattle.lists.proofs.Injections.{reached}
 use Rattle.lists.proofs.Parts.{part-at}
-use Rattle.assignment.specs.Pairings.{price, square}
+use Rattle.assignment.specs.Pairings.{signedAt, square}
 use Rattle.matrix.specs.Limits.{side, near}
 use Rattle.matrix.proofs.SmallLimits.{side-small}
 use Rattle.rules.specs.declared.Reached.{Reached}
@@ -35,7 +35,7 @@ use Rattle.augmentation.proofs.Start.{lent-predecessors}
 
 -- ---- one row
 
-module _ (n : ℕ) (costs : List ℤ) (small : n ≤ side) (size : length costs ≡ n * n) (costs-near : (k : ℕ) → Within near (price costs k)) (cols rows : List ℕ)
+module _ (n : ℕ) (costs : List ℤ) (small : n ≤ side) (size : length costs ≡ n * n) (costs-near : (k : ℕ) → Within near (signedAt costs k)) (cols rows : List ℕ)
     (v : List ℤ) (scanned s : ℕ) (T : CanTurn n costs (stateOf cols rows v scanned) s) where
   abbrev cost : ℕ → ℕ → ℤ
   cost = square n costs .cost
@@ -68,9 +68,9 @@ module _ (n : ℕ) (costs : List ℤ) (small : n ≤ side) (size : length costs 
   μ = found-good n cost x s C .0
 
   abbrev fl : ℤ
-  fl = floorOf n cost (price v) s (one n cost x s C)
+  fl = floorOf n cost (signedAt v) s (one n cost x s C)
 
-  E : Ended n cost (price v) (at rows) s fl f μ
+  E : Ended n cost (signedAt v) (at rows) s fl f μ
   E = found-good n cost x s C .1
 
   list-size : length (f .work .list) ≡ n
@@ -98,7 +98,7 @@ module _ (n : ℕ) (costs : List ℤ) (small : n ≤ side) (size : length costs 
       let ls = C .start-below in
       record {
         small = small;
-        column-below = column-below n cost (price v) p s fl ls f μ E;
+        column-below = column-below n cost (signedAt v) p s fl ls f μ E;
         predecessors-size = predecessors-size;
         cols-size = C .agree .cols-size;
         rows-size = C .agree .rows-size;
@@ -106,8 +106,8 @@ module _ (n : ℕ) (costs : List ℤ) (small : n ≤ side) (size : length costs 
         cols-below = C .agree .cols-below;
         whole = flipped (flips n s (f .work .predecessors) (openAt (f .column) cols rows));
         ends =
-            flips-left n s ls (f .work .predecessors) p (Tree n cost (price v) p s fl ls f μ E) (rank n cost (price v) p s fl ls f μ E)
-            (rooted n cost (price v) p s fl ls f μ E) (openAt (f .column) cols rows) (flipping n cost (price v) p s fl ls f μ E (C .agree) (C .start-unpaired));
+            flips-left n s ls (f .work .predecessors) p (Tree n cost (signedAt v) p s fl ls f μ E) (rank n cost (signedAt v) p s fl ls f μ E)
+            (rooted n cost (signedAt v) p s fl ls f μ E) (openAt (f .column) cols rows) (flipping n cost (signedAt v) p s fl ls f μ E (C .agree) (C .start-unpaired));
       }
 
 -- ---- the loop

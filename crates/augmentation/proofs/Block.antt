@@ -16,7 +16,7 @@ use Rattle.lists.specs.Runs.{upward}
 use Rattle.lists.proofs.Runs.{upward-none, upward-last}
 use Rattle.lists.specs.Permutations.{at, exchange, Permutation}
 use Rattle.lists.proofs.Permutations.{exchange-permutation}
-use Rattle.assignment.specs.Pairings.{price}
+use Rattle.assignment.specs.Pairings.{signedAt}
 use Rattle.rules.specs.declared.LastFree.{LastFree}
 use Rattle.rules.specs.declared.LastFree.the-variants.{NoneYet, At}
 use Rattle.rules.specs.Block.{Block, blockStep, blockStart, block}
@@ -33,7 +33,7 @@ pub record Blocked (n lo : ℕ) (d : List ℤ) (list₀ list : List ℕ) (hi : �
   pub block-end : (lo < hi) × (hi ≤ k)
   pub same : blockOf hi minimum list ≡ upward (lo + 1) k (blockStep d lo) (blockStart d lo list₀)
 
-pub first-block : (n lo : ℕ) (d : List ℤ) (list : List ℕ) (minimum : ℤ) → Permutation n list → lo < n → minimum ≡ price d (at list lo)
+pub first-block : (n lo : ℕ) (d : List ℤ) (list : List ℕ) (minimum : ℤ) → Permutation n list → lo < n → minimum ≡ signedAt d (at list lo)
     → Blocked n lo d list list (lo + 1) minimum (lo + 1)
 first-block n lo d list minimum p l e = record {
   past = omega arith;
@@ -58,8 +58,8 @@ module _ {n lo : ℕ} {d : List ℤ} {list₀ list : List ℕ} {hi : ℕ} {minim
         ap (blockStep d lo k) (B .same) ∙ sym (upward-last (lo + 1) k (blockStep d lo) (blockStart d lo list₀) (omega (arith, B .past)))
         ∙ ap (λ (m : ℕ). upward (lo + 1) m (blockStep d lo) (blockStart d lo list₀)) (sym (add-one k))
 
-    pub restart : ltZ (price d (at list k)) minimum ≡ true → leZ (price d (at list k)) minimum ≡ true
-        → Blocked n lo d list₀ (exchange list k lo) (lo + 1) (price d (at list k)) (k + 1)
+    pub restart : ltZ (signedAt d (at list k)) minimum ≡ true → leZ (signedAt d (at list k)) minimum ≡ true
+        → Blocked n lo d list₀ (exchange list k lo) (lo + 1) (signedAt d (at list k)) (k + 1)
     restart e f = record {
       past = omega (arith, B .past);
       within = omega arith;
@@ -68,10 +68,10 @@ module _ {n lo : ℕ} {d : List ℤ} {list₀ list : List ℕ} {hi : ℕ} {minim
       same = rw (f, e) at turn;
     }
 
-    pub join : ltZ (price d (at list k)) minimum ≡ false → leZ (price d (at list k)) minimum ≡ true
+    pub join : ltZ (signedAt d (at list k)) minimum ≡ false → leZ (signedAt d (at list k)) minimum ≡ true
         → Blocked n lo d list₀ (exchange list k hi) (hi + 1) minimum (k + 1)
     join e f =
-        let z : price d (at list k) ≡ minimum = omega zlin in
+        let z : signedAt d (at list k) ≡ minimum = omega zlin in
         record {
           past = omega (arith, B .past);
           within = omega arith;
@@ -80,7 +80,7 @@ module _ {n lo : ℕ} {d : List ℤ} {list₀ list : List ℕ} {hi : ℕ} {minim
           same = ap (λ (x : ℤ). blockOf (hi + 1) x (exchange list k hi)) (sym z) ∙ (rw (f, e) at turn);
         }
 
-    pub pass-by : leZ (price d (at list k)) minimum ≡ false → Blocked n lo d list₀ list hi minimum (k + 1)
+    pub pass-by : leZ (signedAt d (at list k)) minimum ≡ false → Blocked n lo d list₀ list hi minimum (k + 1)
     pass-by f = record {
       past = omega (arith, B .past);
       within = omega arith;

@@ -17,7 +17,7 @@ use Rattle.lists.proofs.Runs.{until-none, until-last}
 use Rattle.lists.specs.Permutations.{at, exchange, Permutation}
 use Rattle.lists.proofs.Permutations.{exchange-permutation}
 use Rattle.lists.proofs.Leaving.{until-longer}
-use Rattle.assignment.specs.Pairings.{price}
+use Rattle.assignment.specs.Pairings.{signedAt}
 use Rattle.rules.specs.Search.{Work, Hit, same, reachBy, join, afterLowering, scanColumn, workOf}
 use Rattle.rules.proofs.Scan.{same-true}
 use Rattle.rules.specs.declared.ScanEnd.the-variants as ends
@@ -34,11 +34,11 @@ same-other x y d = not-true-false (λ e. d (same-true x y e))
 module _ (n i : ℕ) (row v : List ℤ) (rows : List ℕ) (h minimum : ℤ) (hi₀ : ℕ) (d₀ : List ℤ) (room₀ : List ℕ) where
   -- A cost function whose row i is the row that sees the columns.
   abbrev Costs : (ℕ → ℕ → ℤ) → Type 0
-  Costs cost = (j : ℕ) → j < n → cost i j ≡ price row j
+  Costs cost = (j : ℕ) → j < n → cost i j ≡ signedAt row j
 
   -- The definition's run up to place k.
   abbrev run : (ℕ → ℕ → ℤ) → ℕ → ℕ → Turn Work Hit
-  run cost m k = until hi₀ k (scanColumn n cost (price v) (at rows) minimum h i) (workIn n hi₀ d₀ room₀ m)
+  run cost m k = until hi₀ k (scanColumn n cost (signedAt v) (at rows) minimum h i) (workIn n hi₀ d₀ room₀ m)
 
   -- The columns before place k have been seen, and the block ends at hi.
   pub record Lowering (d : List ℤ) (room : List ℕ) (hi k : ℕ) : Type 0 where
@@ -62,7 +62,7 @@ module _ (n i : ℕ) (row v : List ℤ) (rows : List ℕ) (h minimum : ℤ) (hi�
     distances-size = s;
     predecessors-size = predecessors-length n room₀ size;
     room-is = room-self n room₀ size;
-    run-is = λ cost e m. sym (until-none hi₀ hi₀ (scanColumn n cost (price v) (at rows) minimum h i) (workIn n hi₀ d₀ room₀ m) (omega arith));
+    run-is = λ cost e m. sym (until-none hi₀ hi₀ (scanColumn n cost (signedAt v) (at rows) minimum h i) (workIn n hi₀ d₀ room₀ m) (omega arith));
   }
 
   module _ {d : List ℤ} {room : List ℕ} {hi k : ℕ} (L : Lowering d room hi k) where
@@ -95,7 +95,7 @@ module _ (n i : ℕ) (row v : List ℤ) (rows : List ℕ) (h minimum : ℤ) (hi�
       pub column-below : getD room (n + k) 0 < n
       column-below = omega (arith, column-is, L .listed .injective .below k l)
 
-      module _ (x : ℤ) (lowered : x ≡ (price row j -ℤ price v j) -ℤ h) where
+      module _ (x : ℤ) (lowered : x ≡ (signedAt row j -ℤ signedAt v j) -ℤ h) where
         -- What the definition's turn is, by its tests.
         tests : ℕ → Bool → Bool → Bool → Turn Work Hit
         tests m a b c =
@@ -103,20 +103,20 @@ module _ (n i : ℕ) (row v : List ℤ) (rows : List ℕ) (h minimum : ℤ) (hi�
             let reached = reachBy w i j x in
             cond a (cond b (cond c (on (join reached k)) (left (record { column = j; work = reached }))) (on reached)) (on w)
 
-        turn : (cost : ℕ → ℕ → ℤ) → Costs cost → (m : ℕ) (a b c : Bool) → ltZ x (price d j) ≡ a → same x minimum ≡ b → ltb (at rows j) n ≡ c
+        turn : (cost : ℕ → ℕ → ℤ) → Costs cost → (m : ℕ) (a b c : Bool) → ltZ x (signedAt d j) ≡ a → same x minimum ≡ b → ltb (at rows j) n ≡ c
             → tests m a b c ≡ run cost m (k + 1)
         unfolding tests
         turn cost e m a b c ea eb ec =
             let w = workOf hi (L .list) d (L .predecessors) m in
-            let step : ℕ → ℤ → Turn Work Hit = λ y z. cond (ltZ z (price d y)) (afterLowering n (at rows) minimum k y z (reachBy w i y z)) (on w) in
-            let z : x ≡ (cost i j -ℤ price v j) -ℤ h = lowered ∙ ap (λ (y : ℤ). (y -ℤ price v j) -ℤ h) (sym (e j column-below)) in
+            let step : ℕ → ℤ → Turn Work Hit = λ y z. cond (ltZ z (signedAt d y)) (afterLowering n (at rows) minimum k y z (reachBy w i y z)) (on w) in
+            let z : x ≡ (cost i j -ℤ signedAt v j) -ℤ h = lowered ∙ ap (λ (y : ℤ). (y -ℤ signedAt v j) -ℤ h) (sym (e j column-below)) in
             let here : tests m a b c ≡ step j x = sym (rw (ea, eb, ec)) in
-            here ∙ ap (step j) z ∙ ap (λ (y : ℕ). step y ((cost i y -ℤ price v y) -ℤ h)) column-is
-            ∙ ap (λ (t : Turn Work Hit). andThen t (scanColumn n cost (price v) (at rows) minimum h i k)) (L .run-is cost e m)
-            ∙ sym (until-last hi₀ k (scanColumn n cost (price v) (at rows) minimum h i) (workIn n hi₀ d₀ room₀ m) (omega (arith, L .place)))
+            here ∙ ap (step j) z ∙ ap (λ (y : ℕ). step y ((cost i y -ℤ signedAt v y) -ℤ h)) column-is
+            ∙ ap (λ (t : Turn Work Hit). andThen t (scanColumn n cost (signedAt v) (at rows) minimum h i k)) (L .run-is cost e m)
+            ∙ sym (until-last hi₀ k (scanColumn n cost (signedAt v) (at rows) minimum h i) (workIn n hi₀ d₀ room₀ m) (omega (arith, L .place)))
             ∙ ap (run cost m) (sym (add-one k))
 
-        pub pass-by : ltZ x (price d j) ≡ false → Lowering d room hi (k + 1)
+        pub pass-by : ltZ x (signedAt d j) ≡ false → Lowering d room hi (k + 1)
         unfolding tests
         pass-by e = record {
           room-size = L .room-size;
@@ -135,7 +135,7 @@ module _ (n i : ℕ) (row v : List ℤ) (rows : List ℕ) (h minimum : ℤ) (hi�
             ap (λ (r : List ℕ). set r (n + n + j) i) (L .room-is)
             ∙ set-predecessor n room₀ (L .room-size) (L .list) (L .predecessors) (L .listed .size) (L .predecessors-size) j i column-below
 
-        pub lower : ltZ x (price d j) ≡ true → same x minimum ≡ false → Lowering (set d j x) (set room (n + n + j) i) hi (k + 1)
+        pub lower : ltZ x (signedAt d j) ≡ true → same x minimum ≡ false → Lowering (set d j x) (set room (n + n + j) i) hi (k + 1)
         unfolding tests
         lower e f = record {
           room-size = L .room-size;
@@ -149,7 +149,7 @@ module _ (n i : ℕ) (row v : List ℤ) (rows : List ℕ) (h minimum : ℤ) (hi�
           run-is = λ cost g m. turn cost g m true false (ltb (at rows j) n) e f refl;
         }
 
-        pub swap-in : ltZ x (price d j) ≡ true → same x minimum ≡ true → ltb (at rows j) n ≡ true
+        pub swap-in : ltZ x (signedAt d j) ≡ true → same x minimum ≡ true → ltb (at rows j) n ≡ true
             → Lowering (set d j x) (exchange (set room (n + n + j) i) (n + k) (n + hi)) (hi + 1) (k + 1)
         unfolding tests
         swap-in e f g =
@@ -169,7 +169,7 @@ module _ (n i : ℕ) (row v : List ℤ) (rows : List ℕ) (h minimum : ℤ) (hi�
               run-is = λ cost q m. turn cost q m true true true e f g;
             }
 
-        pub hit : ltZ x (price d j) ≡ true → same x minimum ≡ true → ltb (at rows j) n ≡ false
+        pub hit : ltZ x (signedAt d j) ≡ true → same x minimum ≡ true → ltb (at rows j) n ≡ false
             → ColumnsLowered n i row v rows h minimum hi₀ d₀ room₀ (ends.Hit j) (set d j x) (set room (n + n + j) i)
         unfolding tests
         hit e f g =
@@ -184,7 +184,7 @@ module _ (n i : ℕ) (row v : List ℤ) (rows : List ℕ) (h minimum : ℤ) (hi�
                   ap₂ (λ (a b : List ℕ). seen (left (record { column = j; work = workOf hi a (set d j x) b m }))) el ep
                   ∙ ap seen
                   (sym
-                  (until-longer hi₀ (k + 1) (scanColumn n cost (price v) (at rows) minimum h i) (workIn n hi₀ d₀ room₀ m) (record { column = j; work = work }) (omega (arith, L .place))
+                  (until-longer hi₀ (k + 1) (scanColumn n cost (signedAt v) (at rows) minimum h i) (workIn n hi₀ d₀ room₀ m) (record { column = j; work = work }) (omega (arith, L .place))
                   (sym (turn cost q m true true false e f g)) n (omega arith)));
               frame = stored ∙ ap₂ (λ (a b : List ℕ). roomWith n a b room₀) (sym el) (sym ep);
             }

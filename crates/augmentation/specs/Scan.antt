@@ -7,7 +7,7 @@ use lib.ListN.{length}
 use Rattle.ints.specs.Parts.{Within}
 use Rattle.lists.specs.Runs.{Turn, on, left, until}
 use Rattle.lists.specs.Permutations.{at, Permutation}
-use Rattle.assignment.specs.Pairings.{price, square}
+use Rattle.assignment.specs.Pairings.{signedAt, square}
 use Rattle.matrix.specs.Limits.{side, near}
 use Rattle.rules.specs.declared.ScanEnd.{ScanEnd}
 use Rattle.rules.specs.Search.{Work, workOf, Hit, scanColumn, scanRow}
@@ -61,18 +61,18 @@ pub record Lent (n : ℕ) (v : List ℤ) (rows : List ℕ) (d : List ℤ) (room 
   pub distances-size : length d ≡ n
   pub room-size : length room ≡ n + n + n + n
   pub listed : Permutation n (listIn n room)
-  pub prices-near : (j : ℕ) → Within near (price v j)
+  pub prices-near : (j : ℕ) → Within near (signedAt v j)
 
 -- Row i, whose costs are given, sees the columns from place hi on; `scanned` columns were scanned. The costs of other rows do not
 -- count.
 pub record ColumnsLowered (n i : ℕ) (row v : List ℤ) (rows : List ℕ) (h minimum : ℤ) (hi : ℕ) (d₀ : List ℤ) (room₀ : List ℕ) (r : ScanEnd)
     (d : List ℤ) (room : List ℕ) : Type 0 where
-  pub same : (cost : ℕ → ℕ → ℤ) → ((j : ℕ) → j < n → cost i j ≡ price row j) → (scanned : ℕ)
-      → seenIn r n d room scanned ≡ seen (until hi n (scanColumn n cost (price v) (at rows) minimum h i) (workIn n hi d₀ room₀ scanned))
+  pub same : (cost : ℕ → ℕ → ℤ) → ((j : ℕ) → j < n → cost i j ≡ signedAt row j) → (scanned : ℕ)
+      → seenIn r n d room scanned ≡ seen (until hi n (scanColumn n cost (signedAt v) (at rows) minimum h i) (workIn n hi d₀ room₀ scanned))
   pub frame : room ≡ roomWith n (listIn n room) (predecessorsIn n room) room₀
 
 -- The row of the column at place lo sees the columns from place hi on.
 pub record Scanned (n : ℕ) (costs v : List ℤ) (rows : List ℕ) (lo hi : ℕ) (d₀ : List ℤ) (room₀ : List ℕ) (r : ScanEnd) (d : List ℤ)
     (room : List ℕ) : Type 0 where
-  pub same : (scanned : ℕ) → seenIn r n d room (scanned + 1) ≡ seen (scanRow n (square n costs .cost) (price v) (at rows) lo (workIn n hi d₀ room₀ scanned))
+  pub same : (scanned : ℕ) → seenIn r n d room (scanned + 1) ≡ seen (scanRow n (square n costs .cost) (signedAt v) (at rows) lo (workIn n hi d₀ room₀ scanned))
   pub frame : room ≡ roomWith n (listIn n room) (predecessorsIn n room) room₀

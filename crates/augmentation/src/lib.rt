@@ -6,7 +6,7 @@ ghost use lib.IntN.{_-ℤ_};
 ghost use lib.ListN.{length};
 ghost use Rattle.ints.specs.Parts.{Within};
 ghost use Rattle.lists.specs.Permutations.{at, table, exchange, Permutation};
-ghost use Rattle.assignment.specs.Pairings.{price};
+ghost use Rattle.assignment.specs.Pairings.{signedAt};
 ghost use Rattle.matrix.specs.Limits.{side, near};
 ghost use Rattle.rules.specs.declared.LastFree.the-variants.{At};
 ghost use Rattle.rules.specs.Block.{block};
@@ -111,8 +111,8 @@ fn number_columns(list: &mut [u32])
 
 // Each column as far as a row makes it: its reduced cost there.
 fn first_distances(n: usize, row: &[i32], v: &[i64], d: &mut [i64])
-    requires { ⌜ (length (now row) ≡ n) × (length (now v) ≡ n) × (length (now d) ≡ n) × ((j : ℕ) → Within near (price (now v) j)) ⌝ }
-    ensures { λ r. ⌜ now (d .exit) ≡ table n (λ j. price (now (row .entry)) j -ℤ price (now (v .entry)) j) ⌝ }
+    requires { ⌜ (length (now row) ≡ n) × (length (now v) ≡ n) × (length (now d) ≡ n) × ((j : ℕ) → Within near (signedAt (now v) j)) ⌝ }
+    ensures { λ r. ⌜ now (d .exit) ≡ table n (λ j. signedAt (now (row .entry)) j -ℤ signedAt (now (v .entry)) j) ⌝ }
 {
     let mut j = 0;
     while j < n {

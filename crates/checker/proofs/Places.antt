@@ -19,7 +19,7 @@ use Rattle.ints.proofs.Tests.{lt-ltZ, le-ltZ, le-or-lt}
 use Rattle.ints.proofs.Bits.{bits-injective}
 use Rattle.lists.specs.Runs.{first}
 use Rattle.lists.specs.Parts.{part}
-use Rattle.assignment.specs.Pairings.{price, square}
+use Rattle.assignment.specs.Pairings.{signedAt, square}
 use Rattle.matrix.specs.Limits.{K}
 use Rattle.matrix.proofs.SmallLimits.{K-small}
 use Rattle.matrix.proofs.First.{first-cong}
@@ -68,11 +68,11 @@ differ-bits {w} a b f g = by (eqb (ofZ w a) (ofZ w b)) refl
 
 -- The prices are over the cost in one row of costs with its price, at column j.
 abbrev pub overAt : List ℤ → ℤ → List ℤ → ℕ → Bool
-overAt row u vs j = ltZ (price row j) (u +ℤ price vs j)
+overAt row u vs j = ltZ (signedAt row j) (u +ℤ signedAt vs j)
 
 -- What is looked for in the part that holds row i is what is looked for in row i of the night.
-pub row-first : (n : ℕ) (costs us vs : List ℤ) (i : ℕ) → i < n → length costs ≡ n * n → (row : List ℤ) → row ≡ part (i * n) n costs → (u : ℤ) → u ≡ price us i
+pub row-first : (n : ℕ) (costs us vs : List ℤ) (i : ℕ) → i < n → length costs ≡ n * n → (row : List ℤ) → row ≡ part (i * n) n costs → (u : ℤ) → u ≡ signedAt us i
     → first (length row) (overAt row u vs) ≡ first n (over (square n costs) us vs i)
 row-first n costs us vs i l e row same u at =
     ap (λ (m : ℕ). first m (overAt row u vs)) (ap length same ∙ row-length n costs i l e)
-    ∙ first-cong n (overAt row u vs) (over (square n costs) us vs i) (λ j k. ap₂ ltZ (ap (λ (p : List ℤ). price p j) same ∙ row-at n costs i j k) (ap (λ (z : ℤ). z +ℤ price vs j) at))
+    ∙ first-cong n (overAt row u vs) (over (square n costs) us vs i) (λ j k. ap₂ ltZ (ap (λ (p : List ℤ). signedAt p j) same ∙ row-at n costs i j k) (ap (λ (z : ℤ). z +ℤ signedAt vs j) at))

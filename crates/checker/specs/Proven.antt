@@ -5,7 +5,7 @@ use Prim.Native.Nat.{ℕ, _*_, _≤_, _<_}
 use lib.IntN.{ℤ}
 use lib.ListN.{length, take}
 use Rattle.ints.specs.Parts.{Within}
-use Rattle.assignment.specs.Pairings.{Night, Pairing, square, Named, price}
+use Rattle.assignment.specs.Pairings.{Night, Pairing, square, Named, signedAt}
 use Rattle.assignment.specs.Prices.{Feasible, Tight, SparesNotBelow}
 use Rattle.matrix.specs.Limits.{side, K}
 use Rattle.matrix.specs.declared.Answer.{Answer}
@@ -25,12 +25,12 @@ pub record Sizes (n : ℕ) (costs : List ℤ) (cols rows : List ℕ) : Type 0 wh
 -- At least n prices, the first n of them in -10K..10K.
 pub record Prices (n : ℕ) (prices : List ℤ) : Type 0 where
   pub enough : n ≤ length prices
-  pub within : (i : ℕ) → i < n → Within (10 * K) (price prices i)
+  pub within : (i : ℕ) → i < n → Within (10 * K) (signedAt prices i)
 
 -- Sizes, ranges, names, and prices that are fair: feasible, and tight on the pairing.
 pub record Proven (n : ℕ) (costs : List ℤ) (cols rows : List ℕ) (us vs : List ℤ) : Type 0 where
   pub sizes : Sizes n costs cols rows
-  pub within : (k : ℕ) → k < length costs → Within K (price costs k)
+  pub within : (k : ℕ) → k < length costs → Within K (signedAt costs k)
   pub named : Named (square n costs) cols rows
   pub row-prices : Prices n us
   pub column-prices : Prices n vs

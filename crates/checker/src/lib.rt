@@ -9,7 +9,7 @@ ghost use lib.ListN.{length};
 ghost use Rattle.ints.specs.Parts.{Within};
 ghost use Rattle.lists.specs.Runs.{first};
 ghost use Rattle.lists.specs.Permutations.{at};
-ghost use Rattle.assignment.specs.Pairings.{price};
+ghost use Rattle.assignment.specs.Pairings.{signedAt};
 ghost use Rattle.matrix.specs.Answers.{valuesOf};
 ghost use Rattle.matrix.specs.Asked.{Listed, Shaped};
 ghost use Rattle.matrix.specs.Limits.{side, K};
@@ -74,7 +74,7 @@ fn not_cost(cost: i32, u: i64, v: i64) -> bool
 // Refusal 9 in one row: the first column at which the prices are over the cost, or the row's length.
 fn first_column_over(row: &[i32], u: i64, vs: &[i64]) -> usize
     requires { ⌜ Within (10 * K) u × Prices (length (now row)) (now vs) ⌝ }
-    ensures { λ r. ⌜ r ≡ first (length (now (row .entry))) (λ j. ltZ (price (now (row .entry)) j) (u +ℤ price (now (vs .entry)) j)) ⌝ }
+    ensures { λ r. ⌜ r ≡ first (length (now (row .entry))) (λ j. ltZ (signedAt (now (row .entry)) j) (u +ℤ signedAt (now (vs .entry)) j)) ⌝ }
 {
     let mut j = 0;
     while j < row.len() {

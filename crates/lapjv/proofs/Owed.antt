@@ -5,7 +5,7 @@ use native.Mathlib.Omega.{arith}
 use lib.IntN.{ℤ}
 use lib.ListN.{length}
 use Rattle.ints.specs.Parts.{Within}
-use Rattle.assignment.specs.Pairings.{price}
+use Rattle.assignment.specs.Pairings.{signedAt}
 use Rattle.matrix.specs.Limits.{side, K}
 use Rattle.rules.specs.Right.{Right}
 use Rattle.rules.proofs.Run.{run-right}
@@ -15,7 +15,7 @@ use Rattle.lapjv.specs.Solve.{Lent}
 use Rattle.lapjv.specs.Passes.{Passes}
 use Rattle.lapjv.proofs.Ready.{side-free}
 
-pub answer-owes : (n : ℕ) (costs : List ℤ) → n ≤ side → ((k : ℕ) → k < length costs → Within K (price costs k)) → Right n costs K (answer n costs)
+pub answer-owes : (n : ℕ) (costs : List ℤ) → n ≤ side → ((k : ℕ) → k < length costs → Within K (signedAt costs k)) → Right n costs K (answer n costs)
 answer-owes n costs small within = run-right n costs K (within-everywhere K costs within) (omega (arith, side-free))
 
 -- "A pass over F rows makes F to F*n looks; each search scans at most n-1 columns."

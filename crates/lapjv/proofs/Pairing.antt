@@ -9,7 +9,7 @@ use lib.ListN.{length, replicate}
 use Rattle.ints.specs.Parts.{Within}
 use Rattle.ints.proofs.Ranges.{within-mono}
 use Rattle.lists.specs.Permutations.{at}
-use Rattle.assignment.specs.Pairings.{price, square, total}
+use Rattle.assignment.specs.Pairings.{signedAt, square, total}
 use Rattle.matrix.specs.Limits.{K, near}
 use Rattle.matrix.specs.Asked.{Listed}
 use Rattle.matrix.proofs.SmallLimits.{K-small}
@@ -97,7 +97,7 @@ module _ (n : ℕ) (costs : List ℤ) (p : Pairable n costs) (cols rows : List �
       v-size = sizes .2;
       us-size = e;
       inside = inside;
-      prices-near = subst (λ (l : List ℤ). (j : ℕ) → j < n → Within near (price l j)) v-run
+      prices-near = subst (λ (l : List ℤ). (j : ℕ) → j < n → Within near (signedAt l j)) v-run
           (λ j l. near-five (let b = right .column-prices-between j l in record { low = omega arith; high = omega arith }));
     }
 

@@ -11,7 +11,7 @@ use lib.Seq.{take-at, drop-at}
 use Rattle.ints.specs.Parts.{Within}
 use Rattle.lists.specs.Permutations.{table}
 use Rattle.lists.proofs.Tables.{length-table, getD-table, getD-constant}
-use Rattle.assignment.specs.Pairings.{Least, price, square}
+use Rattle.assignment.specs.Pairings.{Least, signedAt, square}
 use Rattle.assignment.specs.Amounts.{ColumnAmounts, RowAmounts}
 use Rattle.assignment.proofs.Amounts.{withAmounts, column-amounts-made}
 use Rattle.matrix.specs.Limits.{side, K}
@@ -66,7 +66,7 @@ solver-row-surcharge n lent amount costs costs′ with-amounts p p′ =
 
 -- A night that passes, with amounts that keep every cost within K.
 pub amounts-pass : (n : ℕ) (lent : Lent) (amount : ℕ → ℤ) (costs : List ℤ) → Passes n costs lent
-    → ((k : ℕ) → k < n * n → Within K (price costs k +ℤ amount (k % n))) → Passes n (withAmounts n amount costs) lent
+    → ((k : ℕ) → k < n * n → Within K (signedAt costs k +ℤ amount (k % n))) → Passes n (withAmounts n amount costs) lent
 amounts-pass n lent amount costs p within = record {
   small = p .small;
   squared = size;
@@ -80,7 +80,7 @@ amounts-pass n lent amount costs p within = record {
 }
   where
     plus : ℕ → ℤ
-    plus k = price costs k +ℤ amount (k % n)
+    plus k = signedAt costs k +ℤ amount (k % n)
 
     size : length (withAmounts n amount costs) ≡ n * n
     size = length-table (n * n) plus

@@ -4,7 +4,7 @@ use mathlib.Core.Path.{_≡_}
 use Prim.Native.Nat.{ℕ, _*_, _≤_, _<_}
 use lib.IntN.{ℤ}
 use lib.ListN.{length}
-use Rattle.assignment.specs.Pairings.{price}
+use Rattle.assignment.specs.Pairings.{signedAt}
 use Rattle.ints.specs.Parts.{Within}
 use Rattle.lapjv.specs.declared.Solved.the-variants.{Paired, Refused}
 use Rattle.lapjv.specs.declared.Solved.{Solved}
@@ -25,4 +25,4 @@ pub record CanPrice (n : ℕ) (costs : List ℤ) (cols : List ℕ) (v us : List 
   pub v-size : length v ≡ n
   pub us-size : length us ≡ n
   pub inside : (i : ℕ) → i < n → at cols i < n
-  pub prices-near : (j : ℕ) → j < n → Within near (price v j)
+  pub prices-near : (j : ℕ) → j < n → Within near (signedAt v j)

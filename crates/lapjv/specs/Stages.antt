@@ -6,7 +6,7 @@ use lib.IntN.{ℤ, pos}
 use lib.ListN.{length, replicate}
 use Rattle.ints.specs.Parts.{Within}
 use Rattle.lists.specs.Parts.{part}
-use Rattle.assignment.specs.Pairings.{price, square}
+use Rattle.assignment.specs.Pairings.{signedAt, square}
 use Rattle.matrix.specs.Limits.{side, K}
 use Rattle.rules.specs.Columns.{columnReduction}
 use Rattle.rules.specs.Rows.{Passing, rowReduction, passEnd}
@@ -20,7 +20,7 @@ pub record Pairable (n : ℕ) (costs : List ℤ) : Type 0 where
   pub some : 1 ≤ n
   pub small : n ≤ side
   pub squared : length costs ≡ n * n
-  pub within : (k : ℕ) → Within K (price costs k)
+  pub within : (k : ℕ) → Within K (signedAt costs k)
 
 -- Lists of n entries, and a room of 4n.
 pub record Sized (n : ℕ) (cols rows : List ℕ) (v : List ℤ) (room : List ℕ) : Type 0 where

@@ -7,7 +7,7 @@ use lib.IntN.{ℤ, pos, negsuc}
 use lib.ListN.{length, drop}
 use Rattle.lists.specs.Permutations.{at}
 use Rattle.layout.specs.Slips.{slipLength}
-use Rattle.assignment.specs.Pairings.{price}
+use Rattle.assignment.specs.Pairings.{signedAt}
 use Rattle.matrix.specs.Limits.{K}
 use Rattle.matrix.specs.Refusals.{numberOf, placeOf}
 use Rattle.matrix.specs.declared.Refusal.{Refusal}
@@ -63,7 +63,7 @@ rowLine row column cost = decimal row ++ (blank ++ (decimal column ++ (blank ++ 
 -- The lines of the first k rows.
 unfoldable pub rowLines : ℕ → List ℤ → List ℕ → ℕ → List ℕ
 rowLines n costs cols zero = []
-rowLines n costs cols (suc k) = rowLines n costs cols k ++ rowLine k (at cols k) (price costs (k * n + at cols k))
+rowLines n costs cols (suc k) = rowLines n costs cols k ++ rowLine k (at cols k) (signedAt costs (k * n + at cols k))
 
 -- "A refusal is the one line "refused N place P"."
 unfoldable pub refusedLine : Refusal → List ℕ

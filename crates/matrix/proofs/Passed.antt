@@ -9,7 +9,7 @@ use lib.IntN.{ℤ}
 use lib.ListN.{length}
 use Rattle.ints.specs.Parts.{Within}
 use Rattle.lists.specs.Permutations.{at}
-use Rattle.assignment.specs.Pairings.{price}
+use Rattle.assignment.specs.Pairings.{signedAt}
 use Rattle.matrix.specs.Limits.{side, K}
 use Rattle.matrix.specs.Tests.{short}
 use Rattle.matrix.specs.Verdicts.{Passes, _then_}
@@ -56,10 +56,10 @@ rooms-long n indices numbers =
       λ h. b .1 (s .1 (le-ltb indices (4 * n) (h .0)), t .1 (le-ltb numbers n (h .1))),
     )
 
-pub costs-within : (costs : List ℤ) → Passes (costsWithin costs) ↔ ((k : ℕ) → k < length costs → Within K (price costs k))
+pub costs-within : (costs : List ℤ) → Passes (costsWithin costs) ↔ ((k : ℕ) → k < length costs → Within K (signedAt costs k))
 costs-within costs =
     let t = failsAt-iff _ _ _ _ in
-    (λ e k l. outside-within K (price costs k) .0 (t .0 e k l), λ h. t .1 (λ k l. outside-within K (price costs k) .1 (h k l)))
+    (λ e k l. outside-within K (signedAt costs k) .0 (t .0 e k l), λ h. t .1 (λ k l. outside-within K (signedAt costs k) .1 (h k l)))
 
 pub columns-inside : (count n : ℕ) (cols : List ℕ) → Passes (columnsInside count n cols) ↔ ((i : ℕ) → i < count → at cols i < n)
 columns-inside count n cols =
@@ -67,11 +67,11 @@ columns-inside count n cols =
     (λ e i l. leb-false n (at cols i) (t .0 e i l), λ h. t .1 (λ i l. lt-leb n (at cols i) (h i l)))
 
 pub prices-within : (m n : ℕ) (us vs : List ℤ) → Passes (pricesWithin m n us vs)
-    ↔ (((i : ℕ) → i < m → Within (10 * K) (price us i)) × ((j : ℕ) → j < n → Within (10 * K) (price vs j)))
+    ↔ (((i : ℕ) → i < m → Within (10 * K) (signedAt us i)) × ((j : ℕ) → j < n → Within (10 * K) (signedAt vs j)))
 prices-within m n us vs =
     let b = then-iff _ _ in
     let s = failsAt-iff _ _ _ _ in
     let t = failsAt-iff _ _ _ _ in (
-      λ e. (λ i l. outside-within (10 * K) (price us i) .0 (s .0 (b .0 e .0) i l), λ j l. outside-within (10 * K) (price vs j) .0 (t .0 (b .0 e .1) j l)),
-      λ h. b .1 (s .1 (λ i l. outside-within (10 * K) (price us i) .1 (h .0 i l)), t .1 (λ j l. outside-within (10 * K) (price vs j) .1 (h .1 j l))),
+      λ e. (λ i l. outside-within (10 * K) (signedAt us i) .0 (s .0 (b .0 e .0) i l), λ j l. outside-within (10 * K) (signedAt vs j) .0 (t .0 (b .0 e .1) j l)),
+      λ h. b .1 (s .1 (λ i l. outside-within (10 * K) (signedAt us i) .1 (h .0 i l)), t .1 (λ j l. outside-within (10 * K) (signedAt vs j) .1 (h .1 j l))),
     )

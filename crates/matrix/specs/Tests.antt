@@ -7,7 +7,7 @@ use lib.IntN.{ℤ, pos, negℤ}
 use lib.Signed.{ltZ}
 use lib.ListN.{length}
 use Rattle.lists.specs.Permutations.{at}
-use Rattle.assignment.specs.Pairings.{price}
+use Rattle.assignment.specs.Pairings.{signedAt}
 use Rattle.matrix.specs.Limits.{side, K}
 use Rattle.matrix.specs.Verdicts.{_then_, failsIf, failsAt}
 use Rattle.matrix.specs.Refusals.{SideOver, CostsLength, ListLength, RoomShort, CostOutside, ColumnOutside, PriceOutside}
@@ -47,7 +47,7 @@ roomsLong n indices numbers = failsIf RoomShort 1 (ltb indices (4 * n)) then fai
 
 -- 5, "a cost outside -K..K", "first, in row order".
 abbrev pub costsWithin : List ℤ → Verdict
-costsWithin costs = failsAt CostOutside (λ k. k) (length costs) (λ k. outside (pos K) (price costs k))
+costsWithin costs = failsAt CostOutside (λ k. k) (length costs) (λ k. outside (pos K) (signedAt costs k))
 
 -- 6, "a listed column is not below n", "first row", of the rows listed.
 abbrev pub columnsInside : ℕ → ℕ → List ℕ → Verdict
@@ -56,5 +56,5 @@ columnsInside count n cols = failsAt ColumnOutside (λ i. i) count (λ i. leb n 
 -- 8, "a price outside -10K..10K", "first: row i, then n+j": m row prices, then n column prices.
 abbrev pub pricesWithin : ℕ → ℕ → List ℤ → List ℤ → Verdict
 pricesWithin m n us vs =
-    failsAt PriceOutside (λ i. i) m (λ i. outside (pos (10 * K)) (price us i))
-    then failsAt PriceOutside (λ j. m + j) n (λ j. outside (pos (10 * K)) (price vs j))
+    failsAt PriceOutside (λ i. i) m (λ i. outside (pos (10 * K)) (signedAt us i))
+    then failsAt PriceOutside (λ j. m + j) n (λ j. outside (pos (10 * K)) (signedAt vs j))

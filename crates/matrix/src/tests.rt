@@ -8,7 +8,7 @@ ghost use lib.ListN.{length};
 ghost use Rattle.ints.specs.Parts.{Within};
 ghost use Rattle.lists.specs.Runs.{first};
 ghost use Rattle.lists.specs.Permutations.{at};
-ghost use Rattle.assignment.specs.Pairings.{price};
+ghost use Rattle.assignment.specs.Pairings.{signedAt};
 ghost use Rattle.matrix.specs.Limits.{side, K};
 ghost use Rattle.matrix.specs.Verdicts.{Passes, _then_, failsIf};
 ghost use Rattle.matrix.specs.Tests.{short, outside, sideWithin, costsFill, listsLong, shaped, listShort, roomsLong, costsWithin, columnsInside, pricesWithin};
@@ -132,7 +132,7 @@ pub fn rooms_long(before: Verdict, n: usize, indices: usize, numbers: usize) -> 
 
 // Refusal 5: the first cost outside -K..K, in row order, or their number where there is none.
 fn first_cost_outside(costs: &[i32]) -> usize
-    ensures { λ r. ⌜ r ≡ first (length (now (costs .entry))) (λ k. outside (pos K) (price (now (costs .entry)) k)) ⌝ }
+    ensures { λ r. ⌜ r ≡ first (length (now (costs .entry))) (λ k. outside (pos K) (signedAt (now (costs .entry)) k)) ⌝ }
 {
     let mut k = 0;
     while k < costs.len() {
@@ -191,7 +191,7 @@ pub fn columns_inside(before: Verdict, count: usize, n: usize, cols: &[u32]) -> 
 // Refusal 8: the first of n prices outside -10K..10K, or n where there is none.
 fn first_price_outside(n: usize, prices: &[i64]) -> usize
     requires { ⌜ n ≤ length (now prices) ⌝ }
-    ensures { λ r. ⌜ r ≡ first n (λ i. outside (pos (10 * K)) (price (now (prices .entry)) i)) ⌝ }
+    ensures { λ r. ⌜ r ≡ first n (λ i. outside (pos (10 * K)) (signedAt (now (prices .entry)) i)) ⌝ }
 {
     let mut i = 0;
     while i < n {

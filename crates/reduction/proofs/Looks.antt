@@ -13,7 +13,7 @@ use lib.ListN.{length, set, length-set}
 use Rattle.lists.specs.Permutations.{at}
 use Rattle.lists.proofs.Runs.{upward-keeps}
 use Rattle.lists.proofs.Cases.{cond-cases}
-use Rattle.assignment.specs.Pairings.{square, price}
+use Rattle.assignment.specs.Pairings.{square, signedAt}
 use Rattle.rules.specs.declared.Choice.{Choice}
 use Rattle.rules.specs.declared.Pass.{Pass}
 use Rattle.rules.specs.Lowest.{reduced, twoLowest}
@@ -29,7 +29,7 @@ module _ (n : ℕ) (cost : ℕ → ℕ → ℤ) (x : Passing) where
   -- What the free row at `current` chooses.
   abbrev pub choiceOf : Choice
   choiceOf =
-      choose n (isEarly n (x .pass)) (x .prices) (x .pairs .rows) (twoLowest n (reduced cost (price (x .prices)) (at (x .frees) (x .pass .current))))
+      choose n (isEarly n (x .pass)) (x .prices) (x .pairs .rows) (twoLowest n (reduced cost (signedAt (x .prices)) (at (x .frees) (x .pass .current))))
 
   pub look-is : (w : Choice) → w ≡ choiceOf → (f : List ℕ) (q : Pass) → placedAt f q ≡ displace n (x .frees) (x .pass) (w .back) (at (x .pairs .rows) (w .column))
       → let i = at (x .frees) (x .pass .current) in

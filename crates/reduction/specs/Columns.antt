@@ -8,7 +8,7 @@ use Rattle.ints.specs.Parts.{Within}
 use Rattle.lists.specs.Runs.{upward}
 use Rattle.lists.specs.Permutations.{at}
 use Rattle.lists.specs.Parts.{part, replaced}
-use Rattle.assignment.specs.Pairings.{square, price}
+use Rattle.assignment.specs.Pairings.{square, signedAt}
 use Rattle.rules.specs.declared.Low.{Low}
 use Rattle.rules.specs.declared.LeastSoFar.{LeastSoFar}
 use Rattle.rules.specs.declared.LeastSoFar.the-variants.{NoneYet, Of}
@@ -19,7 +19,7 @@ use Rattle.reduction.specs.Ranges.{Near, Square}
 
 -- Row i beside the lowest so far of column j.
 abbrev pub lowAt : ℕ → List ℤ → List ℤ → List ℕ → ℕ → Low
-lowAt i row v rows j = lower (low (price v j) (at rows j)) (low (price row j) i)
+lowAt i row v rows j = lower (low (signedAt v j) (at rows j)) (low (signedAt row j) i)
 
 -- The claims that three lists hold.
 abbrev pub claimsOf : List ℕ → List ℕ → List ℕ → Claims

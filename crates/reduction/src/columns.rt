@@ -6,7 +6,7 @@ ghost use lib.ListN.{length};
 ghost use Rattle.lists.specs.Runs.{downward};
 ghost use Rattle.lists.specs.Permutations.{at, table};
 ghost use Rattle.lists.specs.Parts.{part, replaced};
-ghost use Rattle.assignment.specs.Pairings.{price, square};
+ghost use Rattle.assignment.specs.Pairings.{signedAt, square};
 ghost use Rattle.rules.specs.Lowest.{least, leastBut};
 ghost use Rattle.rules.specs.Columns.{Claims, minimum, claim, claims, lessLeast, lowerColumn, transfer, columnReduction};
 ghost use Rattle.ints.specs.Parts.{Within};
@@ -100,7 +100,7 @@ fn least(found: LeastSoFar, h: i64) -> LeastSoFar
 // The first column from `from` on whose reduced cost may change the least so far.
 fn next_least(row: &[i32], v: &[i64], from: usize, found: LeastSoFar) -> usize
     requires { ⌜ (length (now v) ≡ length (now row)) × Near (length (now row)) (now v) × (from ≤ length (now row)) ⌝ }
-    ensures { λ r. ⌜ NextLeast (λ k. price (now (row .entry)) k -ℤ price (now (v .entry)) k) found from (length (now (row .entry))) r ⌝ }
+    ensures { λ r. ⌜ NextLeast (λ k. signedAt (now (row .entry)) k -ℤ signedAt (now (v .entry)) k) found from (length (now (row .entry))) r ⌝ }
 {
     match found {
         LeastSoFar::NoneYet => from,
@@ -111,7 +111,7 @@ fn next_least(row: &[i32], v: &[i64], from: usize, found: LeastSoFar) -> usize
 // The least reduced cost of a row over the columns but j.
 fn least_other(row: &[i32], v: &[i64], j: usize) -> LeastSoFar
     requires { ⌜ (length (now v) ≡ length (now row)) × Near (length (now row)) (now v) ⌝ }
-    ensures { λ r. ⌜ r ≡ leastBut (length (now (row .entry))) (λ k. price (now (row .entry)) k -ℤ price (now (v .entry)) k) j ⌝ }
+    ensures { λ r. ⌜ r ≡ leastBut (length (now (row .entry))) (λ k. signedAt (now (row .entry)) k -ℤ signedAt (now (v .entry)) k) j ⌝ }
 {
     let mut found = LeastSoFar::NoneYet;
     let mut k = 0;

@@ -3,7 +3,7 @@ ghost use mathlib.Core.Path.{_≡_};
 ghost use Prim.Native.Nat.{_+_, _<_, _≤_};
 ghost use lib.ListN.{length};
 ghost use Rattle.ints.specs.Parts.{Within};
-ghost use Rattle.assignment.specs.Pairings.{price, square};
+ghost use Rattle.assignment.specs.Pairings.{signedAt, square};
 ghost use Rattle.rules.specs.Rows.{keepPrice, lowerPrice, choose, displace, isEarly, look, rowReduction};
 ghost use Rattle.matrix.specs.Limits.{side, near};
 ghost use Rattle.reduction.specs.Ranges.{Near};
@@ -27,7 +27,7 @@ fn keep_price(v: &[i64], j: usize) -> Choice
 
 // Column j1 at a price lowered by second minus lowest, v2 minus v1.
 fn lower_price(v: &[i64], j1: usize, v1: i64, v2: i64) -> Choice
-    requires { ⌜ (j1 < length (now v)) × Within near (price (now v) j1) × Within (near + near) v1 × Within (near + near) v2 ⌝ }
+    requires { ⌜ (j1 < length (now v)) × Within near (signedAt (now v) j1) × Within (near + near) v1 × Within (near + near) v2 ⌝ }
     ensures { λ r. ⌜ r ≡ lowerPrice (now (v .entry)) j1 v1 v2 ⌝ }
 {
     let v1_new = v[j1] - (v2 - v1);

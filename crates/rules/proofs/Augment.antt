@@ -12,7 +12,7 @@ use Rattle.ints.proofs.Ranges.{zarith}
 use Rattle.ints.proofs.Shapes.{zlin}
 use Rattle.lists.specs.Permutations.{at}
 use Rattle.lists.proofs.Injections.{source, source-of, reached}
-use Rattle.assignment.specs.Pairings.{price}
+use Rattle.assignment.specs.Pairings.{signedAt}
 use Rattle.rules.specs.Lowest.{reduced, lowest}
 use Rattle.rules.specs.Columns.{Pairs}
 use Rattle.rules.specs.Search.{Work, Found, search, newPrices}
@@ -96,18 +96,18 @@ module _ (n : ℕ) (cost : ℕ → ℕ → ℤ) (v : ℕ → ℤ) (p : Pairs) (s
 pub record Gain (n : ℕ) (cost : ℕ → ℕ → ℤ) (x : Progress) (s : ℕ) (y : Progress) : Type 0 where
   pub agree : Agree n (y .pairs)
   pub prices-size : length (y .prices) ≡ n
-  pub fair : Fair n cost (price (y .prices)) (at (y .pairs .rows))
+  pub fair : Fair n cost (signedAt (y .prices)) (at (y .pairs .rows))
   pub start-paired : Paired (y .pairs) s
   pub still-paired : (i : ℕ) → i < n → Paired (x .pairs) i → Paired (y .pairs) i
   pub still-unpaired : (i : ℕ) → i ≢ s → Unpaired n (x .pairs) i → Unpaired n (y .pairs) i
-  pub not-risen : (k : ℕ) → k < n → price (y .prices) k ≤ℤ price (x .prices) k
-  pub reached-free : (j : ℕ) × (j < n) × (n ≤ at (x .pairs .rows) j) × (price (y .prices) j ≡ price (x .prices) j)
-  pub free-untouched : (k : ℕ) → k < n → n ≤ at (y .pairs .rows) k → (n ≤ at (x .pairs .rows) k) × (price (y .prices) k ≡ price (x .prices) k)
+  pub not-risen : (k : ℕ) → k < n → signedAt (y .prices) k ≤ℤ signedAt (x .prices) k
+  pub reached-free : (j : ℕ) × (j < n) × (n ≤ at (x .pairs .rows) j) × (signedAt (y .prices) j ≡ signedAt (x .prices) j)
+  pub free-untouched : (k : ℕ) → k < n → n ≤ at (y .pairs .rows) k → (n ≤ at (x .pairs .rows) k) × (signedAt (y .prices) k ≡ signedAt (x .prices) k)
   pub scanned-few : y .scanned ≤ x .scanned + (n - 1)
 
 module _ (n : ℕ) (cost : ℕ → ℕ → ℤ) (x : Progress) (s : ℕ) (C : Can n cost x s) where
   abbrev v : ℕ → ℤ
-  v = price (x .prices)
+  v = signedAt (x .prices)
 
   abbrev row : ℕ → ℕ
   row = at (x .pairs .rows)
@@ -143,9 +143,9 @@ module _ (n : ℕ) (cost : ℕ → ℕ → ℤ) (x : Progress) (s : ℕ) (C : Ca
         prices-size = new-size n cost (x .prices) row s fl (C .prices-size) (C .fair) f μ E;
         fair = record {
           paired-at-minimum = λ k l h. ⊎-elim
-              (λ a. subst (λ (i : ℕ). AtMinimum n cost (price (newPrices f (x .prices))) i k) (sym a)
+              (λ a. subst (λ (i : ℕ). AtMinimum n cost (signedAt (newPrices f (x .prices))) i k) (sym a)
               (new-fair n cost (x .prices) row s fl (C .prices-size) (C .fair) f μ E .paired-at-minimum k l (omega (arith, a))))
-              (λ a. subst (λ (i : ℕ). AtMinimum n cost (price (newPrices f (x .prices))) i k) (sym (a .1)) (minimum k l (a .0 .1)))
+              (λ a. subst (λ (i : ℕ). AtMinimum n cost (signedAt (newPrices f (x .prices))) i k) (sym (a .1)) (minimum k l (a .0 .1)))
               (W .row-from k l);
         };
         start-paired = W .start-paired;

@@ -11,7 +11,7 @@ use lib.IntN.{ℤ}
 use lib.ListN.{length}
 use Rattle.lists.specs.Permutations.{at}
 use Rattle.lists.proofs.Runs.{upward-keeps}
-use Rattle.assignment.specs.Pairings.{price}
+use Rattle.assignment.specs.Pairings.{signedAt}
 use Rattle.rules.specs.Augmentation.{Progress, augment, augments}
 use Rattle.rules.specs.Asked.{Fair, Paired, Agree, Can}
 use Rattle.rules.proofs.Kept.{Listed}
@@ -22,7 +22,7 @@ module _ (n : ℕ) (cost : ℕ → ℕ → ℤ) (frees : List ℕ) (count : ℕ)
   pub record Augmented (x₀ : Progress) (m : ℕ) (x : Progress) : Type 0 where
     pub agree : Agree n (x .pairs)
     pub prices-size : length (x .prices) ≡ n
-    pub fair : Fair n cost (price (x .prices)) (at (x .pairs .rows))
+    pub fair : Fair n cost (signedAt (x .prices)) (at (x .pairs .rows))
     pub listed : Listed n (x .pairs) frees (λ t. (m ≤ t) × (t < count))
     pub scanned-few : x .scanned ≤ x₀ .scanned + m * (n - 1)
 

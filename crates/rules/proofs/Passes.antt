@@ -15,7 +15,7 @@ use Rattle.ints.specs.Parts.{Within}
 use Rattle.lists.specs.Permutations.{at}
 use Rattle.lists.proofs.Runs.{upward-none, upward-last, upward-stays}
 use Rattle.lists.proofs.Cases.{cond-cases}
-use Rattle.assignment.specs.Pairings.{price}
+use Rattle.assignment.specs.Pairings.{signedAt}
 use Rattle.rules.specs.declared.Choice.{Choice}
 use Rattle.rules.specs.declared.Pass.{Pass}
 use Rattle.rules.specs.Lowest.{reduced, twoLowest}
@@ -151,7 +151,7 @@ module _ (n : ℕ) (cost : ℕ → ℕ → ℤ) (one : 1 ≤ n) (K : ℕ) (costs
             (λ t. cond-cases back (Goes p′) a b (λ u. goes-back (ltb-true h n t) (early u)) (λ u. goes-on (ltb-true h n t)))
             (λ t. nobody (ltb-false h n t))
 
-      settle-passed : (w : Choice) → Lowers n cost (price (x .prices)) i (w .column) (w .price)
+      settle-passed : (w : Choice) → Lowers n cost (signedAt (x .prices)) i (w .column) (w .price)
           → (w .back ≡ true → x .pass .looks + 1 < (x .pass .current + 1) * n) → x .pass .looks ≡ m → Passed (suc m) (settle n x i w)
       settle-passed w low early z =
           let j = w .column in
@@ -179,7 +179,7 @@ module _ (n : ℕ) (cost : ℕ → ℕ → ℤ) (one : 1 ≤ n) (K : ℕ) (costs
 
       pub look-passed : x .pass .looks ≡ m → Passed (suc m) (look n cost x)
       look-passed z =
-          let f : ℕ → ℤ = reduced cost (price (x .prices)) i in
+          let f : ℕ → ℤ = reduced cost (signedAt (x .prices)) i in
           let r = choose-fits n cost one (x .prices) (x .pairs .rows) i (isEarly n (x .pass)) (twoLowest n f) (twoLowest-is n f one) in
           settle-passed (choose n (isEarly n (x .pass)) (x .prices) (x .pairs .rows) (twoLowest n f)) (r .lowers)
           (λ b. ltb-true (x .pass .looks + 1) ((x .pass .current + 1) * n) (r .back-early b)) z

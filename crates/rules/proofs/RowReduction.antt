@@ -14,7 +14,7 @@ use Rattle.ints.specs.Parts.{Within}
 use Rattle.lists.specs.Permutations.{at}
 use Rattle.lists.proofs.Runs.{upward-keeps}
 use Rattle.lists.proofs.Cases.{cond-cases, lt-or-le}
-use Rattle.assignment.specs.Pairings.{price}
+use Rattle.assignment.specs.Pairings.{signedAt}
 use Rattle.rules.specs.Columns.{Stage}
 use Rattle.rules.specs.Rows.{Passing, look, looks, passStart, passEnd, rowReduction}
 use Rattle.rules.proofs.Kept.{within-five}
@@ -143,7 +143,7 @@ module _ (n : ℕ) (cost : ℕ → ℕ → ℤ) (one : 1 ≤ n) (K : ℕ) (costs
       pub current-below : x .pass .current < n
       pub left-few : x .pass .left ≤ x .pass .current
       pub row-below : at (x .frees) (x .pass .current) < n
-      pub prices-within : (k : ℕ) → Within (5 * K) (price (x .prices) k)
+      pub prices-within : (k : ℕ) → Within (5 * K) (signedAt (x .prices) k)
       pub looks-counted : x .pass .looks ≡ m
       pub looks-below : m < s .count * n
 

@@ -20,7 +20,7 @@ use Rattle.lists.specs.Permutations.{at, Permutation}
 use Rattle.lists.proofs.Permutations.{exchange-second, exchange-first, exchange-other, exchange-permutation}
 use Rattle.lists.proofs.Leaving.{Either, goes-on, is-left}
 use Rattle.lists.proofs.Cases.{cond-cases, lt-or-le, here-or-elsewhere}
-use Rattle.assignment.specs.Pairings.{price}
+use Rattle.assignment.specs.Pairings.{signedAt}
 use Rattle.rules.specs.Lowest.{reduced}
 use Rattle.rules.specs.Search.{Work, Hit, same, reachBy, join, afterLowering, scanColumn}
 use Rattle.rules.specs.Asked.{Fair}
@@ -39,7 +39,7 @@ abbrev pub place : Work → ℕ → ℕ
 place w t = at (w .list) t
 
 abbrev pub far : Work → ℕ → ℤ
-far w j = price (w .distances) j
+far w j = signedAt (w .distances) j
 
 -- A search from row s; `floor` is at most each reduced cost of row s.
 module _ (n : ℕ) (cost : ℕ → ℕ → ℤ) (v : ℕ → ℤ) (row : ℕ → ℕ) (s : ℕ) (floor : ℤ) where

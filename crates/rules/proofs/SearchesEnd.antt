@@ -4,7 +4,7 @@ use mathlib.Core.List.{List}
 use lib.IntN.{ℤ}
 use Rattle.ints.specs.Parts.{Within}
 use Rattle.lists.specs.Permutations.{at}
-use Rattle.assignment.specs.Pairings.{price, square}
+use Rattle.assignment.specs.Pairings.{signedAt, square}
 use Rattle.rules.specs.Columns.{free}
 use Rattle.rules.specs.Rows.{passEnd}
 use Rattle.rules.specs.Search.{search}
@@ -21,7 +21,7 @@ use Rattle.rules.proofs.Stages.{stages-right, search-ready}
 -- From any state from which row s can get a column.
 pub can-ends : (n : ℕ) (cost : ℕ → ℕ → ℤ) (x : Progress) (s : ℕ) → Can n cost x s → SearchEnds n cost x s
 can-ends n cost x s C =
-    let v = price (x .prices) in
+    let v = signedAt (x .prices) in
     let row = at (x .pairs .rows) in
     let some = one n cost x s C in
     let floor = floorOf n cost v s some in
@@ -40,7 +40,7 @@ can-ends n cost x s C =
     }
 
 -- Search m of the run, for each of the rows left after both passes.
-pub run-searches-end : (n : ℕ) → 1 ≤ n → n ≤ free → (costs : List ℤ) (K : ℕ) → ((k : ℕ) → Within K (price costs k)) → (m : ℕ)
+pub run-searches-end : (n : ℕ) → 1 ≤ n → n ≤ free → (costs : List ℤ) (K : ℕ) → ((k : ℕ) → Within K (signedAt costs k)) → (m : ℕ)
     → let cost = square n costs .cost in
     let s = passEnd (stages n cost .passTwo) in
     m < s .count → SearchEnds n cost (augments n cost (s .frees) m (record { pairs = s .pairs; prices = s .prices; scanned = 0 })) (at (s .frees) m)

@@ -10,7 +10,7 @@ use Rattle.ints.specs.Parts.{Within}
 use Rattle.ints.proofs.Shapes.{zlin}
 use Rattle.lists.specs.Permutations.{at}
 use Rattle.lists.proofs.Runs.{upward-none}
-use Rattle.assignment.specs.Pairings.{price}
+use Rattle.assignment.specs.Pairings.{signedAt}
 use Rattle.rules.specs.Columns.{free, Stage, columnReduction}
 use Rattle.rules.specs.Rows.{looks, passStart, passEnd, rowReduction}
 use Rattle.rules.specs.Augmentation.{Progress, augment, augments, augmentation}
@@ -49,10 +49,10 @@ module _ (n : ℕ) (cost : ℕ → ℕ → ℤ) (one : 1 ≤ n) (K : ℕ) (costs
   gain-kept x s y κ g =
       let f = g .reached-free .0 in
       let lf = g .reached-free .1 in
-      let ef : price (y .prices) f ≡ v₀ f = g .reached-free .3 ∙ κ .free-untouched f lf (g .reached-free .2) in
-      let untouched : (k : ℕ) → k < n → n ≤ at (y .pairs .rows) k → price (y .prices) k ≡ v₀ k =
+      let ef : signedAt (y .prices) f ≡ v₀ f = g .reached-free .3 ∙ κ .free-untouched f lf (g .reached-free .2) in
+      let untouched : (k : ℕ) → k < n → n ≤ at (y .pairs .rows) k → signedAt (y .prices) k ≡ v₀ k =
       λ k l h. g .free-untouched k l h .1 ∙ κ .free-untouched k l (g .free-untouched k l h .0) in
-      let all = all-near n cost K costs (price (y .prices)) (at (y .pairs .rows)) f lf (record { low = omega (zlin, ef, first-low n cost one K costs f .low) }) (g .fair)
+      let all = all-near n cost K costs (signedAt (y .prices)) (at (y .pairs .rows)) f lf (record { low = omega (zlin, ef, first-low n cost one K costs f .low) }) (g .fair)
       (λ k l h. record { low = omega (zlin, untouched k l h, first-low n cost one K costs k .low) }) in
       record {
         agree = g .agree;
@@ -60,7 +60,7 @@ module _ (n : ℕ) (cost : ℕ → ℕ → ℤ) (one : 1 ≤ n) (K : ℕ) (costs
         fair = g .fair;
         free-untouched = untouched;
         not-risen = λ k l. omega (zlin, g .not-risen k l, κ .not-risen k l);
-        single = λ a k l. subst (λ (z : ℕ). price (y .prices) z ≡ v₀ z) (let e : f ≡ k = omega arith in e) ef;
+        single = λ a k l. subst (λ (z : ℕ). signedAt (y .prices) z ≡ v₀ z) (let e : f ≡ k = omega arith in e) ef;
         bounds = record { one = f; one-low = record { low = omega (arith, all f lf .low) }; others-low = λ k l d. all k l };
       }
 
@@ -96,7 +96,7 @@ module _ (n : ℕ) (cost : ℕ → ℕ → ℤ) (one : 1 ≤ n) (K : ℕ) (costs
     -- What search m finds: a state from which its row can get a column, and prices within 5K.
     pub record SearchReady (m : ℕ) (x : Progress) : Type 0 where
       pub can : Can n cost x (at (s .frees) m)
-      pub prices-within : (k : ℕ) → Within (5 * K) (price (x .prices) k)
+      pub prices-within : (k : ℕ) → Within (5 * K) (signedAt (x .prices) k)
       pub scanned-few : x .scanned ≤ m * (n - 1)
 
     pub search-ready : (m : ℕ) → m < s .count → SearchReady m (augments n cost (s .frees) m x₀)

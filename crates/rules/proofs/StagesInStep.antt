@@ -18,7 +18,7 @@ use Rattle.lists.proofs.Runs.{upward-keeps}
 use Rattle.lists.proofs.InStep.{upward-both, upward-picture}
 use Rattle.lists.proofs.Tables.{length-table, getD-constant, table-cong}
 use Rattle.lists.proofs.Cases.{cond-cases, cond-both, set-below}
-use Rattle.assignment.specs.Pairings.{price}
+use Rattle.assignment.specs.Pairings.{signedAt}
 use Rattle.assignment.specs.Amounts.{risen}
 use Rattle.assignment.proofs.Amounts.{price-risen}
 use Rattle.rules.specs.declared.Low.{Low}
@@ -91,11 +91,11 @@ module _ (n : ℕ) (one : 1 ≤ n) (amount : ℕ → ℤ) (cost cost′ : ℕ �
 
   lowerColumn-risen : (i j : ℕ) (v : List ℤ) → i < n → length v ≡ n → lowerColumn n cost′ i j (risen amount v) ≡ risen amount (lowerColumn n cost i j v)
   lowerColumn-risen i j v l size =
-      ap (λ (h : LeastSoFar). set (risen amount v) j (lessLeast (price (risen amount v) j) h))
-      (leastBut-cong n (reduced cost′ (price (risen amount v)) i) (reduced cost (price v) i) j (λ k m. reduced-same n amount cost cost′ added v size i k l m))
-      ∙ set-risen amount v j (lessLeast (price v j) (leastBut n (reduced cost (price v) i) j))
-      (lessLeast (price (risen amount v) j) (leastBut n (reduced cost (price v) i) j))
-      (λ m. lessLeast-plus (price v j) (price (risen amount v) j) (amount j) (leastBut n (reduced cost (price v) i) j) (price-risen amount v j m))
+      ap (λ (h : LeastSoFar). set (risen amount v) j (lessLeast (signedAt (risen amount v) j) h))
+      (leastBut-cong n (reduced cost′ (signedAt (risen amount v)) i) (reduced cost (signedAt v) i) j (λ k m. reduced-same n amount cost cost′ added v size i k l m))
+      ∙ set-risen amount v j (lessLeast (signedAt v j) (leastBut n (reduced cost (signedAt v) i) j))
+      (lessLeast (signedAt (risen amount v) j) (leastBut n (reduced cost (signedAt v) i) j))
+      (λ m. lessLeast-plus (signedAt v j) (signedAt (risen amount v) j) (amount j) (leastBut n (reduced cost (signedAt v) i) j) (price-risen amount v j m))
 
   -- A row of the transfer, in step.
   abbrev StepTransfer : Transfer → Transfer → Type 0
@@ -145,12 +145,12 @@ module _ (n : ℕ) (one : 1 ≤ n) (amount : ℕ → ℤ) (cost cost′ : ℕ �
     Settles w w′ = settle n (risenPassing amount x) i w′ ≡ risenPassing amount (settle n x i w)
 
     keeps : (j : ℕ) → Settles (keepPrice v j) (keepPrice (risen amount v) j)
-    keeps j = ap (withPrices (settle n x i (keepPrice v j))) (set-risen amount v j (price v j) (price (risen amount v) j) (price-risen amount v j))
+    keeps j = ap (withPrices (settle n x i (keepPrice v j))) (set-risen amount v j (signedAt v j) (signedAt (risen amount v) j) (price-risen amount v j))
 
     lowers : (j : ℕ) (a b : ℤ) → Settles (lowerPrice v j a b) (lowerPrice (risen amount v) j a b)
     lowers j a b =
         ap (withPrices (settle n x i (lowerPrice v j a b)))
-        (set-risen amount v j (price v j -ℤ (b -ℤ a)) (price (risen amount v) j -ℤ (b -ℤ a)) (λ l. omega (zlin, price-risen amount v j l, dif (price v j) (b -ℤ a))))
+        (set-risen amount v j (signedAt v j -ℤ (b -ℤ a)) (signedAt (risen amount v) j -ℤ (b -ℤ a)) (λ l. omega (zlin, price-risen amount v j l, dif (signedAt v j) (b -ℤ a))))
 
     choose-settles : (early : Bool) (rows : List ℕ) (t : TwoLowest) → Settles (choose n early v rows t) (choose n early (risen amount v) rows t)
     choose-settles early rows (One a) = keeps (a .place)
@@ -187,11 +187,11 @@ module _ (n : ℕ) (one : 1 ≤ n) (amount : ℕ → ℤ) (cost cost′ : ℕ �
       let v = x .prices in
       let early = isEarly n (x .pass) in
       let rows = x .pairs .rows in (
-        settle-range x i (choose n early v rows (twoLowest n (reduced cost (price v) i))) R,
+        settle-range x i (choose n early v rows (twoLowest n (reduced cost (signedAt v) i))) R,
         ap (λ (t : TwoLowest). settle n (risenPassing amount x) i (choose n early (risen amount v) rows t))
-            (twoLowest-cong n (reduced cost′ (price (risen amount v)) i) (reduced cost (price v) i) one
+            (twoLowest-cong n (reduced cost′ (signedAt (risen amount v)) i) (reduced cost (signedAt v) i) one
             (λ j l. reduced-same n amount cost cost′ added v (R .prices-size) i j (R .rows-below (x .pass .current)) l))
-            ∙ choose-settles x i early rows (twoLowest n (reduced cost (price v) i)),
+            ∙ choose-settles x i early rows (twoLowest n (reduced cost (signedAt v) i)),
       )
 
   looks-step : (count m : ℕ) (x : Passing) → InRange n (x .prices) (x .frees)
@@ -210,14 +210,14 @@ module _ (n : ℕ) (one : 1 ≤ n) (amount : ℕ → ℤ) (cost cost′ : ℕ �
 
   addDistance-risen : (d : List ℤ) (minimum : ℤ) (j : ℕ) (v : List ℤ) → addDistance d minimum j (risen amount v) ≡ risen amount (addDistance d minimum j v)
   addDistance-risen d minimum j v =
-      let z = price d j -ℤ minimum in
-      set-risen amount v j (price v j +ℤ z) (price (risen amount v) j +ℤ z) (λ l. omega (zlin, price-risen amount v j l, sum (price v j) z, sum (price v j) (amount j)))
+      let z = signedAt d j -ℤ minimum in
+      set-risen amount v j (signedAt v j +ℤ z) (signedAt (risen amount v) j +ℤ z) (λ l. omega (zlin, price-risen amount v j l, sum (signedAt v j) z, sum (signedAt v j) (amount j)))
 
   newPrices-risen : (f : Found) (v : List ℤ) → newPrices f (risen amount v) ≡ risen amount (newPrices f v)
   unfolding newPrices
   newPrices-risen f v =
       let w = f .work in
-      let m = price (w .distances) (at (w .list) (f .cursor .lo)) in
+      let m = signedAt (w .distances) (at (w .list) (f .cursor .lo)) in
       upward-both (λ k x y. y ≡ risen amount x) 0 (f .ready) (λ k. addDistance (w .distances) m (at (w .list) k)) (λ k. addDistance (w .distances) m (at (w .list) k)) v (risen amount v)
       (omega arith) refl
       (λ k x y a l e. ap (addDistance (w .distances) m (at (w .list) k)) e ∙ addDistance-risen (w .distances) m (at (w .list) k) x)
@@ -226,7 +226,7 @@ module _ (n : ℕ) (one : 1 ≤ n) (amount : ℕ → ℤ) (cost cost′ : ℕ �
   unfolding newPrices
   newPrices-length f v =
       let w = f .work in
-      let m = price (w .distances) (at (w .list) (f .cursor .lo)) in
+      let m = signedAt (w .distances) (at (w .list) (f .cursor .lo)) in
       upward-keeps (λ k x. length x ≡ length v) 0 (f .ready) (λ k. addDistance (w .distances) m (at (w .list) k)) v (omega arith) refl
       (λ k x a l e. simp length-set e)
 
@@ -237,10 +237,10 @@ module _ (n : ℕ) (one : 1 ≤ n) (amount : ℕ → ℤ) (cost cost′ : ℕ �
   augment-step x s l size =
       let v = x .prices in
       let row = at (x .pairs .rows) in
-      let f = search n cost (price v) row s in (
+      let f = search n cost (signedAt v) row s in (
         newPrices-length f v ∙ size,
         ap (augmentBy n (risenState amount x) s)
-            (search-same n cost′ cost (price (risen amount v)) (price v) row (λ i j h m. reduced-same n amount cost cost′ added v size i j h m) s l)
+            (search-same n cost′ cost (signedAt (risen amount v)) (signedAt v) row (λ i j h m. reduced-same n amount cost cost′ added v size i j h m) s l)
             ∙ ap (λ (z : List ℤ). record { pairs = augmentBy n x s f .pairs; prices = z; scanned = x .scanned + f .work .scanned }) (newPrices-risen f v),
       )
 

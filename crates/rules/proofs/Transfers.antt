@@ -19,7 +19,7 @@ use Rattle.lists.specs.Permutations.{at, table}
 use Rattle.lists.proofs.Runs.{upward-keeps}
 use Rattle.lists.proofs.Tables.{length-table, getD-table}
 use Rattle.lists.proofs.Cases.{cond-cases, here-or-elsewhere}
-use Rattle.assignment.specs.Pairings.{price}
+use Rattle.assignment.specs.Pairings.{signedAt}
 use Rattle.rules.specs.declared.LeastSoFar.{LeastSoFar}
 use Rattle.rules.specs.declared.LeastSoFar.the-variants.{NoneYet, Of}
 use Rattle.rules.specs.Lowest.{reduced, leastBut}
@@ -80,7 +80,7 @@ module _ (n : ℕ) (cost : ℕ → ℕ → ℤ) (one : 1 ≤ n) (K : ℕ) (costs
     -- The rows below m are done; the columns of later rows still have their minimum as price.
     pub record Transferred (m : ℕ) (x : Transfer) : Type 0 where
       pub kept : Kept n cost K costs v₀ pairs (x .prices)
-      pub waiting : (k : ℕ) → k < n → m ≤ row k → price (x .prices) k ≡ v₀ k
+      pub waiting : (k : ℕ) → k < n → m ≤ row k → signedAt (x .prices) k ≡ v₀ k
       pub frees-size : length (x .frees) ≡ n
       pub count-few : x .count ≤ m
       pub listed-below : (t : ℕ) → t < x .count → at (x .frees) t < m
@@ -88,7 +88,7 @@ module _ (n : ℕ) (cost : ℕ → ℕ → ℤ) (one : 1 ≤ n) (K : ℕ) (costs
       pub once : (t u : ℕ) → t < x .count → u < x .count → at (x .frees) t ≡ at (x .frees) u → t ≡ u
       pub unmarked-listed : (i : ℕ) → i < m → at (s .marks) i ≡ 0 → (t : ℕ) × (t < x .count) × (at (x .frees) t ≡ i)
 
-    start-kept : (v : List ℤ) → length v ≡ n → ((k : ℕ) → k < n → price v k ≡ v₀ k) → Kept n cost K costs v₀ pairs v
+    start-kept : (v : List ℤ) → length v ≡ n → ((k : ℕ) → k < n → signedAt v k ≡ v₀ k) → Kept n cost K costs v₀ pairs v
     start-kept v z e = record {
       agree = agree;
       prices-size = z;
@@ -141,7 +141,7 @@ module _ (n : ℕ) (cost : ℕ → ℕ → ℤ) (one : 1 ≤ n) (K : ℕ) (costs
           }
 
       -- A claimed row: the list stays, and so do the prices of columns whose rows come later.
-      passes : 1 ≤ at (s .marks) m → (v : List ℤ) → Kept n cost K costs v₀ pairs v → ((k : ℕ) → k < n → suc m ≤ row k → price v k ≡ price (x .prices) k)
+      passes : 1 ≤ at (s .marks) m → (v : List ℤ) → Kept n cost K costs v₀ pairs v → ((k : ℕ) → k < n → suc m ≤ row k → signedAt v k ≡ signedAt (x .prices) k)
           → Transferred (suc m) (record { prices = v; frees = x .frees; count = x .count })
       passes z v κ e = record {
         kept = κ;
@@ -158,7 +158,7 @@ module _ (n : ℕ) (cost : ℕ → ℕ → ℤ) (one : 1 ≤ n) (K : ℕ) (costs
       lowers : at (s .marks) m ≡ 1 → Transferred (suc m) (record { prices = lowerColumn n cost m (at (s .cols) m) (x .prices); frees = x .frees; count = x .count })
       lowers z =
           let j = at (s .cols) m in
-          let v : ℕ → ℤ = price (x .prices) in
+          let v : ℕ → ℤ = signedAt (x .prices) in
           let o = leastBut n (reduced cost v m) j in
           let lj : j < n = C .cols-below m lm in
           let hj : row j ≡ m = C .marked-held m lm (omega arith) .1 in
@@ -197,7 +197,7 @@ module _ (n : ℕ) (cost : ℕ → ℕ → ℤ) (one : 1 ≤ n) (K : ℕ) (costs
     transferred-all = upward-keeps Transferred 0 n (transfer n cost s) (untransferred n cost) (omega arith) transferred-none (λ k x a l T. transferred-more k l x T)
 
     -- At each row the prices lie within 5K.
-    pub transferred-within : (m : ℕ) (x : Transfer) → Transferred m x → (k : ℕ) → Within (5 * K) (price (x .prices) k)
+    pub transferred-within : (m : ℕ) (x : Transfer) → Transferred m x → (k : ℕ) → Within (5 * K) (signedAt (x .prices) k)
     transferred-within m x T =
         within-five n cost K costs v₀ (first-low n cost one K costs) pairs (x .prices) (T .kept) (first-within n cost one K costs)
 

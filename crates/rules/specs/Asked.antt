@@ -6,7 +6,7 @@ use lib.IntN.{ℤ}
 use lib.Signed.{_≤ℤ_}
 use lib.ListN.{length}
 use Rattle.lists.specs.Permutations.{at}
-use Rattle.assignment.specs.Pairings.{price}
+use Rattle.assignment.specs.Pairings.{signedAt}
 use Rattle.rules.specs.Lowest.{reduced}
 use Rattle.rules.specs.Columns.{Pairs}
 use Rattle.rules.specs.Augmentation.{Progress}
@@ -39,6 +39,6 @@ module _ (n : ℕ) (cost : ℕ → ℕ → ℤ) where
 pub record Can (n : ℕ) (cost : ℕ → ℕ → ℤ) (x : Progress) (s : ℕ) : Type 0 where
   pub agree : Agree n (x .pairs)
   pub prices-size : length (x .prices) ≡ n
-  pub fair : Fair n cost (price (x .prices)) (at (x .pairs .rows))
+  pub fair : Fair n cost (signedAt (x .prices)) (at (x .pairs .rows))
   pub start-below : s < n
   pub start-unpaired : Unpaired n (x .pairs) s

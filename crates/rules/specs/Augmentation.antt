@@ -7,7 +7,7 @@ use lib.IntN.{ℤ}
 use lib.Dec.{eqb}
 use Rattle.lists.specs.Runs.{upward, Turn, on, left, until}
 use Rattle.lists.specs.Permutations.{at}
-use Rattle.assignment.specs.Pairings.{price}
+use Rattle.assignment.specs.Pairings.{signedAt}
 use Rattle.rules.specs.Columns.{Pairs, Stage}
 use Rattle.rules.specs.Rows.{takeColumn}
 use Rattle.rules.specs.Search.{Found, search, newPrices}
@@ -49,7 +49,7 @@ augmentBy n x s f = record {
 
 -- Row s gets a column.
 abbrev pub augment : ℕ → (ℕ → ℕ → ℤ) → Progress → ℕ → Progress
-augment n cost x s = augmentBy n x s (search n cost (price (x .prices)) (at (x .pairs .rows)) s)
+augment n cost x s = augmentBy n x s (search n cost (signedAt (x .prices)) (at (x .pairs .rows)) s)
 
 -- The first m rows of the list, in list order.
 unfoldable pub augments : ℕ → (ℕ → ℕ → ℤ) → List ℕ → ℕ → Progress → Progress

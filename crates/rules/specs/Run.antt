@@ -3,7 +3,7 @@ use mathlib.Core.List.{List}
 use Prim.Native.Nat.{ℕ}
 use lib.IntN.{ℤ}
 use Rattle.lists.specs.Permutations.{at, table}
-use Rattle.assignment.specs.Pairings.{square, price, total}
+use Rattle.assignment.specs.Pairings.{square, signedAt, total}
 use Rattle.rules.specs.declared.Counts.{Counts}
 use Rattle.rules.specs.Lowest.{reduced}
 use Rattle.rules.specs.Columns.{Stage, columnReduction}
@@ -37,7 +37,7 @@ countsOf r = record {
 
 -- "Row price is cost minus v at the paired column."
 abbrev pub rowPrices : ℕ → (ℕ → ℕ → ℤ) → List ℕ → List ℤ → List ℤ
-rowPrices n cost cols v = table n (λ i. reduced cost (price v) i (at cols i))
+rowPrices n cost cols v = table n (λ i. reduced cost (signedAt v) i (at cols i))
 
 -- What a night comes to: the column of each row, the row of each column, the prices, the total and the counts.
 pub record Result : Type 0 where

@@ -13,7 +13,7 @@ use Rattle.ints.specs.Parts.{Within}
 use Rattle.layout.specs.Trailers.{sideOf}
 use Rattle.layout.specs.Slips.{slipOf, slipLength}
 use Rattle.layout.proofs.Fields.{length-fields}
-use Rattle.assignment.specs.Pairings.{price}
+use Rattle.assignment.specs.Pairings.{signedAt}
 use Rattle.matrix.specs.Limits.{K}
 use Rattle.matrix.specs.Refusals.{codeOf}
 use Rattle.matrix.specs.Asked.{Tellable}
@@ -54,7 +54,7 @@ pub record Readable (room n : ℕ) (costs : List ℤ) : Type 0 where
   pub few : n ≤ 64
   pub roomy : slipLength n ≤ room
   pub squared : length costs ≡ n * n
-  pub within : (k : ℕ) → k < length costs → Within K (price costs k)
+  pub within : (k : ℕ) → k < length costs → Within K (signedAt costs k)
 
 -- A refusal is told by one number.
 abbrev pub Right : ℕ → Read → Type 0

@@ -15,7 +15,7 @@ use Rattle.layout.specs.Trailers.{sheetMark, distanceOf, sideOf, editionOf, mar
 use Rattle.layout.specs.Sheets.{sheetOf, costsAt}
 use Rattle.layout.specs.Slips.{slipLength}
 use Rattle.layout.proofs.Sheets.{sheet-length, sheet-distance, sheet-side, sheet-edition, sheet-mark, sheet-costs}
-use Rattle.assignment.specs.Pairings.{price}
+use Rattle.assignment.specs.Pairings.{signedAt}
 use Rattle.matrix.specs.Limits.{K}
 use Rattle.matrix.specs.Verdicts.{Passes}
 use Rattle.matrix.proofs.SmallLimits.{K-small}
@@ -56,7 +56,7 @@ module _ (note : List ℕ) (n : ℕ) (costs : List ℤ) (room : ℕ) (g : Built 
       let d : distanceOf sheet ≡ 4 * length costs + 0 = omega (arith, distance-read, g .squared) in
       let count : sideOf sheet * sideOf sheet ≡ length costs = ap (λ (m : ℕ). m * m) side-read ∙ sym (g .squared) in
       ap₂ (λ (far many : ℕ). costsAt far many sheet) d count
-      ∙ sheet-costs 1 note n costs [] (λ k l. fits-four (price costs k) (g .inside k (omega (arith, g .squared))))
+      ∙ sheet-costs 1 note n costs [] (λ k l. fits-four (signedAt costs k) (g .inside k (omega (arith, g .squared))))
 
   all-passed : Passes (sheetTests room sheet)
   unfolding sheetTests

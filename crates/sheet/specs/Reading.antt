@@ -11,7 +11,7 @@ use Rattle.layout.specs.Values.{valueOf}
 use Rattle.layout.specs.Trailers.{sheetMark, distanceOf, sideOf, editionOf, unmarked}
 use Rattle.layout.specs.Sheets.{sheetOf, costsAt}
 use Rattle.layout.specs.Slips.{slipLength}
-use Rattle.assignment.specs.Pairings.{price}
+use Rattle.assignment.specs.Pairings.{signedAt}
 use Rattle.matrix.specs.Limits.{K}
 use Rattle.matrix.specs.Verdicts.{_then_, failsIf}
 use Rattle.matrix.specs.Tests.{costsWithin}
@@ -69,6 +69,6 @@ read room sheet = readIf sheet (sheetTests room sheet)
 pub record Built (note : List ℕ) (n : ℕ) (costs : List ℤ) (room : ℕ) : Type 0 where
   pub side : n ≤ sheetSide
   pub squared : length costs ≡ n * n
-  pub inside : (k : ℕ) → k < n * n → Within K (price costs k)
+  pub inside : (k : ℕ) → k < n * n → Within K (signedAt costs k)
   pub short : length (sheetOf note n costs) ≤ sheetMost
   pub roomy : slipLength n ≤ room

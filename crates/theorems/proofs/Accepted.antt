@@ -9,7 +9,7 @@ use lib.IntN.{ℤ}
 use lib.ListN.{length, take, drop}
 use lib.Seq.{take-at}
 use Rattle.ints.specs.Parts.{Within}
-use Rattle.assignment.specs.Pairings.{Least, Named, price, square, total}
+use Rattle.assignment.specs.Pairings.{Least, Named, signedAt, square, total}
 use Rattle.assignment.proofs.Longer.{total-first}
 use Rattle.matrix.specs.Limits.{side, K}
 use Rattle.matrix.specs.declared.Answer.the-variants.{Total}
@@ -28,7 +28,7 @@ use Rattle.lapjv.proofs.Owed.{answer-owes}
 use Rattle.lapjv.proofs.Tests.{passes-paired}
 use Rattle.theorems.proofs.Front.{proven-front}
 
-module _ (n : ℕ) (costs : List ℤ) (small : n ≤ side) (squared : length costs ≡ n * n) (within : (k : ℕ) → k < length costs → Within K (price costs k)) where
+module _ (n : ℕ) (costs : List ℤ) (small : n ≤ side) (squared : length costs ≡ n * n) (within : (k : ℕ) → k < length costs → Within K (signedAt costs k)) where
   abbrev found : Result
   found = answer n costs
 

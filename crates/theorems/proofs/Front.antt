@@ -6,14 +6,14 @@ use native.Mathlib.Omega.{arith}
 use lib.IntN.{ℤ, pos, _+ℤ_}
 use lib.ListN.{length, length-append, List·getD-append}
 use Rattle.lists.specs.Permutations.{at}
-use Rattle.assignment.specs.Pairings.{price, square}
+use Rattle.assignment.specs.Pairings.{signedAt, square}
 use Rattle.checker.specs.Proven.{Prices, Proven}
 
 -- What stands below n in a list of n entries with more behind it.
 at-front : (n : ℕ) (l t : List ℕ) → length l ≡ n → (i : ℕ) → i < n → at (l ++ t) i ≡ at l i
 at-front n l t e i h = List·getD-append l t 0 i (omega arith)
 
-price-front : (n : ℕ) (l t : List ℤ) → length l ≡ n → (i : ℕ) → i < n → price (l ++ t) i ≡ price l i
+price-front : (n : ℕ) (l t : List ℤ) → length l ≡ n → (i : ℕ) → i < n → signedAt (l ++ t) i ≡ signedAt l i
 price-front n l t e i h = List·getD-append l t (pos 0) i (omega arith)
 
 prices-front : (n : ℕ) (l t : List ℤ) → length l ≡ n → Prices n l → Prices n (l ++ t)
@@ -42,7 +42,7 @@ module _ (n : ℕ) (costs : List ℤ) (cols rows : List ℕ) (us vs : List ℤ) 
     feasible = record { under = λ i j l m e. rw (price-front n us u size-us i l, price-front n vs v size-vs j m) (f .feasible .under i j l m e) };
     tight = record {
       met = λ i l. ap₂ _+ℤ_ (price-front n us u size-us i l)
-          (ap (price (vs ++ v)) (column i l) ∙ price-front n vs v size-vs (at cols i) (f .named .inside i l))
+          (ap (signedAt (vs ++ v)) (column i l) ∙ price-front n vs v size-vs (at cols i) (f .named .inside i l))
           ∙ f .tight .met i l ∙ ap (square n costs .cost i) (sym (column i l));
     };
   }

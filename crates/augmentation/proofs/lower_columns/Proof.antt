@@ -13,7 +13,7 @@ use mir.Facts.{toZ-ofZ}
 use Rattle.ints.specs.Parts.{Within}
 use Rattle.ints.proofs.Bits.{read-back}
 use Rattle.lists.specs.Permutations.{at}
-use Rattle.assignment.specs.Pairings.{price}
+use Rattle.assignment.specs.Pairings.{signedAt}
 use Rattle.matrix.specs.Limits.{near}
 use Rattle.matrix.proofs.SmallLimits.{side-small}
 use Rattle.rules.specs.declared.ScanEnd.{ScanEnd}
@@ -39,14 +39,14 @@ distance : (c : tie.After-lowered Inv-loop μ-loop)
     → let l = c .before .before .before .before .before in
     let s = l .before .before .before in
     let j = getD (l .loop .room) (s .args .n + l .loop .k) 0 in
-    toZ w64 (ofZ w64 (c .lowered .result)) ≡ (price (s .args .row .now) j -ℤ price (s .args .v .now) j) -ℤ toZ w64 (ofZ w64 (s .args .h))
+    toZ w64 (ofZ w64 (c .lowered .result)) ≡ (signedAt (s .args .row .now) j -ℤ signedAt (s .args .v .now) j) -ℤ toZ w64 (ofZ w64 (s .args .h))
 distance c =
     let l = c .before .before .before .before .before in
     let s = l .before .before .before in
     let j = getD (l .loop .room) (s .args .n + l .loop .k) 0 in
     read-back w64 (c .lowered .result) (c .lowered .ok) ∙ c .lowered .ensures
-    ∙ ap₂ (λ (a b : ℤ). (a -ℤ b) -ℤ toZ w64 (ofZ w64 (s .args .h))) (read-back w32 (price (s .args .row .now) j) (c .before .before .lowered-arg .given))
-    (read-back w64 (price (s .args .v .now) j) (c .before .lowered-arg2 .given))
+    ∙ ap₂ (λ (a b : ℤ). (a -ℤ b) -ℤ toZ w64 (ofZ w64 (s .args .h))) (read-back w32 (signedAt (s .args .row .now) j) (c .before .before .lowered-arg .given))
+    (read-back w64 (signedAt (s .args .v .now) j) (c .before .lowered-arg2 .given))
 
 add-n2 : tie.Need-add-n2 Inv-loop μ-loop
 add-n2 c = omega (arith, side-small, c .before .before .pre .0 .small)
@@ -106,7 +106,7 @@ lowered-requires : tie.Need-lowered-requires Inv-loop μ-loop
 lowered-requires c κs =
     let s = c .before .before .before .before .before .before .before in
     let j = getD (c .before .before .before .before .loop .room) (s .args .n + c .before .before .before .before .loop .k) 0 in (
-      subst (Within near) (sym (read-back w64 (price (s .args .v .now) j) (c .lowered-arg2 .given))) (s .pre .0 .prices-near j),
+      subst (Within near) (sym (read-back w64 (signedAt (s .args .v .now) j) (c .lowered-arg2 .given))) (s .pre .0 .prices-near j),
       subst (Within (4 * near)) (sym (toZ-ofZ (s .fits .h))) (s .pre .3),
     )
 
@@ -174,7 +174,7 @@ returns c =
     let l = w .before .before .before .before .before in
     let s = l .before .before .before in
     let j = getD (l .loop .room) (s .args .n + l .loop .k) 0 in
-    let old : toZ w64 (ofZ w64 (price (l .loop .d) j)) ≡ price (l .loop .d) j = read-back w64 (price (l .loop .d) j) (c .before .before .before .before .if12 .given) in
+    let old : toZ w64 (ofZ w64 (signedAt (l .loop .d) j)) ≡ signedAt (l .loop .d) j = read-back w64 (signedAt (l .loop .d) j) (c .before .before .before .before .if12 .given) in
     told (toZ-ofZ (s .fits .h)) (toZ-ofZ (s .fits .minimum))
     (hit _ _ _ _ _ _ _ _ _ _ (l .loop .inv) (w .before .before .before .before .loop-test .taken) _ (distance w)
     (rw old at (c .before .before .before .if1 .taken)) (same-equal _ _ (ap (toZ w64) (c .before .before .if2 .taken))) (le-ltb _ _ (c .if3 .left)))
@@ -192,7 +192,7 @@ loop-again c =
     let s = l .before .before .before in
     let t = w .before .before .before .before .loop-test .taken in
     let j = getD (l .loop .room) (s .args .n + l .loop .k) 0 in
-    let old : toZ w64 (ofZ w64 (price (l .loop .d) j)) ≡ price (l .loop .d) j = read-back w64 (price (l .loop .d) j) (c .before .if12 .given) in
+    let old : toZ w64 (ofZ w64 (signedAt (l .loop .d) j)) ≡ signedAt (l .loop .d) j = read-back w64 (signedAt (l .loop .d) j) (c .before .if12 .given) in
     let x = toZ w64 (ofZ w64 (w .lowered .result)) in
     let xr : x ≡ w .lowered .result = read-back w64 (w .lowered .result) (w .lowered .ok) in
     ⊎-elim

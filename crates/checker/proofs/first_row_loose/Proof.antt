@@ -10,7 +10,7 @@ use lib.ListN.{length}
 use mir.Syntax.{w32, w64}
 use Rattle.ints.proofs.Bits.{read-back}
 use Rattle.lists.specs.Permutations.{at}
-use Rattle.assignment.specs.Pairings.{price, square}
+use Rattle.assignment.specs.Pairings.{signedAt, square}
 use Rattle.matrix.proofs.SmallLimits.{side-small}
 use Rattle.matrix.proofs.First.{Clear, clear-start, clear-more, found, ended}
 use Rattle.checker.specs.Tests.{differ, loose}
@@ -73,8 +73,8 @@ not-cost-requires c κs =
     let s = c .before .before .before .before .before .before .before in
     let i = c .before .before .before .before .before .loop .i in
     let j = at (s .args .cols .now) i in (
-      rw (read-back w64 (price (s .args .us .now) i) (c .before .not-cost-arg2 .given)) (s .pre .1 .within i (omega arith)),
-      rw (read-back w64 (price (s .args .vs .now) j) (c .not-cost-arg3 .given)) (s .pre .2 .within j (reached (c .before .before .before .before) .0)),
+      rw (read-back w64 (signedAt (s .args .us .now) i) (c .before .not-cost-arg2 .given)) (s .pre .1 .within i (omega arith)),
+      rw (read-back w64 (signedAt (s .args .vs .now) j) (c .not-cost-arg3 .given)) (s .pre .2 .within j (reached (c .before .before .before .before) .0)),
     )
 
 -- what the call answers is the test at i
@@ -85,8 +85,8 @@ tested c =
     let l = c .before .before .before .before .before .before .loop in
     let j = at (u .cols .now) (l .i) in
     c .not-cost .ensures
-    ∙ ap₂ differ (ap₂ _+ℤ_ (read-back w64 (price (u .us .now) (l .i)) (c .before .before .not-cost-arg2 .given)) (read-back w64 (price (u .vs .now) j) (c .before .not-cost-arg3 .given)))
-    (read-back w32 (price (u .costs .now) (l .start + j)) (c .before .before .before .not-cost-arg .given) ∙ ap (λ (start : ℕ). price (u .costs .now) (start + j)) (l .inv .1))
+    ∙ ap₂ differ (ap₂ _+ℤ_ (read-back w64 (signedAt (u .us .now) (l .i)) (c .before .before .not-cost-arg2 .given)) (read-back w64 (signedAt (u .vs .now) j) (c .before .not-cost-arg3 .given)))
+    (read-back w32 (signedAt (u .costs .now) (l .start + j)) (c .before .before .before .not-cost-arg .given) ∙ ap (λ (start : ℕ). signedAt (u .costs .now) (start + j)) (l .inv .1))
 
 returns : tie.Need-returns Inv-loop μ-loop
 returns c =

@@ -9,7 +9,7 @@ use lib.ListN.{length}
 use mir.Syntax.{w64}
 use Rattle.ints.proofs.Bits.{read-back}
 use Rattle.lists.specs.Runs.{first}
-use Rattle.assignment.specs.Pairings.{price, square}
+use Rattle.assignment.specs.Pairings.{signedAt, square}
 use Rattle.matrix.proofs.First.{Clear, clear-start, clear-more, found, ended}
 use Rattle.matrix.proofs.RowParts.{row-length}
 use Rattle.checker.specs.Tests.{over, overIn}
@@ -45,7 +45,7 @@ first-column-over-requires c κs =
     let s = c .before .before .before .before in
     let i = c .before .before .before .loop .i in
     let size = row-size (c .before) in (
-      rw (read-back w64 (price (s .args .us .now) i) (c .first-column-over-arg .given)) (s .pre .1 .within i (omega arith)),
+      rw (read-back w64 (signedAt (s .args .us .now) i) (c .first-column-over-arg .given)) (s .pre .1 .within i (omega arith)),
       record { enough = omega (arith, s .pre .2 .enough); within = λ j l. s .pre .2 .within j (omega arith) },
     )
 
@@ -58,7 +58,7 @@ tested c =
     let i = c .before .before .before .before .loop .i in
     let part = c .before .before .row in
     c .first-column-over .ensures
-    ∙ row-first (u .n) (u .costs .now) (u .us .now) (u .vs .now) i (omega arith) (s .pre .0) (part .result .now) (part .ensures) _ (read-back w64 (price (u .us .now) i) (c .before .first-column-over-arg .given))
+    ∙ row-first (u .n) (u .costs .now) (u .us .now) (u .vs .now) i (omega arith) (s .pre .0) (part .result .now) (part .ensures) _ (read-back w64 (signedAt (u .us .now) i) (c .before .first-column-over-arg .given))
 
 returns : tie.Need-returns Inv-loop μ-loop
 returns c =

@@ -10,7 +10,7 @@ use mir.Syntax.{w64}
 use Rattle.ints.proofs.Bits.{read-back}
 use Rattle.lists.specs.Runs.{first}
 use Rattle.lists.proofs.Runs.{first-le}
-use Rattle.assignment.specs.Pairings.{price, square}
+use Rattle.assignment.specs.Pairings.{signedAt, square}
 use Rattle.matrix.specs.Limits.{side}
 use Rattle.matrix.specs.Verdicts.{failsIf}
 use Rattle.matrix.specs.Refusals.{PricesOverCost}
@@ -64,7 +64,7 @@ first-column-over-requires c κs =
     let s = d .before .before in
     let i = c .before .before .before .first-row-over .result in
     let size = row-size (c .before) in (
-      rw (read-back w64 (price (s .args .us .now) i) (c .first-column-over-arg .given)) (shown d .2 .within i (c .before .before .if1 .left)),
+      rw (read-back w64 (signedAt (s .args .us .now) i) (c .first-column-over-arg .given)) (shown d .2 .within i (c .before .before .if1 .left)),
       record { enough = omega (arith, shown d .3 .enough); within = λ j l. shown d .3 .within j (omega arith) },
     )
 
@@ -77,7 +77,7 @@ found-column c =
     let i = c .before .before .before .before .first-row-over .result in
     let part = c .before .before .row in
     c .first-column-over .ensures
-    ∙ row-first (u .n) (u .costs .now) (u .us .now) (u .vs .now) i (c .before .before .before .if1 .left) (shown d .1) (part .result .now) (part .ensures) _ (read-back w64 (price (u .us .now) i) (c .before .first-column-over-arg .given))
+    ∙ row-first (u .n) (u .costs .now) (u .us .now) (u .vs .now) i (c .before .before .before .if1 .left) (shown d .1) (part .result .now) (part .ensures) _ (read-back w64 (signedAt (u .us .now) i) (c .before .first-column-over-arg .given))
 
 -- a place fits: both its row and what is found in it are at most n, and n is small
 place-small : (c : tie.After-first-column-over)

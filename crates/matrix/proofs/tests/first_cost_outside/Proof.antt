@@ -9,7 +9,7 @@ use lib.IntN.{ℤ, pos}
 use lib.ListN.{length}
 use mir.Syntax.{w64}
 use Rattle.ints.proofs.Bits.{read-back, read-wide, wide-fits}
-use Rattle.assignment.specs.Pairings.{price}
+use Rattle.assignment.specs.Pairings.{signedAt}
 use Rattle.matrix.specs.Limits.{K}
 use Rattle.matrix.specs.Tests.{outside}
 use Rattle.matrix.proofs.SmallLimits.{K-small}
@@ -18,7 +18,7 @@ use Rattle.matrix.proofs.tests.first_cost_outside.Statement.{statement}
 use Rattle.matrix.proofs.tests.first_cost_outside.Tie as tie
 
 abbrev test : List ℤ → ℕ → Bool
-test costs k = outside (pos K) (price costs k)
+test costs k = outside (pos K) (signedAt costs k)
 
 abbrev Inv-loop : tie.InvT-loop
 Inv-loop costs k₀ k = (k ≤ length costs) × Clear (test costs) k
@@ -36,7 +36,7 @@ shared-slice-copy-out-outside : tie.Need-shared-slice-copy-out-outside Inv-loop 
 shared-slice-copy-out-outside c = search needs
 
 cast-outside : tie.Need-cast-outside Inv-loop μ-loop
-cast-outside c = wide-fits (price (c .before .before .before .args .costs .now) (c .before .before .loop .k)) (c .outside-arg .given)
+cast-outside c = wide-fits (signedAt (c .before .before .before .args .costs .now) (c .before .before .loop .k)) (c .outside-arg .given)
 
 bound-requires : tie.Need-bound-requires Inv-loop μ-loop
 bound-requires c κs = search needs
@@ -48,7 +48,7 @@ outside-requires c κs =
 -- what the call answers is the test at k
 tested : (c : tie.After-outside Inv-loop μ-loop) → c .outside .result ≡ test (c .before .before .before .before .before .args .costs .now) (c .before .before .before .before .loop .k)
 tested c =
-    let x = price (c .before .before .before .before .before .args .costs .now) (c .before .before .before .before .loop .k) in
+    let x = signedAt (c .before .before .before .before .before .args .costs .now) (c .before .before .before .before .loop .k) in
     c .outside .ensures ∙ ap₂ outside (read-back w64 (c .before .bound .result) (c .before .bound .ok) ∙ c .before .bound .ensures) (read-wide x (c .before .before .outside-arg .given))
 
 returns : tie.Need-returns Inv-loop μ-loop

@@ -8,7 +8,7 @@ use borrow.Author.Needs.{needs}
 use lib.IntN.{ℤ, pos}
 use mir.Syntax.{w64}
 use Rattle.ints.proofs.Bits.{read-back}
-use Rattle.assignment.specs.Pairings.{price}
+use Rattle.assignment.specs.Pairings.{signedAt}
 use Rattle.matrix.specs.Limits.{K}
 use Rattle.matrix.specs.Tests.{outside}
 use Rattle.matrix.proofs.SmallLimits.{K-small}
@@ -17,7 +17,7 @@ use Rattle.matrix.proofs.tests.first_price_outside.Statement.{statement
 use Rattle.matrix.proofs.tests.first_price_outside.Tie as tie
 
 abbrev test : List ℤ → ℕ → Bool
-test prices i = outside (pos (10 * K)) (price prices i)
+test prices i = outside (pos (10 * K)) (signedAt prices i)
 
 abbrev Inv-loop : tie.InvT-loop
 Inv-loop n prices i₀ i = (i ≤ n) × Clear (test prices) i
@@ -44,7 +44,7 @@ outside-requires c κs =
 -- what the call answers is the test at i
 tested : (c : tie.After-outside Inv-loop μ-loop) → c .outside .result ≡ test (c .before .before .before .before .before .args .prices .now) (c .before .before .before .before .loop .i)
 tested c =
-    let x = price (c .before .before .before .before .before .args .prices .now) (c .before .before .before .before .loop .i) in
+    let x = signedAt (c .before .before .before .before .before .args .prices .now) (c .before .before .before .before .loop .i) in
     c .outside .ensures ∙ ap₂ outside (read-back w64 (c .before .price-bound .result) (c .before .price-bound .ok) ∙ c .before .price-bound .ensures) (read-back w64 x (c .before .before .outside-arg .given))
 
 returns : tie.Need-returns Inv-loop μ-loop

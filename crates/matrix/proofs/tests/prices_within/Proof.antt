@@ -5,7 +5,7 @@ use native.Mathlib.Omega.{arith}
 use borrow.Author.Needs.{needs}
 use lib.IntN.{pos}
 use Rattle.lists.proofs.Runs.{first-le}
-use Rattle.assignment.specs.Pairings.{price}
+use Rattle.assignment.specs.Pairings.{signedAt}
 use Rattle.matrix.specs.Limits.{K}
 use Rattle.matrix.specs.Tests.{outside}
 use Rattle.matrix.proofs.SmallLimits.{side-small}
@@ -40,7 +40,7 @@ add-fails-if : tie.Need-add-fails-if
 add-fails-if c =
     let d = c .before .before .before in
     let u = d .before .before .args in
-    omega (arith, side-small, d .before .before .pre (d .enum-told .given .1), c .first-price-outside2 .ensures, first-le (λ j. outside (pos (10 * K)) (price (u .vs .now) j)) (u .n))
+    omega (arith, side-small, d .before .before .pre (d .enum-told .given .1), c .first-price-outside2 .ensures, first-le (λ j. outside (pos (10 * K)) (signedAt (u .vs .now) j)) (u .n))
 
 fails-if-requires-2 : tie.Need-fails-if-requires-2
 fails-if-requires-2 c κs = search needs

@@ -10,7 +10,7 @@ use mir.Syntax.{w64}
 use mir.Val.{SFits}
 use mir.Facts.{toZ-ofZ}
 use Rattle.lists.specs.Permutations.{at}
-use Rattle.assignment.specs.Pairings.{square, price}
+use Rattle.assignment.specs.Pairings.{square, signedAt}
 use Rattle.rules.specs.declared.Choice.{Choice}
 use Rattle.rules.specs.Lowest.{reduced, twoLowest}
 use Rattle.rules.specs.Rows.{Passing, choose, isEarly}
@@ -50,7 +50,7 @@ find-umins-plain-requires c κs =
 
 two-is : (c : tie.After-find-umins-plain)
     → let s = c .before .before .before .before .before .before .before in
-    c .find-umins-plain .result ≡ twoLowest (s .args .n) (reduced (square (s .args .n) (s .args .costs .now) .cost) (price (s .args .v .now)) (row-of s))
+    c .find-umins-plain .result ≡ twoLowest (s .args .n) (reduced (square (s .args .n) (s .args .costs .now) .cost) (signedAt (s .args .v .now)) (row-of s))
 two-is c =
     let s = c .before .before .before .before .before .before .before in
     let r = c .before .before .row in
@@ -87,7 +87,7 @@ column c =
     let s = start c in
     let u = s .args in
     subst (λ (w : Choice). w .column < u .n) (sym (choice-is c))
-    (choose-below (u .n) (isEarly (u .n) (u .pass)) (u .v .now) (u .rows .now) (twoLowest (u .n) (reduced (square (u .n) (u .costs .now) .cost) (price (u .v .now)) (row-of s)))
+    (choose-below (u .n) (isEarly (u .n) (u .pass)) (u .v .now) (u .rows .now) (twoLowest (u .n) (reduced (square (u .n) (u .costs .now) .cost) (signedAt (u .v .now)) (row-of s)))
     (twoLowest-near (u .n) (u .costs .now) (u .v .now) (s .pre .squared) (s .pre .near-prices) (row-of s) (s .pre .row-below)))
 
 price-fits : (c : tie.After-struct-told) → SFits w64 (c .before .choose .result .price)
