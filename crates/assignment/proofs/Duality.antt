@@ -10,38 +10,38 @@ use Rattle.ints.proofs.Shapes.{zlin}
 use Rattle.lists.specs.Sums.{sum}
 use Rattle.lists.specs.Permutations.{at}
 use Rattle.lists.proofs.Sums.{sum-cong, sum-add, sum-le, sum-le-tight}
-use Rattle.assignment.specs.Pairings.{Night, Pairing, total, Least, price}
+use Rattle.assignment.specs.Pairings.{Night, Pairing, total, Least, signedAt}
 use Rattle.assignment.specs.Prices.{priced, Feasible, Tight, SparesNotBelow}
 use Rattle.assignment.proofs.Pairings.{pairing-injective}
 use Rattle.assignment.proofs.Columns.{columns-least, columns-least-only}
 
 -- What the prices of all rows and of the columns used come to.
 abbrev pub worth : Night → List ℤ → List ℤ → List ℕ → ℤ
-worth night us vs cols = sum (night .rows) (price us) +ℤ sum (night .rows) (λ i. price vs (at cols i))
+worth night us vs cols = sum (night .rowCount) (signedAt us) +ℤ sum (night .rowCount) (λ i. signedAt vs (at cols i))
 
 module _ (night : Night) (us vs : List ℤ) where
   abbrev paired : List ℕ → ℕ → ℤ
   paired cols i = priced us vs i (at cols i)
 
-  worth-paired : (cols : List ℕ) → sum (night .rows) (paired cols) ≡ worth night us vs cols
-  worth-paired cols = sum-add (night .rows) (price us) (λ i. price vs (at cols i))
+  worth-paired : (cols : List ℕ) → sum (night .rowCount) (paired cols) ≡ worth night us vs cols
+  worth-paired cols = sum-add (night .rowCount) (signedAt us) (λ i. signedAt vs (at cols i))
 
   -- A pairing's total, where the prices are tight on it: the row prices and the used column prices.
   pub tight-total : (cols : List ℕ) → Tight night us vs cols → total night cols ≡ worth night us vs cols
-  tight-total cols t = sym (sum-cong (night .rows) (paired cols) (λ i. night .cost i (at cols i)) (t .met)) ∙ worth-paired cols
+  tight-total cols t = sym (sum-cong (night .rowCount) (paired cols) (λ i. night .cost i (at cols i)) (t .met)) ∙ worth-paired cols
 
-  under-paired : Feasible night us vs → (cols : List ℕ) → Pairing night cols → (i : ℕ) → i < night .rows → paired cols i ≤ℤ night .cost i (at cols i)
+  under-paired : Feasible night us vs → (cols : List ℕ) → Pairing night cols → (i : ℕ) → i < night .rowCount → paired cols i ≤ℤ night .cost i (at cols i)
   under-paired fair cols p i l = fair .under i (at cols i) l (p .inside i l) (p .permitted i l)
 
   -- No pairing costs less than its prices come to.
   pub worth-total : Feasible night us vs → (cols : List ℕ) → Pairing night cols → worth night us vs cols ≤ℤ total night cols
   worth-total fair cols p =
-      omega (zlin, worth-paired cols, sum-le (night .rows) (paired cols) (λ i. night .cost i (at cols i)) (under-paired fair cols p))
+      omega (zlin, worth-paired cols, sum-le (night .rowCount) (paired cols) (λ i. night .cost i (at cols i)) (under-paired fair cols p))
 
   module _ (fair : Feasible night us vs) (cols : List ℕ) (p : Pairing night cols) (tight : Tight night us vs cols) (spares : SparesNotBelow night vs cols) where
-    used-least : (other : List ℕ) → Pairing night other → sum (night .rows) (λ i. price vs (at cols i)) ≤ℤ sum (night .rows) (λ i. price vs (at other i))
+    used-least : (other : List ℕ) → Pairing night other → sum (night .rowCount) (λ i. signedAt vs (at cols i)) ≤ℤ sum (night .rowCount) (λ i. signedAt vs (at other i))
     used-least other q =
-        columns-least (price vs) (night .rows) (at cols) (at other) (pairing-injective night cols p) (pairing-injective night other q) (spares .not-below)
+        columns-least (signedAt vs) (night .rowCount) (at cols) (at other) (pairing-injective night cols p) (pairing-injective night other q) (spares .not-below)
 
     -- The pairing is least.
     pub prices-least : Least night cols
@@ -52,14 +52,14 @@ module _ (night : Night) (us vs : List ℤ) where
     pub least-tight : (other : List ℕ) → Least night other → Tight night us vs other
     least-tight other o =
         record {
-          met = sum-le-tight (night .rows) (paired other) (λ i. night .cost i (at other i)) (under-paired fair other (o .pairing))
+          met = sum-le-tight (night .rowCount) (paired other) (λ i. night .cost i (at other i)) (under-paired fair other (o .pairing))
               (omega (zlin, o .least cols p, tight-total cols tight, used-least other (o .pairing), worth-paired other));
         }
 
     pub least-spares : (other : List ℕ) → Least night other → SparesNotBelow night vs other
     least-spares other o =
         record {
-          not-below = columns-least-only (price vs) (night .rows) (at cols) (at other) (pairing-injective night cols p)
+          not-below = columns-least-only (signedAt vs) (night .rowCount) (at cols) (at other) (pairing-injective night cols p)
               (pairing-injective night other (o .pairing)) (spares .not-below)
               (omega (zlin, o .least cols p, tight-total cols tight, worth-total fair other (o .pairing)));
         }

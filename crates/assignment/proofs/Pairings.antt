@@ -9,12 +9,12 @@ use Rattle.lists.proofs.Permutations.{injective-back, inverse, inverse-back}
 use Rattle.assignment.specs.Pairings.{Night, Pairing, Named}
 
 module _ (night : Night) (cols : List ℕ) where
-  pub pairing-injective : Pairing night cols → Injective (night .rows) (night .columns) (at cols)
+  pub pairing-injective : Pairing night cols → Injective (night .rowCount) (night .columnCount) (at cols)
   pairing-injective p = record { below = p .inside; once = p .apart }
 
   -- Two lists that name each other are a pairing, where the places are allowed.
-  pub named-pairing : (rows : List ℕ) → length cols ≡ night .rows → Named night cols rows
-      → ((i : ℕ) → i < night .rows → night .allowed i (at cols i) ≡ true) → Pairing night cols
+  pub named-pairing : (rows : List ℕ) → length cols ≡ night .rowCount → Named night cols rows
+      → ((i : ℕ) → i < night .rowCount → night .allowed i (at cols i) ≡ true) → Pairing night cols
   named-pairing rows size named permitted =
       record {
         size = size;
@@ -24,5 +24,5 @@ module _ (night : Night) (cols : List ℕ) where
       }
 
   -- And each pairing is named back by a list, the inverse.
-  pub pairing-named : Pairing night cols → Named night cols (inverse (at cols) (night .rows) (night .columns))
+  pub pairing-named : Pairing night cols → Named night cols (inverse (at cols) (night .rowCount) (night .columnCount))
   pairing-named p = record { inside = p .inside; back = inverse-back (pairing-injective p) }

@@ -9,7 +9,7 @@ use Rattle.lists.specs.Sums.{sum}
 use Rattle.lists.specs.Permutations.{at, Permutation}
 use Rattle.lists.proofs.Injections.{reached, sum-permuted}
 use Rattle.lists.proofs.Permutations.{back-back}
-use Rattle.assignment.specs.Pairings.{Pairing, total, Least, Named, price, square}
+use Rattle.assignment.specs.Pairings.{Pairing, total, Least, Named, signedAt, square}
 use Rattle.assignment.specs.Prices.{Feasible, Tight, SparesNotBelow}
 use Rattle.assignment.proofs.Pairings.{pairing-injective, named-pairing}
 use Rattle.assignment.proofs.Duality.{tight-total, prices-least, least-iff}
@@ -32,10 +32,10 @@ module _ (n : ℕ) (costs : List ℤ) where
 
   -- The total is the sum of all prices.
   pub square-tight-total : (us vs : List ℤ) (cols : List ℕ) → Pairing (square n costs) cols → Tight (square n costs) us vs cols
-      → total (square n costs) cols ≡ sum n (price us) +ℤ sum n (price vs)
+      → total (square n costs) cols ≡ sum n (signedAt us) +ℤ sum n (signedAt vs)
   square-tight-total us vs cols p tight =
       tight-total (square n costs) us vs cols tight
-      ∙ ap (λ (z : ℤ). sum n (price us) +ℤ z) (sum-permuted (price vs) (pairing-injective (square n costs) cols p))
+      ∙ ap (λ (z : ℤ). sum n (signedAt us) +ℤ z) (sum-permuted (signedAt vs) (pairing-injective (square n costs) cols p))
 
   -- Two lists that name each other are a pairing, and the rows name the columns back.
   pub square-named-pairing : (cols rows : List ℕ) → length cols ≡ n → Named (square n costs) cols rows → Pairing (square n costs) cols

@@ -14,18 +14,19 @@ use Rattle.lists.proofs.Runs.{upward-none, upward-last}
 use Rattle.lists.specs.Permutations.{at}
 use Rattle.lists.proofs.Injections.{reached}
 use Rattle.lists.proofs.Parts.{part-at}
-use Rattle.assignment.specs.Pairings.{price, square}
+use Rattle.assignment.specs.Pairings.{signedAt, square}
 use Rattle.matrix.specs.Limits.{side, near}
-use Rattle.matrix.proofs.Limits.{side-small}
+use Rattle.matrix.proofs.SmallLimits.{side-small}
 use Rattle.rules.specs.declared.Reached.{Reached}
 use Rattle.rules.specs.Columns.{Pairs}
 use Rattle.rules.specs.Search.{Found}
-use Rattle.rules.specs.Augmentation.{flips, flipped, State, augment, augments, augmentation}
+use Rattle.rules.specs.Augmentation.{flips, flipped, Progress, augment, augments, augmentation}
+use Rattle.rules.specs.Asked.{Can}
 use Rattle.rules.proofs.Pairs.{free-column}
 use Rattle.rules.proofs.Scan.{place}
 use Rattle.rules.proofs.Search.{Ended}
 use Rattle.rules.proofs.Flips.{flips-left}
-use Rattle.rules.proofs.Augment.{Can, one, floorOf, found-good, Tree, rank, rooted, flipping, column-below}
+use Rattle.rules.proofs.Augment.{one, floorOf, found-good, Tree, rank, rooted, flipping, column-below}
 use Rattle.augmentation.specs.Room.{freesIn, predecessorsIn, marksIn}
 use Rattle.augmentation.specs.Search.{CanSearch, Searched, foundFrom}
 use Rattle.augmentation.specs.Augmentation.{pairsOf, openAt, CanFlip, stateOf, CanTurn, CanAugment, Augmented}
@@ -34,12 +35,12 @@ use Rattle.augmentation.proofs.Start.{lent-predecessors}
 
 -- ---- one row
 
-module _ (n : ℕ) (costs : List ℤ) (small : n ≤ side) (size : length costs ≡ n * n) (costs-near : (k : ℕ) → Within near (price costs k)) (cols rows : List ℕ)
+module _ (n : ℕ) (costs : List ℤ) (small : n ≤ side) (size : length costs ≡ n * n) (costs-near : (k : ℕ) → Within near (signedAt costs k)) (cols rows : List ℕ)
     (v : List ℤ) (scanned s : ℕ) (T : CanTurn n costs (stateOf cols rows v scanned) s) where
   abbrev cost : ℕ → ℕ → ℤ
   cost = square n costs .cost
 
-  abbrev x : State
+  abbrev x : Progress
   x = stateOf cols rows v scanned
 
   C : Can n cost x s
@@ -67,9 +68,9 @@ module _ (n : ℕ) (costs : List ℤ) (small : n ≤ side) (size : length costs 
   μ = found-good n cost x s C .0
 
   abbrev fl : ℤ
-  fl = floorOf n cost (price v) s (one n cost x s C)
+  fl = floorOf n cost (signedAt v) s (one n cost x s C)
 
-  E : Ended n cost (price v) (at rows) s fl f μ
+  E : Ended n cost (signedAt v) (at rows) s fl f μ
   E = found-good n cost x s C .1
 
   list-size : length (f .work .list) ≡ n
@@ -97,7 +98,7 @@ module _ (n : ℕ) (costs : List ℤ) (small : n ≤ side) (size : length costs 
       let ls = C .start-below in
       record {
         small = small;
-        column-below = column-below n cost (price v) p s fl ls f μ E;
+        column-below = column-below n cost (signedAt v) p s fl ls f μ E;
         predecessors-size = predecessors-size;
         cols-size = C .agree .cols-size;
         rows-size = C .agree .rows-size;
@@ -105,8 +106,8 @@ module _ (n : ℕ) (costs : List ℤ) (small : n ≤ side) (size : length costs 
         cols-below = C .agree .cols-below;
         whole = flipped (flips n s (f .work .predecessors) (openAt (f .column) cols rows));
         ends =
-            flips-left n s ls (f .work .predecessors) p (Tree n cost (price v) p s fl ls f μ E) (rank n cost (price v) p s fl ls f μ E)
-            (rooted n cost (price v) p s fl ls f μ E) (openAt (f .column) cols rows) (flipping n cost (price v) p s fl ls f μ E (C .agree) (C .start-unpaired));
+            flips-left n s ls (f .work .predecessors) p (Tree n cost (signedAt v) p s fl ls f μ E) (rank n cost (signedAt v) p s fl ls f μ E)
+            (rooted n cost (signedAt v) p s fl ls f μ E) (openAt (f .column) cols rows) (flipping n cost (signedAt v) p s fl ls f μ E (C .agree) (C .start-unpaired));
       }
 
 -- ---- the loop
@@ -162,7 +163,7 @@ module _ {n : ℕ} {costs : List ℤ} {count : ℕ} {cols₀ rows₀ : List ℕ}
     pub turn : CanTurn n costs (stateOf cols rows v scanned) (getD room k 0)
     turn =
         subst (CanTurn n costs (stateOf cols rows v scanned)) (sym start-is)
-        (subst (λ (y : State). CanTurn n costs y (at (freesIn n room₀) k)) (sym (A .same)) (A .can .turn k l))
+        (subst (λ (y : Progress). CanTurn n costs y (at (freesIn n room₀) k)) (sym (A .same)) (A .can .turn k l))
 
     abbrev g : Found
     g = foundFrom n costs rows (getD room k 0) v

@@ -1,12 +1,14 @@
 -- The turns of the loops over a block: a column restarts the block, joins it or is passed by; and a column of a fresh block is free or
 -- taken. Assumes nothing.
 use mathlib.Core.Path.{_≡_, sym, ap, _∙_}
-use mathlib.Core.Bool.{true, false}
+use mathlib.Core.Bool.{true, false, cond}
 use mathlib.Core.List.{List}
 use Prim.Native.Nat.{ℕ, _+_, _≤_, _<_}
 use native.Mathlib.Numerals.{add-one}
+use native.Mathlib.Decide.{decLe}
 use native.Mathlib.Omega.{arith}
-use borrow.Author.Tests.{lt-ltb, le-ltb}
+use borrow.Author.Tests.{lt-ltb, le-ltb, le-leb, lt-leb}
+use lib.Dec.{leb}
 use lib.IntN.{ℤ}
 use lib.Signed.{ltZ, leZ}
 use Rattle.ints.proofs.Shapes.{zlin}
@@ -14,7 +16,8 @@ use Rattle.lists.specs.Runs.{upward}
 use Rattle.lists.proofs.Runs.{upward-none, upward-last}
 use Rattle.lists.specs.Permutations.{at, exchange, Permutation}
 use Rattle.lists.proofs.Permutations.{exchange-permutation}
-use Rattle.assignment.specs.Pairings.{price}
+use Rattle.assignment.specs.Pairings.{signedAt}
+use Rattle.rules.specs.declared.LastFree.{LastFree}
 use Rattle.rules.specs.declared.LastFree.the-variants.{NoneYet, At}
 use Rattle.rules.specs.Block.{Block, blockStep, blockStart, block}
 use Rattle.rules.specs.Search.{lastFree}
@@ -22,7 +25,7 @@ use Rattle.rules.specs.Search.{lastFree}
 abbrev blockOf : ℕ → ℤ → List ℕ → Block
 blockOf hi minimum list = record { hi = hi; minimum = minimum; list = list }
 
--- The places from lo up to k have been looked at.
+-- The places from lo up to k have been passed.
 pub record Blocked (n lo : ℕ) (d : List ℤ) (list₀ list : List ℕ) (hi : ℕ) (minimum : ℤ) (k : ℕ) : Type 0 where
   pub past : lo < k
   pub within : k ≤ n
@@ -30,7 +33,7 @@ pub record Blocked (n lo : ℕ) (d : List ℤ) (list₀ list : List ℕ) (hi : �
   pub block-end : (lo < hi) × (hi ≤ k)
   pub same : blockOf hi minimum list ≡ upward (lo + 1) k (blockStep d lo) (blockStart d lo list₀)
 
-pub first-block : (n lo : ℕ) (d : List ℤ) (list : List ℕ) (minimum : ℤ) → Permutation n list → lo < n → minimum ≡ price d (at list lo)
+pub first-block : (n lo : ℕ) (d : List ℤ) (list : List ℕ) (minimum : ℤ) → Permutation n list → lo < n → minimum ≡ signedAt d (at list lo)
     → Blocked n lo d list list (lo + 1) minimum (lo + 1)
 first-block n lo d list minimum p l e = record {
   past = omega arith;
@@ -55,8 +58,8 @@ module _ {n lo : ℕ} {d : List ℤ} {list₀ list : List ℕ} {hi : ℕ} {minim
         ap (blockStep d lo k) (B .same) ∙ sym (upward-last (lo + 1) k (blockStep d lo) (blockStart d lo list₀) (omega (arith, B .past)))
         ∙ ap (λ (m : ℕ). upward (lo + 1) m (blockStep d lo) (blockStart d lo list₀)) (sym (add-one k))
 
-    pub restart : ltZ (price d (at list k)) minimum ≡ true → leZ (price d (at list k)) minimum ≡ true
-        → Blocked n lo d list₀ (exchange list k lo) (lo + 1) (price d (at list k)) (k + 1)
+    pub restart : ltZ (signedAt d (at list k)) minimum ≡ true → leZ (signedAt d (at list k)) minimum ≡ true
+        → Blocked n lo d list₀ (exchange list k lo) (lo + 1) (signedAt d (at list k)) (k + 1)
     restart e f = record {
       past = omega (arith, B .past);
       within = omega arith;
@@ -65,10 +68,10 @@ module _ {n lo : ℕ} {d : List ℤ} {list₀ list : List ℕ} {hi : ℕ} {minim
       same = rw (f, e) at turn;
     }
 
-    pub join : ltZ (price d (at list k)) minimum ≡ false → leZ (price d (at list k)) minimum ≡ true
+    pub join : ltZ (signedAt d (at list k)) minimum ≡ false → leZ (signedAt d (at list k)) minimum ≡ true
         → Blocked n lo d list₀ (exchange list k hi) (hi + 1) minimum (k + 1)
     join e f =
-        let z : price d (at list k) ≡ minimum = omega zlin in
+        let z : signedAt d (at list k) ≡ minimum = omega zlin in
         record {
           past = omega (arith, B .past);
           within = omega arith;
@@ -77,7 +80,7 @@ module _ {n lo : ℕ} {d : List ℤ} {list₀ list : List ℕ} {hi : ℕ} {minim
           same = ap (λ (x : ℤ). blockOf (hi + 1) x (exchange list k hi)) (sym z) ∙ (rw (f, e) at turn);
         }
 
-    pub pass-by : leZ (price d (at list k)) minimum ≡ false → Blocked n lo d list₀ list hi minimum (k + 1)
+    pub pass-by : leZ (signedAt d (at list k)) minimum ≡ false → Blocked n lo d list₀ list hi minimum (k + 1)
     pass-by f = record {
       past = omega (arith, B .past);
       within = omega arith;
@@ -98,11 +101,12 @@ module _ (n : ℕ) (row : ℕ → ℕ) (list : List ℕ) (lo : ℕ) where
   unfolding lastFree
   last-none = sym (upward-none lo lo _ NoneYet (omega arith))
 
-  module _ (k : ℕ) (l : lo ≤ k) where
-    pub last-free : n ≤ row (at list k) → At (at list k) ≡ lastFree n row list lo (k + 1)
-    unfolding lastFree
-    last-free h = sym (rw (add-one k, upward-last lo k, le-ltb (row (at list k)) n h))
-
-    pub last-taken : row (at list k) < n → lastFree n row list lo k ≡ lastFree n row list lo (k + 1)
-    unfolding lastFree
-    last-taken h = sym (rw (add-one k, upward-last lo k, lt-ltb (row (at list k)) n h))
+  -- One place more: its column where that is free, and else what was found before.
+  pub last-more : (k : ℕ) (found : LastFree) → lo ≤ k → found ≡ lastFree n row list lo k
+      → cond (leb n (row (at list k))) (At (at list k)) found ≡ lastFree n row list lo (k + 1)
+  unfolding lastFree
+  last-more k found l e = elim (decLe n (row (at list k))) [
+    | yes h ↦ sym (rw (add-one k, upward-last lo k, le-ltb (row (at list k)) n h, le-leb n (row (at list k)) h))
+    | no h ↦ let t : row (at list k) < n = omega arith in
+        sym (rw (add-one k, upward-last lo k, lt-ltb (row (at list k)) n t, lt-leb n (row (at list k)) t) (sym e))
+  ]

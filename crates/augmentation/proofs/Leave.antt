@@ -6,11 +6,11 @@ use lib.IntN.{ℤ}
 use lib.ListN.{length, take, drop}
 use Rattle.lists.specs.Runs.{Turn, left}
 use Rattle.lists.specs.Permutations.{at, Permutation}
-use Rattle.assignment.specs.Pairings.{price, square}
+use Rattle.assignment.specs.Pairings.{signedAt, square}
 use Rattle.rules.specs.Lowest.{reduced, lowest}
 use Rattle.rules.specs.Search.{Work, workOf, Found, found, searchBlocks, search, foundAt, newPrices}
 use Rattle.rules.proofs.Scan.{Sound}
-use Rattle.rules.proofs.Search.{Good, search-left, search-ok}
+use Rattle.rules.proofs.Search.{Good, search-left, search-good}
 use Rattle.rules.proofs.Augment.{floor-under}
 use Rattle.augmentation.specs.Room.{listIn, predecessorsIn, roomWith}
 use Rattle.augmentation.specs.Search.{CanSearch, CanChange, Started, Searched, readyAt}
@@ -22,10 +22,10 @@ module _ (n : ℕ) (costs : List ℤ) (rows : List ℕ) (start : ℕ) (v : List 
   cost = square n costs .cost
 
   abbrev floor : ℤ
-  floor = lowest n (reduced cost (price v) start) .value
+  floor = lowest n (reduced cost (signedAt v) start) .value
 
   abbrev blocks : ℕ → Work → Turn Work Found
-  blocks m w = searchBlocks n cost (price v) (at rows) m w
+  blocks m w = searchBlocks n cost (signedAt v) (at rows) m w
 
   module _ (C : CanSearch n costs rows start v) where
     module _ {room₀ : List ℕ} {d₁ : List ℤ} {room₁ : List ℕ} (size : length room₀ ≡ n + n + n + n) (T : Started n costs start v room₀ d₁ room₁)
@@ -37,20 +37,20 @@ module _ (n : ℕ) (costs : List ℤ) (rows : List ℕ) (start : ℕ) (v : List 
       left-same x y e = ap (foundAt) e
 
       -- What was found is what the search finds.
-      found-is : f ≡ search n cost (price v) (at rows) start
+      found-is : f ≡ search n cost (signedAt v) (at rows) start
       found-is =
-          left-same f (search n cost (price v) (at rows) start)
+          left-same f (search n cost (signedAt v) (at rows) start)
           (sym (L .same) ∙ ap (blocks n) (T .same)
-          ∙ search-left n cost (price v) (at rows) start floor (C .fair) (C .has-free .column) (C .has-free .below) (C .has-free .free)
-          (floor-under n cost (price v) start (one n costs rows start v C)))
+          ∙ search-left n cost (signedAt v) (at rows) start floor (C .fair) (C .has-free .column) (C .has-free .below) (C .has-free .free)
+          (floor-under n cost (signedAt v) start (one n costs rows start v C)))
 
-      good : Good n cost (price v) (at rows) start floor f
+      good : Good n cost (signedAt v) (at rows) start floor f
       good =
-          subst (Good n cost (price v) (at rows) start floor) (sym found-is)
-          (search-ok n cost (price v) (at rows) start floor (C .fair) (C .has-free .column) (C .has-free .below) (C .has-free .free)
-          (floor-under n cost (price v) start (one n costs rows start v C)))
+          subst (Good n cost (signedAt v) (at rows) start floor) (sym found-is)
+          (search-good n cost (signedAt v) (at rows) start floor (C .fair) (C .has-free .column) (C .has-free .below) (C .has-free .free)
+          (floor-under n cost (signedAt v) start (one n costs rows start v C)))
 
-      S : Sound n cost (price v) (at rows) start floor (f .work)
+      S : Sound n cost (signedAt v) (at rows) start floor (f .work)
       S = good .1 .sound
 
       pub leave-long : length room ≡ n + n + n + n
@@ -75,7 +75,7 @@ module _ (n : ℕ) (costs : List ℤ) (rows : List ℕ) (start : ℕ) (v : List 
       })
 
       pub searched : (v′ : List ℤ) → v′ ≡ newPrices (readyAt lo (take (n + n - n) (drop n room)) d) v
-          → Searched n (search n cost (price v) (at rows) start) v room₀ (record { column = column; scanned = m }) v′ d room
+          → Searched n (search n cost (signedAt v) (at rows) start) v room₀ (record { column = column; scanned = m }) v′ d room
       unfolding newPrices
       searched v′ e = record {
         column = ap (λ (x : Found). x .column) found-is;

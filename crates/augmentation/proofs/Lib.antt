@@ -1,6 +1,6 @@
 pub mod Room
 pub mod Block
-pub mod Look
+pub mod Lowering
 pub mod Prices
 pub mod Scan
 pub mod Start

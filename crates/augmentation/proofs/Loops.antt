@@ -9,7 +9,7 @@ use Rattle.ints.specs.Parts.{Within}
 use Rattle.lists.specs.Runs.{Turn, on, left}
 use Rattle.lists.specs.Permutations.{at}
 use Rattle.lists.proofs.Leaving.{Either, goes-on, is-left}
-use Rattle.assignment.specs.Pairings.{price, square}
+use Rattle.assignment.specs.Pairings.{signedAt, square}
 use Rattle.matrix.specs.Limits.{near}
 use Rattle.rules.specs.Lowest.{reduced, lowest}
 use Rattle.rules.specs.Search.{Work, workOf, Hit, Found, scan, found, searchBlocks}
@@ -23,7 +23,7 @@ use Rattle.augmentation.specs.Room.{roomWith}
 use Rattle.augmentation.specs.Scan.{workIn, Seen, seenIn, seen}
 use Rattle.augmentation.specs.Search.{CanSearch}
 
--- ---- what the look of one row leaves, taken apart
+-- ---- what one row leaves, taken apart
 
 as-work : (w : Work) {hi : ℕ} {list : List ℕ} {distances : List ℤ} {predecessors : List ℕ} {scanned : ℕ} → hi ≡ w .hi → list ≡ w .list → distances ≡ w .distances
     → predecessors ≡ w .predecessors → scanned ≡ w .scanned → w ≡ workOf hi list distances predecessors scanned
@@ -69,14 +69,14 @@ module _ (n : ℕ) (costs : List ℤ) (rows : List ℕ) (start : ℕ) (v : List 
 
   -- The least that row `start` makes a column.
   abbrev floor : ℤ
-  floor = lowest n (reduced cost (price v) start) .value
+  floor = lowest n (reduced cost (signedAt v) start) .value
 
   -- The rest of the search, and of a scan, from any work.
   abbrev blocks : ℕ → Work → Turn Work Found
-  blocks m w = searchBlocks n cost (price v) (at rows) m w
+  blocks m w = searchBlocks n cost (signedAt v) (at rows) m w
 
   abbrev rest : ℕ → Work → Turn Work Hit
-  rest k w = scan n cost (price v) (at rows) k w
+  rest k w = scan n cost (signedAt v) (at rows) k w
 
   -- At the head of the search's loop, which began with d₀ and room₀: what is left of the search is the search.
   pub record Between (d₀ : List ℤ) (room₀ : List ℕ) (d : List ℤ) (room : List ℕ) (hi scanned : ℕ) : Type 0 where
@@ -86,7 +86,7 @@ module _ (n : ℕ) (costs : List ℤ) (rows : List ℕ) (start : ℕ) (v : List 
     pub fuel : ℕ
     pub enough : n ≤ fuel + hi
     pub room-is : room ≡ roomWith n list predecessors room₀
-    pub head : Head n cost (price v) (at rows) start floor (workOf hi list d predecessors scanned)
+    pub head : Head n cost (signedAt v) (at rows) start floor (workOf hi list d predecessors scanned)
     pub same : blocks fuel (workOf hi list d predecessors scanned) ≡ blocks n (workIn n 0 d₀ room₀ 0)
 
   -- At the head of the scan's loop, which began with d₁, room₁, lo₁, hi₁ and scanned₁: what is left of the scan is the scan.
@@ -97,7 +97,7 @@ module _ (n : ℕ) (costs : List ℤ) (rows : List ℕ) (start : ℕ) (v : List 
     pub minimum : ℤ
     pub place : lo ≤ hi
     pub room-is : room ≡ roomWith n list predecessors room₁
-    pub counted : Counted n cost (price v) (at rows) start floor lo₁ minimum lo (workOf hi list d predecessors scanned)
+    pub counted : Counted n cost (signedAt v) (at rows) start floor lo₁ minimum lo (workOf hi list d predecessors scanned)
     pub same : rest lo (workOf hi list d predecessors scanned) ≡ rest lo₁ (workIn n hi₁ d₁ room₁ scanned₁)
 
   -- The search is left, at a free column; `end` is where its last block ended.
@@ -115,10 +115,10 @@ module _ (n : ℕ) (costs : List ℤ) (rows : List ℕ) (start : ℕ) (v : List 
     pub one : 1 ≤ n
     one = omega (arith, C .start-below)
 
-    pub distances-near : (w : Work) → Sound n cost (price v) (at rows) start floor w → (j : ℕ) → Within (2 * near) (price (w .distances) j)
+    pub distances-near : (w : Work) → Sound n cost (signedAt v) (at rows) start floor w → (j : ℕ) → Within (2 * near) (signedAt (w .distances) j)
     distances-near w S =
         within-everywhere (2 * near) (w .distances)
-        (λ j l. distances-within n cost (price v) start one (at rows) near near (λ i k. C .costs-near (i * n + k)) (C .prices-near) w S j (omega (arith, S .distances-size)))
+        (λ j l. distances-within n cost (signedAt v) start one (at rows) near near (λ i k. C .costs-near (i * n + k)) (C .prices-near) w S j (omega (arith, S .distances-size)))
 
 -- The same, at equal values.
 pub leaving-at : {n : ℕ} {costs : List ℤ} {rows : List ℕ} {start : ℕ} {v d₀ : List ℤ} {room₀ : List ℕ} {d : List ℤ} {room : List ℕ} {lo scanned column : ℕ}

@@ -16,41 +16,41 @@ use Rattle.ints.proofs.Shapes.{zlin}
 use Rattle.lists.specs.Runs.{upward}
 use Rattle.lists.proofs.Runs.{upward-none, upward-last, upward-keeps}
 use Rattle.lists.specs.Permutations.{at}
-use Rattle.assignment.specs.Pairings.{price}
+use Rattle.lists.proofs.Cases.{here-or-elsewhere}
+use Rattle.assignment.specs.Pairings.{signedAt}
 use Rattle.matrix.specs.Limits.{near}
-use Rattle.matrix.proofs.Limits.{side-small}
-use Rattle.rules.specs.Search.{raise, newPrices}
-use Rattle.rules.proofs.Cases.{here-or-elsewhere}
+use Rattle.matrix.proofs.SmallLimits.{side-small}
+use Rattle.rules.specs.Search.{addDistance, newPrices}
 use Rattle.rules.proofs.Sizes.{within-everywhere}
 use Rattle.augmentation.specs.Search.{readyAt, CanChange}
 
 -- A store of a near number in a list of near numbers.
-set-within : (b : ℕ) (l : List ℤ) (j : ℕ) (x : ℤ) → ((k : ℕ) → Within b (price l k)) → Within b x → (k : ℕ) → Within b (price (set l j x) k)
+set-within : (b : ℕ) (l : List ℤ) (j : ℕ) (x : ℤ) → ((k : ℕ) → Within b (signedAt l k)) → Within b x → (k : ℕ) → Within b (signedAt (set l j x) k)
 set-within b l j x h w =
     within-everywhere b (set l j x)
-    (here-or-elsewhere (λ k. k < length (set l j x) → Within b (price (set l j x) k)) j
+    (here-or-elsewhere (λ k. k < length (set l j x) → Within b (signedAt (set l j x) k)) j
     (λ s. let a : j < length l = omega (arith, length-set l j x) in rw (getD-set-same l j x (pos 0) a) w)
     (λ k d s. rw (getD-set-other l j k x (pos 0) d) (h k)))
 
 module _ (list : List ℕ) (d : List ℤ) (minimum : ℤ) (v₀ : List ℤ) where
   -- The prices after the first k columns.
   abbrev pub prices : ℕ → List ℤ
-  prices k = upward 0 k (λ k. raise d minimum (at list k)) v₀
+  prices k = upward 0 k (λ k. addDistance d minimum (at list k)) v₀
 
   prices-length : (k : ℕ) → length (prices k) ≡ length v₀
   prices-length k =
-      upward-keeps (λ m v. length v ≡ length v₀) 0 k (λ m. raise d minimum (at list m)) v₀ (omega arith) refl
-      (λ m v l g e. length-set v (at list m) (price v (at list m) +ℤ (price d (at list m) -ℤ minimum)) ∙ e)
+      upward-keeps (λ m v. length v ≡ length v₀) 0 k (λ m. addDistance d minimum (at list m)) v₀ (omega arith) refl
+      (λ m v l g e. length-set v (at list m) (signedAt v (at list m) +ℤ (signedAt d (at list m) -ℤ minimum)) ∙ e)
 
-  prices-within : ((j : ℕ) → Within near (price v₀ j)) → ((j : ℕ) → Within (2 * near) (price d j)) → Within (2 * near) minimum
-      → (k j : ℕ) → Within (near * (4 * k + 1)) (price (prices k) j)
+  prices-within : ((j : ℕ) → Within near (signedAt v₀ j)) → ((j : ℕ) → Within (2 * near) (signedAt d j)) → Within (2 * near) minimum
+      → (k j : ℕ) → Within (near * (4 * k + 1)) (signedAt (prices k) j)
   prices-within h g m k =
-      upward-keeps (λ i v. (j : ℕ) → Within (near * (4 * i + 1)) (price v j)) 0 k (λ i. raise d minimum (at list i)) v₀ (omega arith) (λ j. h j)
-      (λ i v l u w. set-within (near * (4 * suc i + 1)) v (at list i) (price v (at list i) +ℤ (price d (at list i) -ℤ minimum))
-      (λ j. let x = w j in omega arith) (raised i (price v (at list i)) (price d (at list i)) (w (at list i)) (g (at list i))))
+      upward-keeps (λ i v. (j : ℕ) → Within (near * (4 * i + 1)) (signedAt v j)) 0 k (λ i. addDistance d minimum (at list i)) v₀ (omega arith) (λ j. h j)
+      (λ i v l u w. set-within (near * (4 * suc i + 1)) v (at list i) (signedAt v (at list i) +ℤ (signedAt d (at list i) -ℤ minimum))
+      (λ j. let x = w j in omega arith) (added-within i (signedAt v (at list i)) (signedAt d (at list i)) (w (at list i)) (g (at list i))))
     where
-      raised : (i : ℕ) (x y : ℤ) → Within (near * (4 * i + 1)) x → Within (2 * near) y → Within (near * (4 * suc i + 1)) (x +ℤ (y -ℤ minimum))
-      raised i x y a b = omega (zlin, dif y minimum, sum x (y -ℤ minimum), m)
+      added-within : (i : ℕ) (x y : ℤ) → Within (near * (4 * i + 1)) x → Within (2 * near) y → Within (near * (4 * suc i + 1)) (x +ℤ (y -ℤ minimum))
+      added-within i x y a b = omega (zlin, dif y minimum, sum x (y -ℤ minimum), m)
 
 module _ (x y m : ℤ) (a : Within (2 * near) y) (b : Within (2 * near) m) where
   near-fits : SFits w64 y
@@ -73,21 +73,21 @@ pub record Changing (n lo : ℕ) (list : List ℕ) (d v₀ : List ℤ) (minimum 
   pub reach : k ≤ lo
   pub so-far : v ≡ prices list d minimum v₀ k
 
-pub first-change : (n lo : ℕ) (list : List ℕ) (d v : List ℤ) (minimum : ℤ) → CanChange n lo list d v → length v ≡ n → minimum ≡ price d (at list lo)
+pub first-change : (n lo : ℕ) (list : List ℕ) (d v : List ℤ) (minimum : ℤ) → CanChange n lo list d v → length v ≡ n → minimum ≡ signedAt d (at list lo)
     → Changing n lo list d v minimum v 0
 first-change n lo list d v minimum can size e = record {
   can = can;
   prices-size = size;
   minimum-within = subst (Within (2 * near)) (sym e) (can .distances-near (at list lo));
   reach = omega arith;
-  so-far = sym (upward-none 0 0 (λ k. raise d minimum (at list k)) v (omega arith));
+  so-far = sym (upward-none 0 0 (λ k. addDistance d minimum (at list k)) v (omega arith));
 }
 
 module _ {n lo : ℕ} {list : List ℕ} {d v₀ : List ℤ} {minimum : ℤ} {v : List ℤ} {k : ℕ} (C : Changing n lo list d v₀ minimum v k) where
   pub size : length v ≡ n
   size = ap length (C .so-far) ∙ prices-length list d minimum v₀ k ∙ C .prices-size
 
-  pub changed : lo ≤ k → minimum ≡ price d (at list lo) → v ≡ newPrices (readyAt lo list d) v₀
+  pub changed : lo ≤ k → minimum ≡ signedAt d (at list lo) → v ≡ newPrices (readyAt lo list d) v₀
   unfolding newPrices
   changed l e =
       let z : k ≡ lo = omega (arith, C .reach) in
@@ -98,18 +98,18 @@ module _ {n lo : ℕ} {list : List ℕ} {d v₀ : List ℤ} {minimum : ℤ} {v :
     j = at list k
 
     abbrev x : ℤ
-    x = price v j
+    x = signedAt v j
 
     abbrev y : ℤ
-    y = price d j
+    y = signedAt d j
 
     pub column-below : at list k < n
     column-below = C .can .listed .injective .below k (omega (arith, C .can .ready-below))
 
     x-within : Within (2 ^ 60) x
     x-within =
-        subst (λ (s : List ℤ). Within (2 ^ 60) (price s j)) (sym (C .so-far))
-        (prices-wide k (price (prices list d minimum v₀ k) j) (omega (arith, C .can .ready-below, C .can .small, side-small))
+        subst (λ (s : List ℤ). Within (2 ^ 60) (signedAt s j)) (sym (C .so-far))
+        (prices-wide k (signedAt (prices list d minimum v₀ k) j) (omega (arith, C .can .ready-below, C .can .small, side-small))
         (prices-within list d minimum v₀ (C .can .prices-near) (C .can .distances-near) (C .minimum-within) k j))
 
     x-fits : SFits w64 x
@@ -138,5 +138,5 @@ module _ {n lo : ℕ} {list : List ℕ} {d v₀ : List ℤ} {minimum : ℤ} {v :
       reach = omega arith;
       so-far =
           rw (toZ-ofZ x-fits, toZ-ofZ y-fits, toZ-ofZ difference-fits, toZ-ofZ sum-fits, add-one k)
-          (ap (raise d minimum j) (C .so-far) ∙ sym (upward-last 0 k (λ i. raise d minimum (at list i)) v₀ (omega arith)));
+          (ap (addDistance d minimum j) (C .so-far) ∙ sym (upward-last 0 k (λ i. addDistance d minimum (at list i)) v₀ (omega arith)));
     }

@@ -13,13 +13,13 @@ use lib.ListN.{length}
 use Rattle.lists.specs.Runs.{Turn, on, left, andThen}
 use Rattle.lists.specs.Permutations.{at, Permutation}
 use Rattle.lists.proofs.Leaving.{until-keeps, Either, goes-on, is-left}
-use Rattle.assignment.specs.Pairings.{price, square}
+use Rattle.lists.proofs.Cases.{cond-cases}
+use Rattle.assignment.specs.Pairings.{signedAt, square}
 use Rattle.rules.specs.declared.ScanEnd.{ScanEnd}
 use Rattle.rules.specs.Lowest.{reduced, lowest}
 use Rattle.rules.specs.Search.{same, reachBy, join, countOne, afterLowering, scanColumn, Work, workOf, Hit, Found, scanRow, scan, searchBlocks}
-use Rattle.rules.proofs.Cases.{cond-cases}
 use Rattle.rules.proofs.Scan.{Sound}
-use Rattle.rules.proofs.Scans.{Counted, LeftAt, scanRow-ok}
+use Rattle.rules.proofs.Scans.{Counted, LeftAt, scanRow-counted-or-left}
 use Rattle.rules.proofs.Turns.{scan-more, scan-done}
 use Rattle.rules.specs.declared.ScanEnd.the-variants as ends
 use Rattle.augmentation.specs.Room.{listIn, predecessorsIn, roomWith}
@@ -30,7 +30,7 @@ use Rattle.augmentation.proofs.Loops.{distances-near, seen-on, seen-hit
 
 -- ---- a block only grows while it is scanned
 
--- A look goes on with no smaller block.
+-- One row goes on with no smaller block.
 abbrev Grown : ℕ → Turn Work Hit → Type 0
 Grown hi t = Either (λ (x : Work). hi ≤ x .hi) (λ (h : Hit). h .column ≡ h .column) t
 
@@ -41,7 +41,7 @@ module _ (n : ℕ) (cost : ℕ → ℕ → ℤ) (v : ℕ → ℤ) (row : ℕ →
       let x = reduced cost v i j -ℤ h in
       let r = reachBy w i j x in
       let out : Turn Work Hit = left (record { column = j; work = r }) in
-      cond-cases (ltZ x (price (w .distances) j)) (Grown hi) (afterLowering n row minimum k j x r) (on w)
+      cond-cases (ltZ x (signedAt (w .distances) j)) (Grown hi) (afterLowering n row minimum k j x r) (on w)
       (λ a. cond-cases (same x minimum) (Grown hi) (cond (ltb (row j) n) (on (join r k)) out) (on r)
       (λ b. cond-cases (ltb (row j) n) (Grown hi) (on (join r k)) out (λ c. goes-on (omega arith)) (λ c. is-left refl))
       (λ b. goes-on l))
@@ -50,7 +50,7 @@ module _ (n : ℕ) (cost : ℕ → ℕ → ℤ) (v : ℕ → ℤ) (row : ℕ →
   row-grows : (k : ℕ) (w : Work) → w .hi ≤ n → Grown (w .hi) (scanRow n cost v row k w)
   row-grows k w l =
       let j = at (w .list) k in
-      let minimum = price (w .distances) j in
+      let minimum = signedAt (w .distances) j in
       until-keeps (λ t x. w .hi ≤ x .hi) (λ h. h .column ≡ h .column) (w .hi) n (scanColumn n cost v row minimum (reduced cost v (row j) j -ℤ minimum) (row j)) (countOne w) l
       (omega arith) (λ t x a b g. column-grows minimum (reduced cost v (row j) j -ℤ minimum) (row j) t (w .hi) x g)
 
@@ -59,20 +59,20 @@ module _ (n : ℕ) (costs : List ℤ) (rows : List ℕ) (start : ℕ) (v : List 
   cost = square n costs .cost
 
   abbrev floor : ℤ
-  floor = lowest n (reduced cost (price v) start) .value
+  floor = lowest n (reduced cost (signedAt v) start) .value
 
   abbrev blocks : ℕ → Work → Turn Work Found
-  blocks m w = searchBlocks n cost (price v) (at rows) m w
+  blocks m w = searchBlocks n cost (signedAt v) (at rows) m w
 
   abbrev rest : ℕ → Work → Turn Work Hit
-  rest k w = scan n cost (price v) (at rows) k w
+  rest k w = scan n cost (signedAt v) (at rows) k w
 
   module _ (C : CanSearch n costs rows start v) {d₁ : List ℤ} {room₁ : List ℕ} {lo₁ hi₁ m₁ : ℕ} {d : List ℤ} {room : List ℕ} {lo hi m : ℕ}
       (M : InScan n costs rows start v d₁ room₁ lo₁ hi₁ m₁ d room lo hi m) where
     abbrev w : Work
     w = workOf hi (M .list) d (M .predecessors) m
 
-    S : Sound n cost (price v) (at rows) start floor w
+    S : Sound n cost (signedAt v) (at rows) start floor w
     S = M .counted .scanning .sound
 
     scan-room-long : length room ≡ n + n + n + n
@@ -113,8 +113,8 @@ module _ (n : ℕ) (costs : List ℤ) (rows : List ℕ) (start : ℕ) (v : List 
       }
 
       -- The column at lo is scanned, and then the rest.
-      turn : andThen (scanRow n cost (price v) (at rows) lo w) (rest (suc lo)) ≡ rest lo₁ (workIn n hi₁ d₁ room₁ m₁)
-      turn = sym (scan-more n cost (price v) (at rows) lo w (lo-in .1) (lo-in .0)) ∙ M .same
+      turn : andThen (scanRow n cost (signedAt v) (at rows) lo w) (rest (suc lo)) ≡ rest lo₁ (workIn n hi₁ d₁ room₁ m₁)
+      turn = sym (scan-more n cost (signedAt v) (at rows) lo w (lo-in .1) (lo-in .0)) ∙ M .same
 
       module _ {r : ScanEnd} {d′ : List ℤ} {room′ : List ℕ} (R : Scanned n costs v rows lo hi d room r d′ room′) where
         back : length (listIn n room′) ≡ n → length (predecessorsIn n room′) ≡ n → room′ ≡ roomWith n (listIn n room′) (predecessorsIn n room′) room₁
@@ -122,20 +122,20 @@ module _ (n : ℕ) (costs : List ℤ) (rows : List ℕ) (start : ℕ) (v : List 
             R .frame ∙ ap (roomWith n (listIn n room′) (predecessorsIn n room′)) (M .room-is)
             ∙ room-room n room₁ (M .room-size) (M .list) (M .predecessors) (listIn n room′) (predecessorsIn n room′) (S .permutation .size) (S .predecessors-size) sl sp
 
-        same-row : seenIn r n d′ room′ (m + 1) ≡ seen (scanRow n cost (price v) (at rows) lo w)
-        same-row = R .same m ∙ ap (λ (x : Work). seen (scanRow n cost (price v) (at rows) lo x)) work-is
+        same-row : seenIn r n d′ room′ (m + 1) ≡ seen (scanRow n cost (signedAt v) (at rows) lo w)
+        same-row = R .same m ∙ ap (λ (x : Work). seen (scanRow n cost (signedAt v) (at rows) lo x)) work-is
 
-        kept : Either (Counted n cost (price v) (at rows) start floor lo₁ (M .minimum) (suc lo)) (LeftAt n cost (price v) (at rows) start floor lo₁ (M .minimum)) (scanRow n cost (price v) (at rows) lo w)
-        kept = scanRow-ok n cost (price v) (at rows) start floor (C .fair) lo₁ (M .minimum) lo w (M .counted) (lo-in .0)
+        kept : Either (Counted n cost (signedAt v) (at rows) start floor lo₁ (M .minimum) (suc lo)) (LeftAt n cost (signedAt v) (at rows) start floor lo₁ (M .minimum)) (scanRow n cost (signedAt v) (at rows) lo w)
+        kept = scanRow-counted-or-left n cost (signedAt v) (at rows) start floor (C .fair) lo₁ (M .minimum) lo w (M .counted) (lo-in .0)
 
       -- The scan goes on, with the block's end e.
       pub scan-on : {r : ScanEnd} {d′ : List ℤ} {room′ : List ℕ} (e : ℕ) → r ≡ ends.On e → Scanned n costs v rows lo hi d room r d′ room′
           → InScan n costs rows start v d₁ room₁ lo₁ hi₁ m₁ d′ room′ (lo + 1) e (m + 1)
       scan-on {r} {d′} {room′} e q R =
           let x : Work = workIn n e d′ room′ (m + 1) in
-          let t : scanRow n cost (price v) (at rows) lo w ≡ on x = seen-on n e d′ room′ (m + 1) (scanRow n cost (price v) (at rows) lo w) (ap (λ (y : ScanEnd). seenIn y n d′ room′ (m + 1)) (sym q) ∙ same-row R) in
-          let D : Counted n cost (price v) (at rows) start floor lo₁ (M .minimum) (suc lo) x = either-on (rw t at (kept R)) in
-          let g : hi ≤ e = either-on (rw t at (row-grows n cost (price v) (at rows) lo w hi-below)) in
+          let t : scanRow n cost (signedAt v) (at rows) lo w ≡ on x = seen-on n e d′ room′ (m + 1) (scanRow n cost (signedAt v) (at rows) lo w) (ap (λ (y : ScanEnd). seenIn y n d′ room′ (m + 1)) (sym q) ∙ same-row R) in
+          let D : Counted n cost (signedAt v) (at rows) start floor lo₁ (M .minimum) (suc lo) x = either-on (rw t at (kept R)) in
+          let g : hi ≤ e = either-on (rw t at (row-grows n cost (signedAt v) (at rows) lo w hi-below)) in
           record {
             room-size = M .room-size;
             list = listIn n room′;
@@ -153,7 +153,7 @@ module _ (n : ℕ) (costs : List ℤ) (rows : List ℕ) (start : ℕ) (v : List 
           × (room′ ≡ roomWith n (listIn n room′) (predecessorsIn n room′) room₁)
           × (length (listIn n room′) ≡ n) × (length (predecessorsIn n room′) ≡ n)
       scan-left {r} {d′} {room′} j q R =
-          let h = seen-hit n j d′ room′ (m + 1) (scanRow n cost (price v) (at rows) lo w) (ap (λ (y : ScanEnd). seenIn y n d′ room′ (m + 1)) (sym q) ∙ same-row R) in
+          let h = seen-hit n j d′ room′ (m + 1) (scanRow n cost (signedAt v) (at rows) lo w) (ap (λ (y : ScanEnd). seenIn y n d′ room′ (m + 1)) (sym q) ∙ same-row R) in
           let L = either-left (rw (h .1) at (kept R)) in
           let P = L .reaches .scanning .sound in (
             h .0,
@@ -165,4 +165,4 @@ module _ (n : ℕ) (costs : List ℤ) (rows : List ℕ) (start : ℕ) (v : List 
 
     -- None is left of the block.
     pub scan-over : lo ≡ hi → rest lo₁ (workIn n hi₁ d₁ room₁ m₁) ≡ on w
-    scan-over e = sym (M .same) ∙ scan-done n cost (price v) (at rows) lo w (omega arith)
+    scan-over e = sym (M .same) ∙ scan-done n cost (signedAt v) (at rows) lo w (omega arith)

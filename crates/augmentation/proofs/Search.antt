@@ -8,15 +8,15 @@ use lib.ListN.{length, take, drop}
 use Rattle.lists.specs.Runs.{Turn, on, left, andThen}
 use Rattle.lists.specs.Permutations.{at, Permutation}
 use Rattle.lists.proofs.Tables.{length-table}
-use Rattle.assignment.specs.Pairings.{price, square}
+use Rattle.assignment.specs.Pairings.{signedAt, square}
 use Rattle.rules.specs.declared.LastFree.{LastFree}
 use Rattle.rules.specs.declared.LastFree.the-variants.{NoneYet, At}
 use Rattle.rules.specs.Lowest.{reduced, lowest}
 use Rattle.rules.specs.Block.{Block, block}
 use Rattle.rules.specs.Search.{Work, workOf, Hit, Found, scan, lastFree, freshBlock, afterScan, afterBlock, searchBlock, searchBlocks}
-use Rattle.rules.proofs.FreeColumns.{Sought, lastFree-ok}
-use Rattle.rules.proofs.Block.{IsBlock, block-ok}
-use Rattle.rules.proofs.Search.{Head, to-scan, head-open, searchBlock-ok, start-head}
+use Rattle.rules.proofs.FreeColumns.{Sought, lastFree-sought}
+use Rattle.rules.proofs.Block.{IsBlock, block-of-minima}
+use Rattle.rules.proofs.Search.{Head, to-scan, head-open, searchBlock-grows-or-ends, start-head}
 use Rattle.rules.proofs.Turns.{blocks-first}
 use Rattle.rules.proofs.Augment.{floor-under}
 use Rattle.augmentation.specs.Room.{listIn, predecessorsIn, roomWith}
@@ -31,13 +31,13 @@ module _ (n : ℕ) (costs : List ℤ) (rows : List ℕ) (start : ℕ) (v : List 
   cost = square n costs .cost
 
   abbrev floor : ℤ
-  floor = lowest n (reduced cost (price v) start) .value
+  floor = lowest n (reduced cost (signedAt v) start) .value
 
   abbrev blocks : ℕ → Work → Turn Work Found
-  blocks m w = searchBlocks n cost (price v) (at rows) m w
+  blocks m w = searchBlocks n cost (signedAt v) (at rows) m w
 
   abbrev rest : ℕ → Work → Turn Work Hit
-  rest k w = scan n cost (price v) (at rows) k w
+  rest k w = scan n cost (signedAt v) (at rows) k w
 
   module _ (C : CanSearch n costs rows start v) where
     -- ---- the start
@@ -58,7 +58,7 @@ module _ (n : ℕ) (costs : List ℤ) (rows : List ℕ) (start : ℕ) (v : List 
       fuel = n;
       enough = omega arith;
       room-is = room-self n room size;
-      head = subst (Head n cost (price v) (at rows) start floor) (sym (S .same)) (start-head n cost (price v) (at rows) start floor (floor-under n cost (price v) start (one n costs rows start v C)));
+      head = subst (Head n cost (signedAt v) (at rows) start floor) (sym (S .same)) (start-head n cost (signedAt v) (at rows) start floor (floor-under n cost (signedAt v) start (one n costs rows start v C)));
       same = refl;
     }
 
@@ -75,7 +75,7 @@ module _ (n : ℕ) (costs : List ℤ) (rows : List ℕ) (start : ℕ) (v : List 
       sizes = B .head .sound .permutation .size
 
       pub lo-below : lo < n
-      lo-below = head-open n cost (price v) (at rows) start floor (C .fair) (C .has-free .column) (C .has-free .below) (C .has-free .free) w (B .head)
+      lo-below = head-open n cost (signedAt v) (at rows) start floor (C .fair) (C .has-free .column) (C .has-free .below) (C .has-free .free) w (B .head)
 
       pub room-long : length room ≡ n + n + n + n
       room-long = ap length (B .room-is) ∙ room-length n room₀ (B .room-size) (B .list) (B .predecessors) sizes (B .head .sound .predecessors-size)
@@ -89,7 +89,7 @@ module _ (n : ℕ) (costs : List ℤ) (rows : List ℕ) (start : ℕ) (v : List 
       lent-listed = subst (Permutation n) (sym lent-is) (B .head .sound .permutation)
 
       is-block : IsBlock n d lo (B .list) n b
-      is-block = block-ok n d lo (B .list) (B .head .sound .permutation) lo-below
+      is-block = block-of-minima n d lo (B .list) (B .head .sound .permutation) lo-below
 
       -- The list came back with its block.
       module _ (list′ : List ℕ) (hi : ℕ) (hi-is : hi ≡ block n d lo (take (n + n - n) (drop n room)) .hi)
@@ -142,18 +142,18 @@ module _ (n : ℕ) (costs : List ℤ) (rows : List ℕ) (start : ℕ) (v : List 
         unfolding fuel-left
         fuel-enough l = omega (arith, spare (B .fuel) refl .1, B .enough)
 
-        turn : andThen (searchBlock n cost (price v) (at rows) w) (blocks fuel-left) ≡ blocks n (workIn n 0 d₀ room₀ 0)
+        turn : andThen (searchBlock n cost (signedAt v) (at rows) w) (blocks fuel-left) ≡ blocks n (workIn n 0 d₀ room₀ 0)
         unfolding fuel-left
         turn =
-            sym (blocks-first n cost (price v) (at rows) fuel-left w) ∙ ap (λ (f : ℕ). blocks f w) (sym (spare (B .fuel) refl .1)) ∙ B .same
+            sym (blocks-first n cost (signedAt v) (at rows) fuel-left w) ∙ ap (λ (f : ℕ). blocks f w) (sym (spare (B .fuel) refl .1)) ∙ B .same
 
         -- The answer of last_free, over the definition's list.
         module _ (o : LastFree) (answer : o ≡ lastFree n (at rows) (take (n + n - n) (drop n room′)) lo hi) where
           sought : o ≡ lastFree n (at rows) (b .list) lo (b .hi)
           sought = answer ∙ ap₂ (λ (l : List ℕ) (h : ℕ). lastFree n (at rows) l lo h) fresh-lent he
 
-          block-is : searchBlock n cost (price v) (at rows) w ≡ afterBlock n cost (price v) (at rows) lo (freshBlock n lo w) o
-          block-is = ap (afterBlock n cost (price v) (at rows) lo (freshBlock n lo w)) (sym sought)
+          block-is : searchBlock n cost (signedAt v) (at rows) w ≡ afterBlock n cost (signedAt v) (at rows) lo (freshBlock n lo w) o
+          block-is = ap (afterBlock n cost (signedAt v) (at rows) lo (freshBlock n lo w)) (sym sought)
 
         -- The block has a free column.
         pub leave-fresh : (j : ℕ) → At j ≡ lastFree n (at rows) (take (n + n - n) (drop n room′)) lo hi → Leaving n costs rows start v d₀ room₀ d room′ lo m j
@@ -170,7 +170,7 @@ module _ (n : ℕ) (costs : List ℤ) (rows : List ℕ) (start : ℕ) (v : List 
         -- No column of the block is free.
         module _ (none : NoneYet ≡ lastFree n (at rows) (take (n + n - n) (drop n room′)) lo hi) where
           all-taken : (t : ℕ) → lo ≤ t → t < b .hi → at rows (at (b .list) t) < n
-          all-taken = subst (Sought n (at rows) (b .list) lo (b .hi)) (sym (sought NoneYet none)) (lastFree-ok n (at rows) (b .list) lo (b .hi) (omega (arith, is-block .order)))
+          all-taken = subst (Sought n (at rows) (b .list) lo (b .hi)) (sym (sought NoneYet none)) (lastFree-sought n (at rows) (b .list) lo (b .hi) (omega (arith, is-block .order)))
 
           -- The scan's work is the fresh block's.
           work-is : workIn n hi d room′ m ≡ freshBlock n lo w
@@ -185,12 +185,12 @@ module _ (n : ℕ) (costs : List ℤ) (rows : List ℕ) (start : ℕ) (v : List 
             minimum = b .minimum;
             place = omega (arith, hi-in);
             room-is = room-self n room′ fresh-long;
-            counted = rw work-is (to-scan n cost (price v) (at rows) start floor w (B .head) lo-below all-taken);
+            counted = rw work-is (to-scan n cost (signedAt v) (at rows) start floor w (B .head) lo-below all-taken);
             same = refl;
           }
 
           -- A scan that comes to t takes the search's block to what follows it.
-          scan-to : (t : Turn Work Hit) → rest lo (workIn n hi d room′ m) ≡ t → searchBlock n cost (price v) (at rows) w ≡ afterScan lo (b .hi) t
+          scan-to : (t : Turn Work Hit) → rest lo (workIn n hi d room′ m) ≡ t → searchBlock n cost (signedAt v) (at rows) w ≡ afterScan lo (b .hi) t
           scan-to t e = block-is NoneYet none ∙ ap (afterScan lo (b .hi)) (ap (rest lo) (sym work-is) ∙ e)
 
           back : (l p r : List ℕ) → length l ≡ n → length p ≡ n → r ≡ roomWith n l p room′ → r ≡ roomWith n l p room₀
@@ -203,8 +203,8 @@ module _ (n : ℕ) (costs : List ℤ) (rows : List ℕ) (start : ℕ) (v : List 
               → Between n costs rows start v d₀ room₀ d″ room″ hi″ m″ × (lo < hi″)
           next-between {d″} {room″} {lo″} {hi″} {m″} M e =
               let x : Work = workOf hi″ (M .list) d″ (M .predecessors) m″ in
-              let t : searchBlock n cost (price v) (at rows) w ≡ on x = scan-to (on x) (scan-over n costs rows start v C M e) in
-              let H = either-on (rw t at (searchBlock-ok n cost (price v) (at rows) start floor (C .fair) (C .has-free .column) (C .has-free .below) (C .has-free .free) w (B .head))) in (
+              let t : searchBlock n cost (signedAt v) (at rows) w ≡ on x = scan-to (on x) (scan-over n costs rows start v C M e) in
+              let H = either-on (rw t at (searchBlock-grows-or-ends n cost (signedAt v) (at rows) start floor (C .fair) (C .has-free .column) (C .has-free .below) (C .has-free .free) w (B .head))) in (
                 record {
                   room-size = B .room-size;
                   list = M .list;

@@ -7,7 +7,7 @@ use lib.IntN.{ℤ, _-ℤ_}
 use lib.ListN.{length, take, drop}
 use Rattle.lists.specs.Permutations.{table}
 use Rattle.lists.proofs.Tables.{length-table, table-cong}
-use Rattle.assignment.specs.Pairings.{price, square}
+use Rattle.assignment.specs.Pairings.{signedAt, square}
 use Rattle.rules.specs.Lowest.{reduced}
 use Rattle.rules.specs.Search.{workOf}
 use Rattle.augmentation.specs.Room.{listIn, predecessorsIn, roomWith}
@@ -39,7 +39,7 @@ module _ (n : ℕ) (costs : List ℤ) (start : ℕ) (v : List ℤ) (room₀ : Li
     with-list-length : length (withList l) ≡ n + n + n + n
     with-list-length = ap length with-list ∙ room-length n room₀ size l (predecessorsIn n room₀) list-size (predecessors-length n room₀ size)
 
-    pub started : (row d : List ℤ) (p : List ℕ) → row ≡ rowOf n costs start → d ≡ table n (λ j. price row j -ℤ price v j)
+    pub started : (row d : List ℤ) (p : List ℕ) → row ≡ rowOf n costs start → d ≡ table n (λ j. signedAt row j -ℤ signedAt v j)
         → p ≡ table (length (take (n + n + n - (n + n)) (drop (n + n) (withList l)))) (λ j. start)
         → Started n costs start v room₀ d (take (n + n) (withList l) ++ (p ++ drop (n + n + n - (n + n)) (drop (n + n) (withList l))))
     started row d p row-is distances filled =
@@ -52,10 +52,10 @@ module _ (n : ℕ) (costs : List ℤ) (start : ℕ) (v : List ℤ) (room₀ : Li
         ∙ predecessors-back n room₀ size l (predecessorsIn n room₀) list-size (predecessors-length n room₀ size) p sp in
         let el : listIn n room ≡ l = ap (listIn n) whole ∙ list-of n room₀ size l p list-size sp in
         let ep : predecessorsIn n room ≡ p = ap (predecessorsIn n) whole ∙ predecessors-of n room₀ size l p list-size sp in
-        let de : d ≡ table n (reduced (square n costs .cost) (price v) start) =
+        let de : d ≡ table n (reduced (square n costs .cost) (signedAt v) start) =
         distances
-        ∙ table-cong n (λ j. price row j -ℤ price v j) (reduced (square n costs .cost) (price v) start)
-        (λ j h. ap (λ (x : ℤ). x -ℤ price v j) (ap (λ (s : List ℤ). price s j) row-is ∙ sym (row-cost n costs start j h))) in
+        ∙ table-cong n (λ j. signedAt row j -ℤ signedAt v j) (reduced (square n costs .cost) (signedAt v) start)
+        (λ j h. ap (λ (x : ℤ). x -ℤ signedAt v j) (ap (λ (s : List ℤ). signedAt s j) row-is ∙ sym (row-cost n costs start j h))) in
         record {
           same =
               ap₂ (λ (a b : List ℕ). workOf 0 a d b 0) (el ∙ list-is) (ep ∙ pe)

@@ -7,11 +7,11 @@ use lib.ListN.{length}
 use Rattle.ints.specs.Parts.{Within}
 use Rattle.lists.specs.Runs.{left}
 use Rattle.lists.specs.Permutations.{at}
-use Rattle.assignment.specs.Pairings.{price, square}
+use Rattle.assignment.specs.Pairings.{signedAt, square}
 use Rattle.matrix.specs.Limits.{side, near}
 use Rattle.rules.specs.Columns.{Pairs, Stage}
-use Rattle.rules.specs.Augmentation.{Open, flips, State, augments, augmentation}
-use Rattle.rules.proofs.Augment.{Can}
+use Rattle.rules.specs.Augmentation.{Open, flips, Progress, augments, augmentation}
+use Rattle.rules.specs.Asked.{Can}
 use Rattle.augmentation.specs.Room.{freesIn, marksIn}
 
 abbrev pub pairsOf : List ℕ → List ℕ → Pairs
@@ -38,20 +38,20 @@ abbrev pub stageIn : ℕ → List ℕ → List ℕ → List ℤ → List ℕ →
 stageIn n cols rows v room count = record { pairs = pairsOf cols rows; prices = v; frees = freesIn n room; count = count }
 
 -- What the augmentation comes to.
-abbrev pub stateOf : List ℕ → List ℕ → List ℤ → ℕ → State
+abbrev pub stateOf : List ℕ → List ℕ → List ℤ → ℕ → Progress
 stateOf cols rows v scanned = record { pairs = pairsOf cols rows; prices = v; scanned = scanned }
 
 -- Row s can get a column from state x (`Can`: the pairs agree, prices are fair, and the row has no column), and prices are near.
-pub record CanTurn (n : ℕ) (costs : List ℤ) (x : State) (s : ℕ) : Type 0 where
+pub record CanTurn (n : ℕ) (costs : List ℤ) (x : Progress) (s : ℕ) : Type 0 where
   pub can : Can n (square n costs .cost) x s
-  pub prices-near : (k : ℕ) → Within near (price (x .prices) k)
+  pub prices-near : (k : ℕ) → Within near (signedAt (x .prices) k)
 
 -- The first `count` free rows can get their columns: each can, from the state that the rows before it leave.
 pub record CanAugment (n : ℕ) (costs : List ℤ) (count : ℕ) (cols rows : List ℕ) (v d : List ℤ) (room : List ℕ) : Type 0 where
   pub small : n ≤ side
   pub few : count ≤ n
   pub costs-size : length costs ≡ n * n
-  pub costs-near : (k : ℕ) → Within near (price costs k)
+  pub costs-near : (k : ℕ) → Within near (signedAt costs k)
   pub cols-size : length cols ≡ n
   pub rows-size : length rows ≡ n
   pub prices-size : length v ≡ n

@@ -1,4 +1,4 @@
--- The work of a search as it lies in lent memory, and what the look of one row leaves there.
+-- The work of a search as it lies in lent memory, and what one row that sees the columns leaves there.
 use mathlib.Core.Path.{_≡_}
 use mathlib.Core.List.{List}
 use Prim.Native.Nat.{ℕ, _+_, _≤_, _<_}
@@ -7,7 +7,7 @@ use lib.ListN.{length}
 use Rattle.ints.specs.Parts.{Within}
 use Rattle.lists.specs.Runs.{Turn, on, left, until}
 use Rattle.lists.specs.Permutations.{at, Permutation}
-use Rattle.assignment.specs.Pairings.{price, square}
+use Rattle.assignment.specs.Pairings.{signedAt, square}
 use Rattle.matrix.specs.Limits.{side, near}
 use Rattle.rules.specs.declared.ScanEnd.{ScanEnd}
 use Rattle.rules.specs.Search.{Work, workOf, Hit, scanColumn, scanRow}
@@ -18,7 +18,7 @@ use Rattle.augmentation.specs.Room.{listIn, predecessorsIn, roomWith}
 abbrev pub workIn : ℕ → ℕ → List ℤ → List ℕ → ℕ → Work
 workIn n hi distances room scanned = workOf hi (listIn n room) distances (predecessorsIn n room) scanned
 
--- What the look of one row leaves: the code's answer, and the work but for the block's end where a column was hit.
+-- What one row leaves: the code's answer, and the work but for the block's end where a column was hit.
 pub record Seen : Type 0 where
   pub answer : ScanEnd
   pub list : List ℕ
@@ -61,18 +61,18 @@ pub record Lent (n : ℕ) (v : List ℤ) (rows : List ℕ) (d : List ℤ) (room 
   pub distances-size : length d ≡ n
   pub room-size : length room ≡ n + n + n + n
   pub listed : Permutation n (listIn n room)
-  pub prices-near : (j : ℕ) → Within near (price v j)
+  pub prices-near : (j : ℕ) → Within near (signedAt v j)
 
--- Row i, whose costs are given, looks at the columns from place hi on; `scanned` columns were scanned. The costs of other rows do not
+-- Row i, whose costs are given, sees the columns from place hi on; `scanned` columns were scanned. The costs of other rows do not
 -- count.
-pub record Looked (n i : ℕ) (row v : List ℤ) (rows : List ℕ) (h minimum : ℤ) (hi : ℕ) (d₀ : List ℤ) (room₀ : List ℕ) (r : ScanEnd)
+pub record ColumnsLowered (n i : ℕ) (row v : List ℤ) (rows : List ℕ) (h minimum : ℤ) (hi : ℕ) (d₀ : List ℤ) (room₀ : List ℕ) (r : ScanEnd)
     (d : List ℤ) (room : List ℕ) : Type 0 where
-  pub same : (cost : ℕ → ℕ → ℤ) → ((j : ℕ) → j < n → cost i j ≡ price row j) → (scanned : ℕ)
-      → seenIn r n d room scanned ≡ seen (until hi n (scanColumn n cost (price v) (at rows) minimum h i) (workIn n hi d₀ room₀ scanned))
+  pub same : (cost : ℕ → ℕ → ℤ) → ((j : ℕ) → j < n → cost i j ≡ signedAt row j) → (scanned : ℕ)
+      → seenIn r n d room scanned ≡ seen (until hi n (scanColumn n cost (signedAt v) (at rows) minimum h i) (workIn n hi d₀ room₀ scanned))
   pub frame : room ≡ roomWith n (listIn n room) (predecessorsIn n room) room₀
 
--- The row of the column at place lo looks at the columns from place hi on.
+-- The row of the column at place lo sees the columns from place hi on.
 pub record Scanned (n : ℕ) (costs v : List ℤ) (rows : List ℕ) (lo hi : ℕ) (d₀ : List ℤ) (room₀ : List ℕ) (r : ScanEnd) (d : List ℤ)
     (room : List ℕ) : Type 0 where
-  pub same : (scanned : ℕ) → seenIn r n d room (scanned + 1) ≡ seen (scanRow n (square n costs .cost) (price v) (at rows) lo (workIn n hi d₀ room₀ scanned))
+  pub same : (scanned : ℕ) → seenIn r n d room (scanned + 1) ≡ seen (scanRow n (square n costs .cost) (signedAt v) (at rows) lo (workIn n hi d₀ room₀ scanned))
   pub frame : room ≡ roomWith n (listIn n room) (predecessorsIn n room) room₀

@@ -1,20 +1,22 @@
 // Rules 2, 5 and 6: the block of minima, the search with its scan, and augmentation, under the crate's names.
 ghost use mathlib.Core.Path.{_≡_};
+ghost use mathlib.Core.Bool.{cond};
 ghost use Prim.Native.Nat.{ℕ, _+_, _*_, _<_, _≤_};
 ghost use lib.IntN.{_-ℤ_};
 ghost use lib.ListN.{length};
 ghost use Rattle.ints.specs.Parts.{Within};
 ghost use Rattle.lists.specs.Permutations.{at, table, exchange, Permutation};
-ghost use Rattle.assignment.specs.Pairings.{price};
+ghost use Rattle.assignment.specs.Pairings.{signedAt};
 ghost use Rattle.matrix.specs.Limits.{side, near};
+ghost use Rattle.rules.specs.declared.LastFree.the-variants.{At};
 ghost use Rattle.rules.specs.Block.{block};
 ghost use Rattle.rules.specs.Search.{lastFree, newPrices};
 ghost use Rattle.rules.specs.Augmentation.{flips, flipped};
-ghost use Rattle.augmentation.specs.Scan.{Lent, Looked, Scanned};
+ghost use Rattle.augmentation.specs.Scan.{Lent, ColumnsLowered, Scanned};
 ghost use Rattle.augmentation.specs.Search.{CanStart, Started, CanScan, CanChange, readyAt, CanSearch, Searched, foundFrom};
 ghost use Rattle.augmentation.specs.Augmentation.{CanFlip, CanAugment, Augmented, pairsOf, openAt};
-use matrix::reduced_cost;
-use matrix::row;
+use matrix::rows::reduced_cost;
+use matrix::rows::row;
 use rules::Cursor;
 use rules::LastFree;
 use rules::Reached;
@@ -64,6 +66,22 @@ fn find_dense(n: usize, lo: usize, d: &[i64], list: &mut [u32]) -> usize
     hi
 }
 
+// The last free column so far, with column j: a free one takes the place of one found earlier.
+fn later(found: LastFree, j: usize, free: bool) -> LastFree
+    ensures { λ r. ⌜ r ≡ cond free (At j) found ⌝ }
+{
+    match found {
+        LastFree::NoneYet => {
+            if free {
+                LastFree::At(j)
+            } else {
+                LastFree::NoneYet
+            }
+        }
+        LastFree::At(earlier) => LastFree::At(if free { j } else { earlier }),
+    }
+}
+
 // Rule 5: the last free column of a fresh block.
 fn last_free(n: usize, lo: usize, hi: usize, list: &[u32], rows: &[u32]) -> LastFree
     requires { ⌜ (lo ≤ hi) × (hi ≤ n) × (length (now rows) ≡ n) × Permutation n (now list) ⌝ }
@@ -73,9 +91,7 @@ fn last_free(n: usize, lo: usize, hi: usize, list: &[u32], rows: &[u32]) -> Last
     let mut k = lo;
     while k < hi {
         let j = list[k] as usize;
-        if n <= rows[j] as usize {
-            last = LastFree::At(j);
-        }
+        last = later(last, j, n <= rows[j] as usize);
         k += 1;
     }
     last
@@ -95,8 +111,8 @@ fn number_columns(list: &mut [u32])
 
 // Each column as far as a row makes it: its reduced cost there.
 fn first_distances(n: usize, row: &[i32], v: &[i64], d: &mut [i64])
-    requires { ⌜ (length (now row) ≡ n) × (length (now v) ≡ n) × (length (now d) ≡ n) × ((j : ℕ) → Within near (price (now v) j)) ⌝ }
-    ensures { λ r. ⌜ now (d .exit) ≡ table n (λ j. price (now (row .entry)) j -ℤ price (now (v .entry)) j) ⌝ }
+    requires { ⌜ (length (now row) ≡ n) × (length (now v) ≡ n) × (length (now d) ≡ n) × ((j : ℕ) → Within near (signedAt (now v) j)) ⌝ }
+    ensures { λ r. ⌜ now (d .exit) ≡ table n (λ j. signedAt (now (row .entry)) j -ℤ signedAt (now (v .entry)) j) ⌝ }
 {
     let mut j = 0;
     while j < n {
@@ -105,7 +121,7 @@ fn first_distances(n: usize, row: &[i32], v: &[i64], d: &mut [i64])
     }
 }
 
-// Row i looks at the columns from place `from` on; h is how far its reduced cost at its own column is above the block's minimum. Distances
+// Row i sees the columns from place `from` on; h is how far its reduced cost at its own column is above the block's minimum. Distances
 // change only when strictly lower. A column that comes to the minimum is swapped to the block's end, or ends the search if it is free.
 fn lower_columns(
     n: usize,
@@ -120,7 +136,7 @@ fn lower_columns(
     room: &mut [u32],
 ) -> ScanEnd
     requires { ⌜ Lent n (now v) (now rows) (now d) (now room) × (length (now row) ≡ n) × (from ≤ n) × Within (4 * near) h ⌝ }
-    ensures { λ r. ⌜ Looked n i (now (row .entry)) (now (v .entry)) (now (rows .entry)) h minimum from (now (d .entry)) (now (room .entry)) r (now (d .exit)) (now (room .exit)) ⌝ }
+    ensures { λ r. ⌜ ColumnsLowered n i (now (row .entry)) (now (v .entry)) (now (rows .entry)) h minimum from (now (d .entry)) (now (room .entry)) r (now (d .exit)) (now (room .exit)) ⌝ }
 {
     let n2 = n + n;
     let mut hi = from;
@@ -145,7 +161,7 @@ fn lower_columns(
     ScanEnd::On(hi)
 }
 
-// Rule 5, the scan of one column: the row of the column at the cursor's lo looks at the columns from its hi on.
+// Rule 5, the scan of one column: the row of the column at the cursor's lo sees the columns from its hi on.
 fn scan_dense(
     n: usize,
     costs: &[i32],

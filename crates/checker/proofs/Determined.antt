@@ -3,9 +3,11 @@ use mathlib.Core.Path.{_≡_, sym, _∙_}
 use mathlib.Core.List.{List}
 use Prim.Native.Nat.{ℕ}
 use lib.IntN.{ℤ}
+use Rattle.matrix.specs.Answers.{valuesOf}
 use Rattle.matrix.specs.declared.Answer.{Answer}
+use Rattle.matrix.proofs.Determined.{values-determine}
 use Rattle.checker.specs.Check.{check}
 
 pub check-determined : (n : ℕ) (costs : List ℤ) (cols rows : List ℕ) (us vs : List ℤ) (answer other : Answer)
-    → answer ≡ check n costs cols rows us vs → other ≡ check n costs cols rows us vs → answer ≡ other
-check-determined n costs cols rows us vs answer other e f = e ∙ sym f
+    → valuesOf answer ≡ valuesOf (check n costs cols rows us vs) → valuesOf other ≡ valuesOf (check n costs cols rows us vs) → answer ≡ other
+check-determined n costs cols rows us vs answer other e f = values-determine answer other (e ∙ sym f)

@@ -1,6 +1,6 @@
 -- What the checker accepts is least; prices accepted for one pairing are accepted for exactly the least ones; and what is not least is
 -- refused under any prices. Assumes nothing.
-use mathlib.Core.Path.{_≡_, refl, sym, _∙_}
+use mathlib.Core.Path.{_≡_, sym, _∙_}
 use mathlib.Core.Logic.{_↔_}
 use mathlib.Core.List.{List}
 use Prim.Native.Nat.{ℕ, _≤_}
@@ -8,19 +8,15 @@ use lib.IntN.{ℤ}
 use lib.ListN.{length, take}
 use lib.Seq.{length-take-le}
 use Rattle.assignment.specs.Pairings.{square, Pairing, total, Least, Named}
-use Rattle.assignment.specs.Prices.{Tight}
-use Rattle.assignment.proofs.Square.{square-prices-least, square-least-iff, square-named-pairing}
-use Rattle.assignment.proofs.Longer.{total-first, named-first, tight-first}
+use Rattle.assignment.proofs.Square.{square-spares, square-named-pairing}
+use Rattle.assignment.proofs.Longer.{total-first, named-first, spares-first}
 use Rattle.matrix.specs.declared.Refusal.{Refusal}
-use Rattle.matrix.specs.declared.Answer.{Answer}
 use Rattle.matrix.specs.declared.Answer.the-variants.{Total, Refused}
-use Rattle.checker.specs.Check.{check}
-use Rattle.checker.specs.Fair.{Fair}
-use Rattle.checker.proofs.Accepted.{accepted-fair, fair-accepted}
-
--- An answer that accepts: with some total.
-abbrev pub Accepts : Answer → Type 0
-Accepts answer = (t : ℤ) × (answer ≡ Total t)
+use Rattle.matrix.proofs.Verdicts.{fails-totalled}
+use Rattle.checker.specs.Check.{checks, check}
+use Rattle.checker.specs.Proven.{Accepts, Proven, Shown}
+use Rattle.checker.proofs.Accepted.{checks-iff, accepted-proven, proven-accepted}
+use Rattle.checker.proofs.Shown.{shown-least, shown-iff-least, not-least-fails}
 
 module _ (n : ℕ) (costs : List ℤ) where
   -- Lists that name each other: the first n columns are a pairing.
@@ -28,23 +24,20 @@ module _ (n : ℕ) (costs : List ℤ) where
   named-first-pairing cols rows l named =
       square-named-pairing n costs (take n cols) rows (length-take-le n cols l) (named-first (square n costs) cols rows .1 named)
 
-  module _ (cols rows : List ℕ) (us vs : List ℤ) {t : ℤ} (accepted : check n costs cols rows us vs ≡ Total t) where
-    fair : Fair n costs cols rows us vs
-    fair = accepted-fair n costs cols rows us vs accepted .0
+  -- What is fair is shown: a square night has no spare column.
+  pub proven-shown : (cols rows : List ℕ) (us vs : List ℤ) → Proven n costs cols rows us vs → Shown (square n costs) cols us vs
+  proven-shown cols rows us vs f =
+      let p = named-first-pairing cols rows (f .sizes .columns-listed) (f .named) in
+      record { pairing = p; feasible = f .feasible; tight = f .tight; spares = spares-first (square n costs) cols vs .0 (square-spares n costs vs (take n cols) p) }
 
-    pairing : Pairing (square n costs) (take n cols)
-    pairing = named-first-pairing cols rows (fair .sizes .columns-listed) (fair .named)
+  -- What is accepted is least.
+  pub accepted-least : (cols rows : List ℕ) (us vs : List ℤ) {t : ℤ} → check n costs cols rows us vs ≡ Total t → Least (square n costs) (take n cols)
+  accepted-least cols rows us vs accepted =
+      shown-least (square n costs) us vs cols (proven-shown cols rows us vs (accepted-proven n costs cols rows us vs accepted .0))
 
-    tight : Tight (square n costs) us vs (take n cols)
-    tight = tight-first (square n costs) cols us vs .1 (fair .tight)
-
-    -- What is accepted is least.
-    pub accepted-least : Least (square n costs) (take n cols)
-    accepted-least = square-prices-least n costs us vs (fair .feasible) (take n cols) pairing tight
-
-    -- The total that is given is its total.
-    pub accepted-total : t ≡ total (square n costs) (take n cols)
-    accepted-total = accepted-fair n costs cols rows us vs accepted .1 ∙ sym (total-first (square n costs) cols)
+  -- The total that is given is its total.
+  pub accepted-total : (cols rows : List ℕ) (us vs : List ℤ) {t : ℤ} → check n costs cols rows us vs ≡ Total t → t ≡ total (square n costs) (take n cols)
+  accepted-total cols rows us vs accepted = accepted-proven n costs cols rows us vs accepted .1 ∙ sym (total-first (square n costs) cols)
 
   -- Prices that are accepted for one pairing: another well-formed one is accepted under them exactly if it is least.
   pub accepted-iff-least : (cols rows : List ℕ) (us vs : List ℤ) {t : ℤ} → check n costs cols rows us vs ≡ Total t
@@ -53,10 +46,10 @@ module _ (n : ℕ) (costs : List ℤ) where
   accepted-iff-least cols rows us vs accepted other back l m named = (
     λ a. accepted-least other back us vs (a .1),
     λ least.
-        let f = fair cols rows us vs accepted in
-        let met = square-least-iff n costs us vs (f .feasible) (take n cols) (pairing cols rows us vs accepted) (tight cols rows us vs accepted) (take n other) (named-first-pairing other back l named) .0 least in (
+        let f = accepted-proven n costs cols rows us vs accepted .0 in
+        let s = shown-iff-least (square n costs) us vs cols (proven-shown cols rows us vs f) other (named-first-pairing other back l named) .1 least in (
           total (square n costs) other,
-          fair-accepted n costs other back us vs
+          proven-accepted n costs other back us vs
               (record {
                 sizes = record { small = f .sizes .small; squared = f .sizes .squared; columns-listed = l; rows-listed = m };
                 within = f .within;
@@ -64,7 +57,7 @@ module _ (n : ℕ) (costs : List ℤ) where
                 row-prices = f .row-prices;
                 column-prices = f .column-prices;
                 feasible = f .feasible;
-                tight = tight-first (square n costs) other us vs .0 met;
+                tight = s .tight;
               }),
         ),
   )
@@ -72,8 +65,7 @@ module _ (n : ℕ) (costs : List ℤ) where
   -- What is not least is refused, whatever rows and prices come with it.
   pub not-least-refused : (cols rows : List ℕ) (us vs : List ℤ) → ¬ Least (square n costs) (take n cols)
       → (refusal : Refusal) × (check n costs cols rows us vs ≡ Refused refusal)
-  not-least-refused cols rows us vs not-least = by (check n costs cols rows us vs) refl
-    where
-      by : (answer : Answer) → check n costs cols rows us vs ≡ answer → (refusal : Refusal) × (check n costs cols rows us vs ≡ Refused refusal)
-      by (Total t) e = absurd (not-least (accepted-least cols rows us vs e))
-      by (Refused refusal) e = (refusal, e)
+  unfolding check
+  not-least-refused cols rows us vs not-least =
+      let r = not-least-fails (square n costs) us vs cols (checks n costs cols rows us vs) (λ e. proven-shown cols rows us vs (checks-iff n costs cols rows us vs .0 e)) not-least in
+      (r .0, sym (fails-totalled (total (square n costs) cols) (r .1)))

@@ -3,10 +3,10 @@ use mathlib.Core.Path.{_≡_, refl, sym, ap, ap₂, _∙_}
 use mathlib.Core.Bool.{Bool, true, false, not, _||_, or-true, true≢false}
 use mathlib.Core.Logic.{⊎-elim}
 use mathlib.Core.List.{List}
-use Prim.Native.Nat.{ℕ, _*_, _≤_, _<_}
+use Prim.Native.Nat.{ℕ, _*_, _<_}
 use borrow.Author.Tests.{eqb-true, eqb-false}
 use lib.Dec.{eqb}
-use lib.IntN.{ℤ, pos, _+ℤ_}
+use lib.IntN.{ℤ, _+ℤ_}
 use lib.ListN.{length}
 use lib.Signed.{ltZ, _≤ℤ_, _<ℤ_}
 use mir.Syntax.{Width, w64}
@@ -19,15 +19,12 @@ use Rattle.ints.proofs.Tests.{lt-ltZ, le-ltZ, le-or-lt}
 use Rattle.ints.proofs.Bits.{bits-injective}
 use Rattle.lists.specs.Runs.{first}
 use Rattle.lists.specs.Parts.{part}
-use Rattle.assignment.specs.Pairings.{price}
+use Rattle.assignment.specs.Pairings.{signedAt, square}
 use Rattle.matrix.specs.Limits.{K}
-use Rattle.matrix.specs.Refusals.{outside}
-use Rattle.matrix.proofs.Limits.{K-small}
-use Rattle.matrix.proofs.First.{first-cong, nowhere}
-use Rattle.matrix.proofs.Bounds.{outside-within}
-use Rattle.matrix.proofs.Rows.{row-length, row-at}
-use Rattle.checker.specs.Check.{over, differ}
-use Rattle.checker.specs.Fair.{Prices}
+use Rattle.matrix.proofs.SmallLimits.{K-small}
+use Rattle.matrix.proofs.First.{first-cong}
+use Rattle.matrix.proofs.RowParts.{row-length, row-at}
+use Rattle.checker.specs.Tests.{over, differ}
 
 module _ (row column : ℤ) (f : SFits w64 row) (g : SFits w64 column) (near : Within (10 * K) row) (close : Within (10 * K) column) where
   pub sum-fits : SFits w64 (row +ℤ column)
@@ -38,15 +35,6 @@ module _ (row column : ℤ) (f : SFits w64 row) (g : SFits w64 column) (near : W
 
   pub read-fits : SFits w64 (toZ w64 (ofZ w64 row) +ℤ toZ w64 (ofZ w64 column))
   read-fits = rw sum-read sum-fits
-
--- ---- prices in their range, once no price outside it was found
-
-pub prices-kept : (n : ℕ) (prices : List ℤ) → n ≤ length prices → n ≤ first n (λ i. outside (pos (10 * K)) (price prices i)) → Prices n prices
-prices-kept n prices enough h =
-    record {
-      enough = enough;
-      within = λ i l. outside-within (10 * K) (price prices i) .0 (nowhere (λ i. outside (pos (10 * K)) (price prices i)) n h i l);
-    }
 
 -- ---- one number is not another
 
@@ -80,11 +68,11 @@ differ-bits {w} a b f g = by (eqb (ofZ w a) (ofZ w b)) refl
 
 -- The prices are over the cost in one row of costs with its price, at column j.
 abbrev pub overAt : List ℤ → ℤ → List ℤ → ℕ → Bool
-overAt row u vs j = ltZ (price row j) (u +ℤ price vs j)
+overAt row u vs j = ltZ (signedAt row j) (u +ℤ signedAt vs j)
 
 -- What is looked for in the part that holds row i is what is looked for in row i of the night.
-pub row-first : (n : ℕ) (costs us vs : List ℤ) (i : ℕ) → i < n → length costs ≡ n * n → (row : List ℤ) → row ≡ part (i * n) n costs → (u : ℤ) → u ≡ price us i
-    → first (length row) (overAt row u vs) ≡ first n (over n costs us vs i)
+pub row-first : (n : ℕ) (costs us vs : List ℤ) (i : ℕ) → i < n → length costs ≡ n * n → (row : List ℤ) → row ≡ part (i * n) n costs → (u : ℤ) → u ≡ signedAt us i
+    → first (length row) (overAt row u vs) ≡ first n (over (square n costs) us vs i)
 row-first n costs us vs i l e row same u at =
     ap (λ (m : ℕ). first m (overAt row u vs)) (ap length same ∙ row-length n costs i l e)
-    ∙ first-cong n (overAt row u vs) (over n costs us vs i) (λ j k. ap₂ ltZ (ap (λ (p : List ℤ). price p j) same ∙ row-at n costs i j k) (ap (λ (z : ℤ). z +ℤ price vs j) at))
+    ∙ first-cong n (overAt row u vs) (over (square n costs) us vs i) (λ j k. ap₂ ltZ (ap (λ (p : List ℤ). signedAt p j) same ∙ row-at n costs i j k) (ap (λ (z : ℤ). z +ℤ signedAt vs j) at))

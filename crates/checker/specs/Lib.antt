@@ -1,3 +1,4 @@
+pub mod Tests
 pub mod Check
-pub mod Fair
+pub mod Proven
 pub mod Nights

@@ -4,7 +4,7 @@ use Prim.Native.Nat.{ℕ}
 use lib.IntN.{ℤ, pos, negsuc}
 use Rattle.matrix.specs.declared.Answer.{Answer}
 use Rattle.matrix.specs.declared.Answer.the-variants.{Total, Refused}
-use Rattle.matrix.specs.declared.Refusal.the-variants.{ListLength, ColumnOutside, RowNotNamed, PriceOutside, PricesOverCost, PricesNotCost}
+use Rattle.matrix.specs.Refusals.{ListLength, ColumnOutside, RowNotNamed, PriceOutside, PricesOverCost, PricesNotCost}
 use Rattle.checker.specs.Check.{check}
 
 -- Columns, rows, row prices, column prices, and what the checker answers.
@@ -17,6 +17,9 @@ pub record Line : Type 0 where
 
 abbrev pub line : List ℕ → List ℕ → List ℤ → List ℤ → Answer → Line
 line cols rows us vs answer = record { cols = cols; rows = rows; rowPrices = us; columnPrices = vs; answer = answer }
+
+abbrev pub refused : ℕ → ℕ → Answer
+refused number place = Refused (record { number = number; place = place })
 
 -- N8: [3 1 0 / 0 0 2 / 4 1 0], its row prices and its column prices.
 abbrev pub costs : List ℤ
@@ -37,14 +40,14 @@ nights =
     -- "N9: N8's prices, columns 1 0 2: checker accepts, total 1."
     line (1 ∷ 0 ∷ 2 ∷ []) (1 ∷ 0 ∷ 2 ∷ []) us vs (Total (pos 1))
     -- "N10: N8's prices, columns 0 1 2: refusal 10, row 0."
-    ∷ line (0 ∷ 1 ∷ 2 ∷ []) (0 ∷ 1 ∷ 2 ∷ []) us vs (Refused (PricesNotCost 0))
+    ∷ line (0 ∷ 1 ∷ 2 ∷ []) (0 ∷ 1 ∷ 2 ∷ []) us vs (refused PricesNotCost 0)
     -- N8's own columns, with entries past the side, which are not read.
     ∷ line (2 ∷ 0 ∷ 1 ∷ 9 ∷ []) (1 ∷ 2 ∷ 0 ∷ 9 ∷ []) us vs (Total (pos 1))
     -- A column price list that is short; a column that is not below 3 in row 1, though row 0 is not named back; a column listed twice.
-    ∷ line (1 ∷ 0 ∷ 2 ∷ []) (1 ∷ 0 ∷ 2 ∷ []) us (pos 0 ∷ pos 0 ∷ []) (Refused (ListLength 4))
-    ∷ line (1 ∷ 3 ∷ 2 ∷ []) (1 ∷ 1 ∷ 2 ∷ []) us vs (Refused (ColumnOutside 1))
-    ∷ line (1 ∷ 1 ∷ 2 ∷ []) (1 ∷ 0 ∷ 2 ∷ []) us vs (Refused (RowNotNamed 1))
+    ∷ line (1 ∷ 0 ∷ 2 ∷ []) (1 ∷ 0 ∷ 2 ∷ []) us (pos 0 ∷ pos 0 ∷ []) (refused ListLength 4)
+    ∷ line (1 ∷ 3 ∷ 2 ∷ []) (1 ∷ 1 ∷ 2 ∷ []) us vs (refused ColumnOutside 1)
+    ∷ line (1 ∷ 1 ∷ 2 ∷ []) (1 ∷ 0 ∷ 2 ∷ []) us vs (refused RowNotNamed 1)
     -- A column price over 10K; a column price one too high, and so over the cost at place (0, 1).
-    ∷ line (1 ∷ 0 ∷ 2 ∷ []) (1 ∷ 0 ∷ 2 ∷ []) us (pos 0 ∷ pos 0 ∷ pos 10000000001 ∷ []) (Refused (PriceOutside 5))
-    ∷ line (1 ∷ 0 ∷ 2 ∷ []) (1 ∷ 0 ∷ 2 ∷ []) us (negsuc 0 ∷ pos 1 ∷ negsuc 0 ∷ []) (Refused (PricesOverCost 1))
+    ∷ line (1 ∷ 0 ∷ 2 ∷ []) (1 ∷ 0 ∷ 2 ∷ []) us (pos 0 ∷ pos 0 ∷ pos 10000000001 ∷ []) (refused PriceOutside 5)
+    ∷ line (1 ∷ 0 ∷ 2 ∷ []) (1 ∷ 0 ∷ 2 ∷ []) us (negsuc 0 ∷ pos 1 ∷ negsuc 0 ∷ []) (refused PricesOverCost 1)
     ∷ []

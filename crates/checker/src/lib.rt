@@ -9,13 +9,20 @@ ghost use lib.ListN.{length};
 ghost use Rattle.ints.specs.Parts.{Within};
 ghost use Rattle.lists.specs.Runs.{first};
 ghost use Rattle.lists.specs.Permutations.{at};
-ghost use Rattle.assignment.specs.Pairings.{price};
-ghost use Rattle.matrix.specs.Limits.{K};
-ghost use Rattle.matrix.specs.Cost.{Listed};
-ghost use Rattle.checker.specs.Check.{overIn, differ, loose, checkPrices, check};
-ghost use Rattle.checker.specs.Fair.{Prices};
+ghost use Rattle.assignment.specs.Pairings.{signedAt};
+ghost use Rattle.matrix.specs.Answers.{valuesOf};
+ghost use Rattle.matrix.specs.Asked.{Listed, Shaped};
+ghost use Rattle.matrix.specs.Limits.{side, K};
+ghost use Rattle.assignment.specs.Pairings.{square};
+ghost use Rattle.matrix.specs.Verdicts.{Passes, _then_};
+ghost use Rattle.checker.specs.Tests.{rowsNamed, overIn, underCosts, differ, loose, tightOn};
+ghost use Rattle.checker.specs.Check.{priceTests, proofTests, checks, check};
+ghost use Rattle.checker.specs.Proven.{Prices};
 use matrix::Answer;
-use matrix::Refusal;
+use matrix::Verdict;
+use matrix::refusals;
+use matrix::rows::row;
+use matrix::tests;
 
 // Refusal 7: the first row whose column does not name it back, or n.
 fn first_row_not_named(n: usize, cols: &[u32], rows: &[u32]) -> usize
@@ -31,6 +38,21 @@ fn first_row_not_named(n: usize, cols: &[u32], rows: &[u32]) -> usize
         i += 1;
     }
     i
+}
+
+// Test 7.
+fn rows_named(before: Verdict, n: usize, cols: &[u32], rows: &[u32]) -> Verdict
+    requires { ⌜ (Passes before → (n ≤ length (now cols)) × (n ≤ length (now rows)) × ((i : ℕ) → i < n → at (now cols) i < n)) ⌝ }
+    ensures { λ r. ⌜ r ≡ (before then rowsNamed n (now (cols .entry)) (now (rows .entry))) ⌝ }
+{
+    match before {
+        Verdict::Fails(refusal) => {
+            return Verdict::Fails(refusal);
+        }
+        Verdict::Passed => {}
+    }
+    let i = first_row_not_named(n, cols, rows);
+    tests::fails_if(i < n, refusals::ROW_NOT_NAMED, i)
 }
 
 // The test of one place for refusal 9: row price + column price over the cost.
@@ -52,7 +74,7 @@ fn not_cost(cost: i32, u: i64, v: i64) -> bool
 // Refusal 9 in one row: the first column at which the prices are over the cost, or the row's length.
 fn first_column_over(row: &[i32], u: i64, vs: &[i64]) -> usize
     requires { ⌜ Within (10 * K) u × Prices (length (now row)) (now vs) ⌝ }
-    ensures { λ r. ⌜ r ≡ first (length (now (row .entry))) (λ j. ltZ (price (now (row .entry)) j) (u +ℤ price (now (vs .entry)) j)) ⌝ }
+    ensures { λ r. ⌜ r ≡ first (length (now (row .entry))) (λ j. ltZ (signedAt (now (row .entry)) j) (u +ℤ signedAt (now (vs .entry)) j)) ⌝ }
 {
     let mut j = 0;
     while j < row.len() {
@@ -67,11 +89,11 @@ fn first_column_over(row: &[i32], u: i64, vs: &[i64]) -> usize
 // Refusal 9: the first row that has a place at which the prices are over the cost, or n.
 fn first_row_over(n: usize, costs: &[i32], us: &[i64], vs: &[i64]) -> usize
     requires { ⌜ (length (now costs) ≡ n * n) × Prices n (now us) × Prices n (now vs) ⌝ }
-    ensures { λ r. ⌜ r ≡ first n (overIn n (now (costs .entry)) (now (us .entry)) (now (vs .entry))) ⌝ }
+    ensures { λ r. ⌜ r ≡ first n (overIn (square n (now (costs .entry))) (now (us .entry)) (now (vs .entry))) ⌝ }
 {
     let mut i = 0;
     while i < n {
-        let row = matrix::row(costs, n, i);
+        let row = row(costs, n, i);
         if first_column_over(row, us[i], vs) < n {
             return i;
         }
@@ -80,10 +102,30 @@ fn first_row_over(n: usize, costs: &[i32], us: &[i64], vs: &[i64]) -> usize
     i
 }
 
+// Test 9.
+fn under_costs(before: Verdict, n: usize, costs: &[i32], us: &[i64], vs: &[i64]) -> Verdict
+    requires { ⌜ (Passes before → (n ≤ side) × (length (now costs) ≡ n * n) × Prices n (now us) × Prices n (now vs)) ⌝ }
+    ensures { λ r. ⌜ r ≡ (before then underCosts (square n (now (costs .entry))) (now (us .entry)) (now (vs .entry))) ⌝ }
+{
+    match before {
+        Verdict::Fails(refusal) => {
+            return Verdict::Fails(refusal);
+        }
+        Verdict::Passed => {}
+    }
+    let i = first_row_over(n, costs, us, vs);
+    if n <= i {
+        return Verdict::Passed;
+    }
+    let row = row(costs, n, i);
+    let j = first_column_over(row, us[i], vs);
+    tests::fails_if(true, refusals::PRICES_OVER_COST, i * n + j)
+}
+
 // Refusal 10: the first row whose paired place has prices that are not the cost, or n.
 fn first_row_loose(n: usize, costs: &[i32], cols: &[u32], us: &[i64], vs: &[i64]) -> usize
     requires { ⌜ Listed n (now costs) n (now cols) × Prices n (now us) × Prices n (now vs) ⌝ }
-    ensures { λ r. ⌜ r ≡ first n (loose n (now (costs .entry)) (now (cols .entry)) (now (us .entry)) (now (vs .entry))) ⌝ }
+    ensures { λ r. ⌜ r ≡ first n (loose (square n (now (costs .entry))) (now (cols .entry)) (now (us .entry)) (now (vs .entry))) ⌝ }
 {
     let mut start = 0;
     let mut i = 0;
@@ -99,60 +141,74 @@ fn first_row_loose(n: usize, costs: &[i32], cols: &[u32], us: &[i64], vs: &[i64]
     i
 }
 
-// Refusals 8, 9 and 10, and the total.
-fn check_prices(n: usize, costs: &[i32], cols: &[u32], us: &[i64], vs: &[i64]) -> Answer
-    requires { ⌜ Listed n (now costs) n (now cols) × (n ≤ length (now us)) × (n ≤ length (now vs)) ⌝ }
-    ensures { λ r. ⌜ r ≡ checkPrices n (now (costs .entry)) (now (cols .entry)) (now (us .entry)) (now (vs .entry)) ⌝ }
+// Test 10.
+fn tight_on(
+    before: Verdict,
+    n: usize,
+    costs: &[i32],
+    cols: &[u32],
+    us: &[i64],
+    vs: &[i64],
+) -> Verdict
+    requires { ⌜ (Passes before → Listed n (now costs) n (now cols) × Prices n (now us) × Prices n (now vs)) ⌝ }
+    ensures { λ r. ⌜ r ≡ (before then tightOn (square n (now (costs .entry))) (now (cols .entry)) (now (us .entry)) (now (vs .entry))) ⌝ }
 {
-    let dear_row = matrix::first_price_outside(n, us);
-    if dear_row < n {
-        return Answer::Refused(Refusal::PriceOutside(dear_row));
+    match before {
+        Verdict::Fails(refusal) => {
+            return Verdict::Fails(refusal);
+        }
+        Verdict::Passed => {}
     }
-    let dear_column = matrix::first_price_outside(n, vs);
-    if dear_column < n {
-        let place = n + dear_column;
-        return Answer::Refused(Refusal::PriceOutside(place));
-    }
-    let i = first_row_over(n, costs, us, vs);
-    if i < n {
-        let row = matrix::row(costs, n, i);
-        let j = first_column_over(row, us[i], vs);
-        let place = i * n + j;
-        return Answer::Refused(Refusal::PricesOverCost(place));
-    }
-    let unmet = first_row_loose(n, costs, cols, us, vs);
-    if unmet < n {
-        return Answer::Refused(Refusal::PricesNotCost(unmet));
-    }
-    Answer::Total(matrix::total(n, costs, n, cols))
+    let i = first_row_loose(n, costs, cols, us, vs);
+    tests::fails_if(i < n, refusals::PRICES_NOT_COST, i)
+}
+
+// Tests 8, 9, 10: no two prices are added before every price has been tested.
+fn priced(before: Verdict, n: usize, costs: &[i32], cols: &[u32], us: &[i64], vs: &[i64]) -> Verdict
+    requires { ⌜ (Passes before → Listed n (now costs) n (now cols) × (n ≤ length (now us)) × (n ≤ length (now vs))) ⌝ }
+    ensures { λ r. ⌜ r ≡ (before then priceTests (square n (now (costs .entry))) (now (cols .entry)) (now (us .entry)) (now (vs .entry))) ⌝ }
+{
+    let within = tests::prices_within(before, n, n, us, vs);
+    let under = under_costs(within, n, costs, us, vs);
+    tight_on(under, n, costs, cols, us, vs)
+}
+
+// Tests 5 to 10.
+fn proven(
+    before: Verdict,
+    n: usize,
+    costs: &[i32],
+    cols: &[u32],
+    rows: &[u32],
+    us: &[i64],
+    vs: &[i64],
+) -> Verdict
+    requires { ⌜ (Passes before → Shaped n (now costs) (length (now cols)) (length (now rows)) (length (now us)) (length (now vs))) ⌝ }
+    ensures { λ r. ⌜ r ≡ (before then proofTests n (now (costs .entry)) (now (cols .entry)) (now (rows .entry)) (now (us .entry)) (now (vs .entry))) ⌝ }
+{
+    let within = tests::costs_within(before, costs);
+    let inside = tests::columns_inside(within, n, n, cols);
+    let named = rows_named(inside, n, cols, rows);
+    priced(named, n, costs, cols, us, vs)
+}
+
+// Tests 1, 2, 3, 5, 6, 7, 8, 9, 10.
+fn checked(n: usize, costs: &[i32], cols: &[u32], rows: &[u32], us: &[i64], vs: &[i64]) -> Verdict
+    ensures { λ r. ⌜ r ≡ checks n (now (costs .entry)) (now (cols .entry)) (now (rows .entry)) (now (us .entry)) (now (vs .entry)) ⌝ }
+{
+    let shaped = tests::shaped(n, costs, cols.len(), rows.len(), us.len(), vs.len());
+    proven(shaped, n, costs, cols, rows, us, vs)
 }
 
 // The checker, given row prices us and column prices vs: it accepts with the total, or refuses.
 pub fn check(n: usize, costs: &[i32], cols: &[u32], rows: &[u32], us: &[i64], vs: &[i64]) -> Answer
-    ensures { λ r. ⌜ r ≡ check n (now (costs .entry)) (now (cols .entry)) (now (rows .entry)) (now (us .entry)) (now (vs .entry)) ⌝ }
+    ensures { λ r. ⌜ valuesOf r ≡ valuesOf (check n (now (costs .entry)) (now (cols .entry)) (now (rows .entry)) (now (us .entry)) (now (vs .entry))) ⌝ }
 {
-    if matrix::side_over(n) {
-        return Answer::Refused(Refusal::SideOver);
+    match checked(n, costs, cols, rows, us, vs) {
+        Verdict::Fails(refusal) => {
+            return Answer::Refused(refusal);
+        }
+        Verdict::Passed => {}
     }
-    if matrix::not_square(n, costs) {
-        return Answer::Refused(Refusal::CostsNotSquare);
-    }
-    let list = matrix::first_list_short(n, cols.len(), rows.len(), us.len(), vs.len());
-    if list < 4 {
-        let number = list + 1;
-        return Answer::Refused(Refusal::ListLength(number));
-    }
-    let k = matrix::first_cost_outside(costs);
-    if k < costs.len() {
-        return Answer::Refused(Refusal::CostOutside(k));
-    }
-    let wide = matrix::first_column_outside(n, cols, n);
-    if wide < n {
-        return Answer::Refused(Refusal::ColumnOutside(wide));
-    }
-    let unnamed = first_row_not_named(n, cols, rows);
-    if unnamed < n {
-        return Answer::Refused(Refusal::RowNotNamed(unnamed));
-    }
-    check_prices(n, costs, cols, us, vs)
+    Answer::Total(matrix::total(n, costs, n, cols))
 }

@@ -1,12 +1,14 @@
 // The face for C and Rust: thin, no logic. Each slice is a pointer and its length in elements; structs are returned by value.
 ghost use mathlib.Core.Path.{_≡_};
 ghost use Rattle.matrix.specs.Cost.{cost};
-ghost use Rattle.matrix.proofs.Codes.{PlaceSmall};
+ghost use Rattle.matrix.specs.Answers.{valuesOf};
+ghost use Rattle.matrix.specs.Asked.{TellableIn};
 ghost use Rattle.checker.specs.Check.{check};
 ghost use Rattle.lapjv.specs.Solve.{lentOf, solve};
-ghost use Rattle.lapjv.proofs.Codes as solved;
-ghost use Rattle.sheet.specs.Settle.{Outcome, pair};
-ghost use Rattle.face.specs.Face.{totalled, solution, Told, toldOf};
+ghost use Rattle.lapjv.specs.Values.{solvedValues, toldOf};
+ghost use Rattle.lapjv.specs.Asked.{TellableSolved};
+ghost use Rattle.sheet.specs.Settle.{Delivery, pair};
+ghost use Rattle.face.specs.Face.{totalled, solution, Handed, handed};
 use lapjv::Solved;
 use matrix::Answer;
 
@@ -31,13 +33,13 @@ pub struct Solution {
 
 // What a C caller gets of an answer.
 fn told(answer: Answer) -> Totalled
-    requires { ⌜ PlaceSmall answer ⌝ }
-    ensures { λ r. ⌜ r ≡ totalled answer ⌝ }
+    requires { ⌜ TellableIn answer ⌝ }
+    ensures { λ r. ⌜ r ≡ totalled (valuesOf answer) ⌝ }
 {
     match answer {
         Answer::Total(total) => Totalled { refusal: 0, total },
         Answer::Refused(refusal) => Totalled {
-            refusal: matrix::code(refusal),
+            refusal: matrix::refusals::code(refusal),
             total: 0,
         },
     }
@@ -46,7 +48,7 @@ fn told(answer: Answer) -> Totalled
 // The crate's `cost`.
 #[no_mangle]
 pub extern "C" fn bristlefrost_cost(n: usize, costs: &[i32], listed: &[u32]) -> Totalled
-    ensures { λ r. ⌜ r ≡ totalled (cost n (now (costs .entry)) (now (listed .entry))) ⌝ }
+    ensures { λ r. ⌜ r ≡ totalled (valuesOf (cost n (now (costs .entry)) (now (listed .entry)))) ⌝ }
 {
     told(matrix::cost(n, costs, listed))
 }
@@ -61,15 +63,15 @@ pub extern "C" fn bristlefrost_check(
     row_prices: &[i64],
     col_prices: &[i64],
 ) -> Totalled
-    ensures { λ r. ⌜ r ≡ totalled (check n (now (costs .entry)) (now (cols .entry)) (now (rows .entry)) (now («row_prices» .entry)) (now («col_prices» .entry))) ⌝ }
+    ensures { λ r. ⌜ r ≡ totalled (valuesOf (check n (now (costs .entry)) (now (cols .entry)) (now (rows .entry)) (now («row_prices» .entry)) (now («col_prices» .entry)))) ⌝ }
 {
     told(checker::check(n, costs, cols, rows, row_prices, col_prices))
 }
 
 // What a C caller gets of the solver's answer.
 fn told_solved(answer: Solved) -> Solution
-    requires { ⌜ solved.PlaceSmall answer ⌝ }
-    ensures { λ r. ⌜ r ≡ solution answer ⌝ }
+    requires { ⌜ TellableSolved answer ⌝ }
+    ensures { λ r. ⌜ r ≡ solution (solvedValues answer) ⌝ }
 {
     match answer {
         Solved::Paired(night) => {
@@ -85,7 +87,7 @@ fn told_solved(answer: Solved) -> Solution
             }
         }
         Solved::Refused(refusal) => Solution {
-            refusal: matrix::code(refusal),
+            refusal: matrix::refusals::code(refusal),
             total: 0,
             free_rows: 0,
             looks_one: 0,
@@ -108,7 +110,7 @@ pub extern "C" fn bristlefrost_solve(
     indices: &mut [u32],
     numbers: &mut [i64],
 ) -> Solution
-    ensures { λ r. ⌜ _≡_ {A = Told} (record { solution = r; lent = lentOf (now (cols .exit)) (now (rows .exit)) (now («row_prices» .exit)) (now («col_prices» .exit)) (now (indices .exit)) (now (numbers .exit)) }) (toldOf (solve n (now (costs .entry)) (lentOf (now (cols .entry)) (now (rows .entry)) (now («row_prices» .entry)) (now («col_prices» .entry)) (now (indices .entry)) (now (numbers .entry))))) ⌝ }
+    ensures { λ r. ⌜ _≡_ {A = Handed} (record { solution = r; lent = lentOf (now (cols .exit)) (now (rows .exit)) (now («row_prices» .exit)) (now («col_prices» .exit)) (now (indices .exit)) (now (numbers .exit)) }) (handed (toldOf (solve n (now (costs .entry)) (lentOf (now (cols .entry)) (now (rows .entry)) (now («row_prices» .entry)) (now («col_prices» .entry)) (now (indices .entry)) (now (numbers .entry)))))) ⌝ }
 {
     told_solved(lapjv::solve(
         n,
@@ -125,7 +127,7 @@ pub extern "C" fn bristlefrost_solve(
 // A sheet's bytes, and the slip's room: 0, or number + 256*place.
 #[no_mangle]
 pub extern "C" fn bristlefrost_sheet(sheet: &[u8], slip: &mut [u8]) -> u64
-    ensures { λ r. ⌜ _≡_ {A = Outcome} (record { number = r; slip = now (slip .exit) }) (pair (now (sheet .entry)) (now (slip .entry))) ⌝ }
+    ensures { λ r. ⌜ _≡_ {A = Delivery} (record { number = r; slip = now (slip .exit) }) (pair (now (sheet .entry)) (now (slip .entry))) ⌝ }
 {
     sheet::pair(sheet, slip)
 }

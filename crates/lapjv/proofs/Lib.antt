@@ -1,5 +1,6 @@
 pub mod Tests
 pub mod Ready
+pub mod Owed
 pub mod Reducing
 pub mod Pairing
 pub mod Solving

@@ -9,20 +9,20 @@ use lib.ListN.{length, replicate}
 use Rattle.ints.specs.Parts.{Within}
 use Rattle.ints.proofs.Ranges.{within-mono}
 use Rattle.lists.specs.Permutations.{at}
-use Rattle.assignment.specs.Pairings.{price, square, total}
+use Rattle.assignment.specs.Pairings.{signedAt, square, total}
 use Rattle.matrix.specs.Limits.{K, near}
-use Rattle.matrix.specs.Cost.{Listed}
-use Rattle.matrix.proofs.Limits.{K-small}
+use Rattle.matrix.specs.Asked.{Listed}
+use Rattle.matrix.proofs.SmallLimits.{K-small}
 use Rattle.rules.specs.Columns.{Stage, columnReduction}
 use Rattle.rules.specs.Rows.{passEnd}
-use Rattle.rules.specs.Augmentation.{State, augments, augmentation}
-use Rattle.rules.specs.Run.{Answer, stages, run, rowPrices}
+use Rattle.rules.specs.Augmentation.{Progress, augments, augmentation}
+use Rattle.rules.specs.Run.{Result, stages, run, rowPrices}
 use Rattle.rules.proofs.Stages.{search-ready}
 use Rattle.rules.specs.Right.{Right}
 use Rattle.rules.proofs.Run.{run-right}
 use Rattle.augmentation.specs.Augmentation.{CanAugment, CanTurn, Augmented, stateOf}
 use Rattle.lapjv.specs.declared.Reduced.{Reduced}
-use Rattle.lapjv.specs.Priced.{Priced}
+use Rattle.lapjv.specs.Asked.{CanPrice}
 use Rattle.lapjv.specs.Stages.{Pairable, passOne, passTwo, ReducedBy, answerIn, PairedBy}
 use Rattle.lapjv.proofs.Ready.{cost, costs-within, side-free, near-five}
 use Rattle.lapjv.proofs.Reducing.{two-good}
@@ -72,24 +72,24 @@ module _ (n : ℕ) (costs : List ℤ) (p : Pairable n costs) (cols rows : List �
 
     cols-run : run n costs .cols ≡ cols′
     unfolding run
-    cols-run = sym (ap (λ (x : State). x .pairs .cols) last)
+    cols-run = sym (ap (λ (x : Progress). x .pairs .cols) last)
 
     v-run : run n costs .columnPrices ≡ v′
     unfolding run
-    v-run = sym (ap (λ (x : State). x .prices) last)
+    v-run = sym (ap (λ (x : Progress). x .prices) last)
 
     pub sizes : (length cols′ ≡ n) × (length rows′ ≡ n) × (length v′ ≡ n)
     unfolding run
     sizes = (
       ap length (sym cols-run) ∙ right .cols-size,
-      ap (λ (x : State). length (x .pairs .rows)) last ∙ right .rows-size,
+      ap (λ (x : Progress). length (x .pairs .rows)) last ∙ right .rows-size,
       ap length (sym v-run) ∙ right .column-prices-size,
     )
 
     inside : (i : ℕ) → i < n → at cols′ i < n
     inside = subst (λ (l : List ℕ). (i : ℕ) → i < n → at l i < n) cols-run (right .named .inside)
 
-    pub can-price : (us : List ℤ) → length us ≡ n → Priced n costs cols′ v′ us
+    pub can-price : (us : List ℤ) → length us ≡ n → CanPrice n costs cols′ v′ us
     can-price us e = record {
       small = p .small;
       squared = p .squared;
@@ -97,7 +97,7 @@ module _ (n : ℕ) (costs : List ℤ) (p : Pairable n costs) (cols rows : List �
       v-size = sizes .2;
       us-size = e;
       inside = inside;
-      prices-near = subst (λ (l : List ℤ). (j : ℕ) → j < n → Within near (price l j)) v-run
+      prices-near = subst (λ (l : List ℤ). (j : ℕ) → j < n → Within near (signedAt l j)) v-run
           (λ j l. near-five (let b = right .column-prices-between j l in record { low = omega arith; high = omega arith }));
     }
 
@@ -105,7 +105,7 @@ module _ (n : ℕ) (costs : List ℤ) (p : Pairable n costs) (cols rows : List �
     can-total = record { small = p .small; squared = p .squared; rows = omega arith; listed = omega (arith, sizes .0); inside = inside }
 
     -- The answer, from the last state and the counts of the stages before it.
-    abbrev answerFrom : ℕ → ℕ → ℕ → ℕ → State → Answer
+    abbrev answerFrom : ℕ → ℕ → ℕ → ℕ → Progress → Result
     answerFrom a b e f x = record {
       cols = x .pairs .cols;
       rows = x .pairs .rows;
@@ -152,5 +152,5 @@ module _ (n : ℕ) (costs : List ℤ) (p : Pairable n costs) (cols rows : List �
         f : ℕ
         f = r .«rows_left»
 
-        x′ : State
+        x′ : Progress
         x′ = stateOf cols′ rows′ v′ scanned

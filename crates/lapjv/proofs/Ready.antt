@@ -11,12 +11,12 @@ use Rattle.ints.proofs.Ranges.{within-mono}
 use Rattle.lists.proofs.Runs.{upward-keeps}
 use Rattle.assignment.specs.Pairings.{square}
 use Rattle.matrix.specs.Limits.{side, K, near}
-use Rattle.matrix.proofs.Limits.{side-small, K-small}
+use Rattle.matrix.proofs.SmallLimits.{side-small, K-small}
 use Rattle.rules.specs.Columns.{free, Stage, claims, transfer, untransferred, columnReduction}
 use Rattle.rules.specs.Rows.{rowReduction, passEnd}
-use Rattle.rules.proofs.Claims.{claims-ok}
-use Rattle.rules.proofs.Transfers.{Good, Transferred, untransferred-ok, transfer-ok, transferred-within, columnReduction-good}
-use Rattle.rules.proofs.RowReduction.{PassOf, rowReduction-ok, look-ready}
+use Rattle.rules.proofs.Claims.{claimed-all}
+use Rattle.rules.proofs.Transfers.{Good, Transferred, transferred-none, transferred-more, transferred-within, columnReduction-good}
+use Rattle.rules.proofs.RowReduction.{PassOf, rowReduction-pass-of, look-ready}
 use Rattle.reduction.specs.Ranges.{Square}
 use Rattle.reduction.specs.Columns.{Reducible, transfersTo}
 use Rattle.reduction.specs.Rows.{Passable}
@@ -40,31 +40,31 @@ module _ (n : ℕ) (costs : List ℤ) (p : Pairable n costs) where
   abbrev pub GoodStage : Stage → Type 0
   GoodStage = Good n cost (p .some) K costs-within
 
-  square-ok : Square n costs
-  square-ok = record { small = p .small; size = p .squared; near-costs = λ i j l m. within-mono (omega (arith, K-small)) (costs-within i j) }
+  square-near : Square n costs
+  square-near = record { small = p .small; size = p .squared; near-costs = λ i j l m. within-mono (omega (arith, K-small)) (costs-within i j) }
 
   below-free : n ≤ free
   below-free = omega (arith, side-free, p .small)
 
   -- After m rows of the transfer.
   transferred : (m : ℕ) → m ≤ n
-      → Transferred n cost (p .some) K costs-within (claims n cost) (claims-ok n cost (p .some) below-free) m (transfersTo n cost m)
+      → Transferred n cost (p .some) K costs-within (claims n cost) (claimed-all n cost (p .some) below-free) m (transfersTo n cost m)
   transferred m l =
-      upward-keeps (Transferred n cost (p .some) K costs-within (claims n cost) (claims-ok n cost (p .some) below-free)) 0 m (transfer n cost (claims n cost))
-      (untransferred n cost) (omega arith) (untransferred-ok n cost (p .some) K costs-within (claims n cost) (claims-ok n cost (p .some) below-free))
-      (λ k x a h T. transfer-ok n cost (p .some) K costs-within (claims n cost) (claims-ok n cost (p .some) below-free) k (omega arith) x T)
+      upward-keeps (Transferred n cost (p .some) K costs-within (claims n cost) (claimed-all n cost (p .some) below-free)) 0 m (transfer n cost (claims n cost))
+      (untransferred n cost) (omega arith) (transferred-none n cost (p .some) K costs-within (claims n cost) (claimed-all n cost (p .some) below-free))
+      (λ k x a h T. transferred-more n cost (p .some) K costs-within (claims n cost) (claimed-all n cost (p .some) below-free) k (omega arith) x T)
 
   pub rule-three : (cols rows : List ℕ) (v : List ℤ) (room : List ℕ) → length cols ≡ n → length rows ≡ n → length v ≡ n → length room ≡ n + n + n + n
       → Reducible n costs cols rows v room
   rule-three cols rows v room a b c d = record {
     some = p .some;
-    squared = square-ok;
+    squared = square-near;
     cols-size = a;
     rows-size = b;
     prices-size = c;
     room-size = d;
     near-prices = λ m l k h. near-five
-        (transferred-within n cost (p .some) K costs-within (claims n cost) (claims-ok n cost (p .some) below-free) m (transfersTo n cost m)
+        (transferred-within n cost (p .some) K costs-within (claims n cost) (claimed-all n cost (p .some) below-free) m (transfersTo n cost m)
         (transferred m (omega arith)) k);
   }
 
@@ -74,12 +74,12 @@ module _ (n : ℕ) (costs : List ℤ) (p : Pairable n costs) where
   -- A pass from a stage that is good.
   module _ (s : Stage) (G : GoodStage s) where
     abbrev after : PassOf n cost (p .some) K costs-within s (rowReduction n cost s)
-    after = rowReduction-ok n cost (p .some) K costs-within s G
+    after = rowReduction-pass-of n cost (p .some) K costs-within s G
 
     pub rule-four : Passable n costs (s .pairs .cols) (s .pairs .rows) (s .prices) (s .frees) (s .count)
     unfolding rowReduction
     rule-four = record {
-      squared = square-ok;
+      squared = square-near;
       cols-size = G .kept .agree .cols-size;
       rows-size = G .kept .agree .rows-size;
       prices-size = G .kept .prices-size;

@@ -2,6 +2,7 @@
 use mathlib.Core.Path.{_≡_, sym, ap, _∙_, subst}
 use mathlib.Core.List.{List, _++_}
 use Prim.Native.Nat.{ℕ, _+_, _-_, _≤_}
+use native.Mathlib.Decide.{decLe}
 use native.Mathlib.Nat.{sub-zero}
 use native.Mathlib.Omega.{arith}
 use lib.IntN.{ℤ}
@@ -11,9 +12,10 @@ use Rattle.lists.specs.Parts.{part}
 use Rattle.assignment.specs.Pairings.{square}
 use Rattle.rules.specs.declared.Pass.{Pass}
 use Rattle.rules.specs.Columns.{Stage, columnReduction}
-use Rattle.rules.specs.Rows.{Passing, rowReduction, passEnd}
+use Rattle.rules.specs.Rows.{Passing, passStart, rowReduction, passEnd}
 use Rattle.reduction.specs.Columns.{stageAt}
 use Rattle.reduction.specs.Rows.{passingAt, Passable}
+use Rattle.reduction.proofs.Looks.{Sized, pass-sized, passable-none}
 use Rattle.lapjv.specs.Stages.{Pairable, passOne, passTwo, ReducedBy}
 use Rattle.lapjv.proofs.Ready.{GoodStage, rule-three-good, rule-four, rule-four-good}
 
@@ -52,55 +54,89 @@ module _ (n : ℕ) (costs : List ℤ) (p : Pairable n costs) where
 
   -- After rule 3.
   module _ (cols rows : List ℕ) (v : List ℤ) (room : List ℕ) (count : ℕ) (e : stageAt cols rows v (part 0 n room) count ≡ columnReduction n cost) where
-    pub first-pass : Passable n costs cols rows v (front n room) count
-    first-pass = passable (columnReduction n cost) (rule-three-good n costs p) cols rows v room count e
+    all-passable : Passable n costs cols rows v (front n room) count
+    all-passable = passable (columnReduction n cost) (rule-three-good n costs p) cols rows v room count e
 
-    -- After the first pass.
-    module _ (cols₁ rows₁ : List ℕ) (v₁ : List ℤ) (frees₁ : List ℕ) (pass₁ : Pass)
-        (e₁ : passingAt cols₁ rows₁ v₁ frees₁ pass₁ ≡ rowReduction n cost (stageAt cols rows v (front n room) count)) where
-      one : passingAt cols₁ rows₁ v₁ frees₁ pass₁ ≡ passOne n costs
-      one = e₁ ∙ ap (rowReduction n cost) (ap (λ (frees : List ℕ). stageAt cols rows v frees count) (front-part n room) ∙ e)
+    sized : Sized n (passStart (stageAt cols rows v (front n room) count))
+    sized =
+        let P = all-passable in
+        record { cols-size = P .cols-size; rows-size = P .rows-size; prices-size = P .prices-size; frees-size = P .frees-size; left-most = omega arith }
 
-      pub frees-one : length frees₁ ≡ n
-      frees-one = ap (λ (x : Passing). length (x .frees)) one ∙ one-good .frees-size
+    -- All rows that rule 3 left can be passed over, or none.
+    pub first-pass : (m : ℕ) → (1 ≤ m → count ≡ m) → Passable n costs cols rows v (front n room) m
+    first-pass m all = elim (decLe 1 m) [
+      | yes h ↦ subst (Passable n costs cols rows v (front n room)) (all h) all-passable
+      | no h ↦ let none : 0 ≡ m = omega arith in
+          subst (Passable n costs cols rows v (front n room)) none
+          (passable-none n costs (stageAt cols rows v (front n room) 0) (all-passable .squared) sized)
+    ]
 
-      stage-one : stageAt cols₁ rows₁ v₁ (part 0 n (returned n frees₁ room)) (pass₁ .left) ≡ passEnd (passOne n costs)
-      stage-one = ap (λ (frees : List ℕ). stageAt cols₁ rows₁ v₁ frees (pass₁ .left)) (returned-part n frees₁ room frees-one) ∙ ap passEnd one
+    -- After a first pass over m₁ rows.
+    module _ (m₁ : ℕ) (cols₁ rows₁ : List ℕ) (v₁ : List ℤ) (frees₁ : List ℕ) (pass₁ : Pass)
+        (e₁ : passingAt cols₁ rows₁ v₁ frees₁ pass₁ ≡ rowReduction n cost (stageAt cols rows v (front n room) m₁)) where
+      sized-one : Sized n (passingAt cols₁ rows₁ v₁ frees₁ pass₁)
+      sized-one = subst (Sized n) (sym e₁) (pass-sized n cost (stageAt cols rows v (front n room) m₁) sized)
 
-      pub second-pass : Passable n costs cols₁ rows₁ v₁ (front n (returned n frees₁ room)) (pass₁ .left)
-      second-pass = passable (passEnd (passOne n costs)) one-good cols₁ rows₁ v₁ (returned n frees₁ room) (pass₁ .left) stage-one
+      abbrev room₁ : List ℕ
+      room₁ = returned n frees₁ room
 
-      -- After the second.
-      module _ (cols₂ rows₂ : List ℕ) (v₂ : List ℤ) (frees₂ : List ℕ) (pass₂ : Pass)
-          (e₂ : passingAt cols₂ rows₂ v₂ frees₂ pass₂ ≡ rowReduction n cost (stageAt cols₁ rows₁ v₁ (front n (returned n frees₁ room)) (pass₁ .left))) where
-        two : passingAt cols₂ rows₂ v₂ frees₂ pass₂ ≡ passTwo n costs
-        two =
-            e₂
-            ∙ ap (rowReduction n cost)
-            (ap (λ (frees : List ℕ). stageAt cols₁ rows₁ v₁ frees (pass₁ .left)) (front-part n (returned n frees₁ room)) ∙ stage-one)
+      front-one : front n room₁ ≡ frees₁
+      front-one = front-part n room₁ ∙ returned-part n frees₁ room (sized-one .frees-size)
 
-        frees-two : length frees₂ ≡ n
-        frees-two = ap (λ (x : Passing). length (x .frees)) two ∙ two-good .frees-size
+      sized-front : Sized n (passStart (stageAt cols₁ rows₁ v₁ (front n room₁) 0))
+      sized-front = record {
+        cols-size = sized-one .cols-size;
+        rows-size = sized-one .rows-size;
+        prices-size = sized-one .prices-size;
+        frees-size = ap length front-one ∙ sized-one .frees-size;
+        left-most = omega arith;
+      }
+
+      one : count ≡ m₁ → passingAt cols₁ rows₁ v₁ frees₁ pass₁ ≡ passOne n costs
+      one all =
+          e₁ ∙ ap (λ (k : ℕ). rowReduction n cost (stageAt cols rows v (front n room) k)) (sym all)
+          ∙ ap (rowReduction n cost) (ap (λ (frees : List ℕ). stageAt cols rows v frees count) (front-part n room) ∙ e)
+
+      stage-one : count ≡ m₁ → stageAt cols₁ rows₁ v₁ (part 0 n room₁) (pass₁ .left) ≡ passEnd (passOne n costs)
+      stage-one all =
+          ap (λ (frees : List ℕ). stageAt cols₁ rows₁ v₁ frees (pass₁ .left)) (returned-part n frees₁ room (sized-one .frees-size)) ∙ ap passEnd (one all)
+
+      -- All rows that the first pass left can be passed over, or none.
+      pub second-pass : (m : ℕ) → (1 ≤ m → (count ≡ m₁) × (pass₁ .left ≡ m)) → Passable n costs cols₁ rows₁ v₁ (front n room₁) m
+      second-pass m all = elim (decLe 1 m) [
+        | yes h ↦ subst (Passable n costs cols₁ rows₁ v₁ (front n room₁)) (all h .1)
+            (passable (passEnd (passOne n costs)) one-good cols₁ rows₁ v₁ room₁ (pass₁ .left) (stage-one (all h .0)))
+        | no h ↦ let none : 0 ≡ m = omega arith in
+            subst (Passable n costs cols₁ rows₁ v₁ (front n room₁)) none
+            (passable-none n costs (stageAt cols₁ rows₁ v₁ (front n room₁) 0) (all-passable .squared) sized-front)
+      ]
+
+      -- After a second pass over m₂ rows.
+      module _ (m₂ : ℕ) (cols₂ rows₂ : List ℕ) (v₂ : List ℤ) (frees₂ : List ℕ) (pass₂ : Pass)
+          (e₂ : passingAt cols₂ rows₂ v₂ frees₂ pass₂ ≡ rowReduction n cost (stageAt cols₁ rows₁ v₁ (front n room₁) m₂)) where
+        sized-two : Sized n (passingAt cols₂ rows₂ v₂ frees₂ pass₂)
+        sized-two = subst (Sized n) (sym e₂) (pass-sized n cost (stageAt cols₁ rows₁ v₁ (front n room₁) m₂) sized-front)
 
         pub sizes-two : (length cols₂ ≡ n) × (length rows₂ ≡ n) × (length v₂ ≡ n)
-        sizes-two = (
-          ap (λ (x : Passing). length (x .pairs .cols)) two ∙ two-good .kept .agree .cols-size,
-          ap (λ (x : Passing). length (x .pairs .rows)) two ∙ two-good .kept .agree .rows-size,
-          ap (λ (x : Passing). length (x .prices)) two ∙ two-good .kept .prices-size,
-        )
+        sizes-two = (sized-two .cols-size, sized-two .rows-size, sized-two .prices-size)
 
-        pub room-two : n ≤ length room → length (returned n frees₂ (returned n frees₁ room)) ≡ length room
+        pub room-two : n ≤ length room → length (returned n frees₂ room₁) ≡ length room
         room-two h =
-            let a = returned-length n frees₁ room frees-one h in
-            returned-length n frees₂ (returned n frees₁ room) frees-two (omega arith) ∙ a
+            let a = returned-length n frees₁ room (sized-one .frees-size) h in
+            returned-length n frees₂ room₁ (sized-two .frees-size) (omega arith) ∙ a
 
-        pub reduced-by : length room ≡ n + n + n + n
-            → ReducedBy n costs cols₂ rows₂ v₂ (returned n frees₂ (returned n frees₁ room))
+        -- Both passes over all rows that were left: the stage and the counts of the rules.
+        pub reduced-by : count ≡ m₁ → pass₁ .left ≡ m₂ → length room ≡ n + n + n + n
+            → ReducedBy n costs cols₂ rows₂ v₂ (returned n frees₂ room₁)
             (record { «free_rows» = count; «looks_one» = pass₁ .looks; «looks_two» = pass₂ .looks; «rows_left» = pass₂ .left })
-        reduced-by h = record {
-          stage = ap (λ (frees : List ℕ). stageAt cols₂ rows₂ v₂ frees (pass₂ .left)) (returned-part n frees₂ (returned n frees₁ room) frees-two) ∙ ap passEnd two;
-          free-rows = ap (λ (s : Stage). s .count) e;
-          looks-one = ap (λ (x : Passing). x .pass .looks) one;
-          looks-two = ap (λ (x : Passing). x .pass .looks) two;
-          room-size = room-two (omega arith) ∙ h;
-        }
+        reduced-by all-one all-two h =
+            let two : passingAt cols₂ rows₂ v₂ frees₂ pass₂ ≡ passTwo n costs = e₂
+            ∙ ap (λ (k : ℕ). rowReduction n cost (stageAt cols₁ rows₁ v₁ (front n room₁) k)) (sym all-two)
+            ∙ ap (rowReduction n cost) (ap (λ (frees : List ℕ). stageAt cols₁ rows₁ v₁ frees (pass₁ .left)) (front-part n room₁) ∙ stage-one all-one) in
+            record {
+              stage = ap (λ (frees : List ℕ). stageAt cols₂ rows₂ v₂ frees (pass₂ .left)) (returned-part n frees₂ room₁ (sized-two .frees-size)) ∙ ap passEnd two;
+              free-rows = ap (λ (s : Stage). s .count) e;
+              looks-one = ap (λ (x : Passing). x .pass .looks) (one all-one);
+              looks-two = ap (λ (x : Passing). x .pass .looks) two;
+              room-size = room-two (omega arith) ∙ h;
+            }

@@ -12,7 +12,7 @@ use Rattle.rules.specs.Run.{run}
 use Rattle.rules.proofs.Run.{side-zero}
 use Rattle.rules.proofs.Sizes.{within-everywhere}
 use Rattle.matrix.specs.Limits.{K}
-use Rattle.lapjv.specs.declared.Night.{Night}
+use Rattle.lapjv.specs.declared.Sums.{Sums}
 use Rattle.lapjv.specs.declared.Solved.the-variants.{Paired}
 use Rattle.lapjv.specs.Solve.{lentOf, outcomeOf, paired, solve}
 use Rattle.lapjv.specs.Passes.{Passes}
@@ -48,7 +48,7 @@ module _ (n : ℕ) (costs : List ℤ) (cols rows : List ℕ) (us vs : List ℤ) 
   pub others-sized : (length (front n us) ≡ n) × (length (front n numbers) ≡ n)
   others-sized = (front-length n us (p .row-prices-enough), front-length n numbers (p .numbers-enough))
 
-  pub solved-by : (cols′ rows′ : List ℕ) (us′ vs′ : List ℤ) (room′ : List ℕ) (d′ : List ℤ) (night : Night) → PairedBy n costs cols′ rows′ us′ vs′ room′ d′ night
+  pub solved-by : (cols′ rows′ : List ℕ) (us′ vs′ : List ℤ) (room′ : List ℕ) (d′ : List ℤ) (night : Sums) → PairedBy n costs cols′ rows′ us′ vs′ room′ d′ night
       → outcomeOf (Paired night)
       (lentOf (back n cols′ cols) (back n rows′ rows) (back n us′ us) (back n vs′ vs) (back (4 * n) room′ indices) (back n d′ numbers))
       ≡ solve n costs (lentOf cols rows us vs indices numbers)

@@ -11,12 +11,12 @@ use lib.Seq.{take-at, drop-at}
 use Rattle.ints.specs.Parts.{Within}
 use Rattle.lists.specs.Permutations.{table}
 use Rattle.lists.proofs.Tables.{length-table, getD-table, getD-constant}
-use Rattle.assignment.specs.Pairings.{Least, price, square}
+use Rattle.assignment.specs.Pairings.{Least, signedAt, square}
 use Rattle.assignment.specs.Amounts.{ColumnAmounts, RowAmounts}
 use Rattle.assignment.proofs.Amounts.{withAmounts, column-amounts-made}
 use Rattle.matrix.specs.Limits.{side, K}
 use Rattle.rules.specs.Columns.{free}
-use Rattle.rules.specs.Run.{Answer, run}
+use Rattle.rules.specs.Run.{Result, run}
 use Rattle.rules.specs.Surcharge.{surcharged}
 use Rattle.rules.proofs.Surcharge.{run-right-bounded, run-surcharge, run-row-surcharge}
 use Rattle.lapjv.specs.Solve.{Lent, lentOf, Outcome, paired, solve}
@@ -27,7 +27,7 @@ use Rattle.lapjv.proofs.Ready.{side-free}
 
 -- ---- amounts on the columns
 
-paired-surcharged : (n : ℕ) (lent : Lent) (amount : ℕ → ℤ) (a : Answer) → length (a .columnPrices) ≡ n
+paired-surcharged : (n : ℕ) (lent : Lent) (amount : ℕ → ℤ) (a : Result) → length (a .columnPrices) ≡ n
     → paired n lent (surcharged n amount a) ≡ surchargedOutcome n amount (paired n lent a)
 paired-surcharged n lent amount a size =
     let v = a .columnPrices in
@@ -66,7 +66,7 @@ solver-row-surcharge n lent amount costs costs′ with-amounts p p′ =
 
 -- A night that passes, with amounts that keep every cost within K.
 pub amounts-pass : (n : ℕ) (lent : Lent) (amount : ℕ → ℤ) (costs : List ℤ) → Passes n costs lent
-    → ((k : ℕ) → k < n * n → Within K (price costs k +ℤ amount (k % n))) → Passes n (withAmounts n amount costs) lent
+    → ((k : ℕ) → k < n * n → Within K (signedAt costs k +ℤ amount (k % n))) → Passes n (withAmounts n amount costs) lent
 amounts-pass n lent amount costs p within = record {
   small = p .small;
   squared = size;
@@ -80,7 +80,7 @@ amounts-pass n lent amount costs p within = record {
 }
   where
     plus : ℕ → ℤ
-    plus k = price costs k +ℤ amount (k % n)
+    plus k = signedAt costs k +ℤ amount (k % n)
 
     size : length (withAmounts n amount costs) ≡ n * n
     size = length-table (n * n) plus

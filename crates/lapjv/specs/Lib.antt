@@ -1,5 +1,7 @@
+pub mod Answers
 pub mod Solve
+pub mod Values
+pub mod Asked
 pub mod Passes
-pub mod Priced
 pub mod Stages
 pub mod Surcharge

@@ -6,7 +6,7 @@ use Prim.Native.Nat.{ℕ, _*_, _≤_, _<_}
 use lib.IntN.{ℤ}
 use lib.ListN.{length}
 use Rattle.ints.specs.Parts.{Within}
-use Rattle.assignment.specs.Pairings.{price}
+use Rattle.assignment.specs.Pairings.{signedAt}
 use Rattle.matrix.specs.Limits.{side, K}
 use Rattle.lapjv.specs.Solve.{Lent}
 
@@ -19,4 +19,4 @@ pub record Passes (n : ℕ) (costs : List ℤ) (lent : Lent) : Type 0 where
   pub column-prices-enough : n ≤ length (lent .columnPrices)
   pub indices-enough : 4 * n ≤ length (lent .indices)
   pub numbers-enough : n ≤ length (lent .numbers)
-  pub costs-within : (k : ℕ) → k < length costs → Within K (price costs k)
+  pub costs-within : (k : ℕ) → k < length costs → Within K (signedAt costs k)

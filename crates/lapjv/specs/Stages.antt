@@ -6,21 +6,21 @@ use lib.IntN.{ℤ, pos}
 use lib.ListN.{length, replicate}
 use Rattle.ints.specs.Parts.{Within}
 use Rattle.lists.specs.Parts.{part}
-use Rattle.assignment.specs.Pairings.{price, square}
+use Rattle.assignment.specs.Pairings.{signedAt, square}
 use Rattle.matrix.specs.Limits.{side, K}
 use Rattle.rules.specs.Columns.{columnReduction}
 use Rattle.rules.specs.Rows.{Passing, rowReduction, passEnd}
-use Rattle.rules.specs.Run.{Answer, run}
+use Rattle.rules.specs.Run.{Result, run}
 use Rattle.reduction.specs.Columns.{stageAt}
 use Rattle.lapjv.specs.declared.Reduced.{Reduced}
-use Rattle.lapjv.specs.declared.Night.{Night}
+use Rattle.lapjv.specs.declared.Sums.{Sums}
 
 -- A night of side 1 or more that can be paired.
 pub record Pairable (n : ℕ) (costs : List ℤ) : Type 0 where
   pub some : 1 ≤ n
   pub small : n ≤ side
   pub squared : length costs ≡ n * n
-  pub within : (k : ℕ) → Within K (price costs k)
+  pub within : (k : ℕ) → Within K (signedAt costs k)
 
 -- Lists of n entries, and a room of 4n.
 pub record Sized (n : ℕ) (cols rows : List ℕ) (v : List ℤ) (room : List ℕ) : Type 0 where
@@ -45,11 +45,11 @@ pub record ReducedBy (n : ℕ) (costs : List ℤ) (cols rows : List ℕ) (v : Li
   pub room-size : length room ≡ n + n + n + n
 
 -- The answer that lent lists and the total with its counts hold.
-abbrev pub answerIn : List ℕ → List ℕ → List ℤ → List ℤ → Night → Answer
+abbrev pub answerIn : List ℕ → List ℕ → List ℤ → List ℤ → Sums → Result
 answerIn cols rows us v night = record { cols = cols; rows = rows; rowPrices = us; columnPrices = v; total = night .total; counts = night .counts }
 
 -- The night is paired, and the rooms are cleared.
-pub record PairedBy (n : ℕ) (costs : List ℤ) (cols rows : List ℕ) (us v : List ℤ) (room : List ℕ) (d : List ℤ) (night : Night) : Type 0 where
+pub record PairedBy (n : ℕ) (costs : List ℤ) (cols rows : List ℕ) (us v : List ℤ) (room : List ℕ) (d : List ℤ) (night : Sums) : Type 0 where
   pub answer : answerIn cols rows us v night ≡ run n costs
   pub room-cleared : room ≡ replicate (4 * n) 0
   pub distances-cleared : d ≡ replicate n (pos 0)

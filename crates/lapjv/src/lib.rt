@@ -4,29 +4,25 @@ ghost use lib.IntN.{pos};
 ghost use lib.ListN.{length, replicate};
 ghost use Rattle.assignment.specs.Pairings.{square};
 ghost use Rattle.rules.specs.Run.{rowPrices};
-ghost use Rattle.rules.specs.Nights.{five};
-ghost use Rattle.lapjv.specs.Priced.{Priced};
+ghost use Rattle.lapjv.specs.Asked.{CanPrice};
 ghost use Rattle.lapjv.specs.Stages.{Pairable, Sized, ReducedBy, PairedBy};
 ghost use Rattle.lapjv.specs.Solve.{lentOf, outcomeOf, tested, solve};
+ghost use Rattle.lapjv.specs.Values.{noCounts, toldOf};
 use matrix::Refusal;
+use matrix::Verdict;
+use matrix::tests;
 use rules::Counts;
 
 // What a paired night comes to.
-pub struct Night {
+pub struct Sums {
     pub total: i64,
     pub counts: Counts,
 }
 
 // What the solver answers.
 pub enum Solved {
-    Paired(Night),
+    Paired(Sums),
     Refused(Refusal),
-}
-
-// Whether the input can be paired.
-pub enum Verdict {
-    Passed,
-    Fails(Refusal),
 }
 
 // Four of the five counts: those of column reduction and of both passes.
@@ -37,7 +33,7 @@ pub struct Reduced {
     pub rows_left: usize,
 }
 
-// Refusals 1, 2, 3, 4, 5, in this order.
+// Tests 1, 2, 3, 4, 5.
 fn tested(
     n: usize,
     costs: &[i32],
@@ -50,33 +46,16 @@ fn tested(
 ) -> Verdict
     ensures { λ r. ⌜ r ≡ tested n (now (costs .entry)) (lentOf (now (cols .entry)) (now (rows .entry)) (now («row_prices» .entry)) (now («col_prices» .entry)) (now (indices .entry)) (now (numbers .entry))) ⌝ }
 {
-    if matrix::side_over(n) {
-        return Verdict::Fails(Refusal::SideOver);
-    }
-    if matrix::not_square(n, costs) {
-        return Verdict::Fails(Refusal::CostsNotSquare);
-    }
-    let list = matrix::first_list_short(
+    let shaped = tests::shaped(
         n,
+        costs,
         cols.len(),
         rows.len(),
         row_prices.len(),
         col_prices.len(),
     );
-    if list < 4 {
-        return Verdict::Fails(Refusal::ListLength(list + 1));
-    }
-    if indices.len() < 4 * n {
-        return Verdict::Fails(Refusal::RoomShort(1));
-    }
-    if numbers.len() < n {
-        return Verdict::Fails(Refusal::RoomShort(2));
-    }
-    let k = matrix::first_cost_outside(costs);
-    if k < costs.len() {
-        return Verdict::Fails(Refusal::CostOutside(k));
-    }
-    Verdict::Passed
+    let roomy = tests::rooms_long(shaped, n, indices.len(), numbers.len());
+    tests::costs_within(roomy, costs)
 }
 
 // Every number is 0.
@@ -92,7 +71,7 @@ fn clear_numbers(numbers: &mut [i64])
 
 // Row prices: cost minus v at the paired column.
 fn write_row_prices(n: usize, costs: &[i32], cols: &[u32], v: &[i64], row_prices: &mut [i64])
-    requires { ⌜ Priced n (now costs) (now cols) (now v) (now «row_prices») ⌝ }
+    requires { ⌜ CanPrice n (now costs) (now cols) (now v) (now «row_prices») ⌝ }
     ensures { λ r. ⌜ now («row_prices» .exit) ≡ rowPrices n (square n (now (costs .entry)) .cost) (now (cols .entry)) (now (v .entry)) ⌝ }
 {
     let mut start = 0;
@@ -100,7 +79,7 @@ fn write_row_prices(n: usize, costs: &[i32], cols: &[u32], v: &[i64], row_prices
     while i < n {
         let j = cols[i] as usize;
         let at = start + j;
-        row_prices[i] = matrix::reduced_cost(costs[at], v[j]);
+        row_prices[i] = matrix::rows::reduced_cost(costs[at], v[j]);
         start += n;
         i += 1;
     }
@@ -140,7 +119,7 @@ fn pair(
     v: &mut [i64],
     room: &mut [u32],
     d: &mut [i64],
-) -> Night
+) -> Sums
     requires { ⌜ Pairable n (now costs) × Sized n (now cols) (now rows) (now v) (now room) × (length (now «row_prices») ≡ n) × (length (now d) ≡ n) ⌝ }
     ensures { λ r. ⌜ PairedBy n (now (costs .entry)) (now (cols .exit)) (now (rows .exit)) (now («row_prices» .exit)) (now (v .exit)) (now (room .exit)) (now (d .exit)) r ⌝ }
 {
@@ -151,7 +130,7 @@ fn pair(
     let total = matrix::total(n, costs, n, cols);
     lists::fill(room, 0);
     clear_numbers(d);
-    Night {
+    Sums {
         total,
         counts: Counts {
             free_rows: reduced.free_rows,
@@ -164,10 +143,10 @@ fn pair(
 }
 
 // Side 0: total 0, counts 0.
-fn nothing() -> Night
-    ensures { λ r. ⌜ r ≡ record { total = pos 0; counts = five 0 0 0 0 0 } ⌝ }
+fn nothing() -> Sums
+    ensures { λ r. ⌜ r ≡ record { total = pos 0; counts = noCounts } ⌝ }
 {
-    Night {
+    Sums {
         total: 0,
         counts: Counts {
             free_rows: 0,
@@ -190,7 +169,7 @@ pub fn solve(
     indices: &mut [u32],
     numbers: &mut [i64],
 ) -> Solved
-    ensures { λ r. ⌜ outcomeOf r (lentOf (now (cols .exit)) (now (rows .exit)) (now («row_prices» .exit)) (now («col_prices» .exit)) (now (indices .exit)) (now (numbers .exit))) ≡ solve n (now (costs .entry)) (lentOf (now (cols .entry)) (now (rows .entry)) (now («row_prices» .entry)) (now («col_prices» .entry)) (now (indices .entry)) (now (numbers .entry))) ⌝ }
+    ensures { λ r. ⌜ toldOf (outcomeOf r (lentOf (now (cols .exit)) (now (rows .exit)) (now («row_prices» .exit)) (now («col_prices» .exit)) (now (indices .exit)) (now (numbers .exit)))) ≡ toldOf (solve n (now (costs .entry)) (lentOf (now (cols .entry)) (now (rows .entry)) (now («row_prices» .entry)) (now («col_prices» .entry)) (now (indices .entry)) (now (numbers .entry)))) ⌝ }
 {
     match tested(
         n,

@@ -8,36 +8,22 @@ use lib.IntN.{ℤ}
 use lib.ListN.{length, take, drop}
 use lib.Seq.{take-at}
 use Rattle.matrix.specs.declared.Refusal.{Refusal}
-use Rattle.rules.specs.Run.{run}
-use Rattle.lapjv.specs.Passes.{Passes}
-use Rattle.audit.proofs.Accepted.{solved-owes}
-use Rattle.sheet.specs.declared.Verdict.the-variants.{Paired, Refused}
+use Rattle.lapjv.specs.Answers.{answer}
+use Rattle.lapjv.proofs.Owed.{answer-owes}
+use Rattle.sheet.specs.declared.Reply.the-variants.{Accepted, Refused}
 use Rattle.sheet.specs.declared.State.{State}
 use Rattle.sheet.specs.declared.Settled.{Settled}
 use Rattle.sheet.specs.Reading.{Read, refused, night}
-use Rattle.sheet.specs.Settle.{fresh, lent, settledAs}
+use Rattle.sheet.specs.Settle.{fresh, settledAs}
 use Rattle.sheet.proofs.Limits.{sheetSide-within}
-use Rattle.sheet.proofs.Pairing.{Readable, Right}
-use Rattle.lines.specs.Lines.{acceptedLine, rowLines, refusedLine, linesAs, Rows}
-
--- A night that was read is one that the solver pairs.
-passes : (room n : ℕ) (costs : List ℤ) → Readable room n costs → Passes n costs (lent fresh)
-passes room n costs r = record {
-  small = omega (arith, r .small, sheetSide-within);
-  squared = r .squared;
-  cols-enough = r .few;
-  rows-enough = r .few;
-  row-prices-enough = r .few;
-  column-prices-enough = r .few;
-  indices-enough = omega (arith, r .few);
-  numbers-enough = r .few;
-  costs-within = r .within;
-}
+use Rattle.sheet.proofs.Pairing.{Right}
+use Rattle.lines.specs.Lines.{acceptedLine, rowLines, refusedLine, linesAs}
+use Rattle.lines.specs.Asked.{Rows}
 
 module _ (room : ℕ) (s : Settled) where
-  pub refused-lines : (x : Read) → s ≡ settledAs x → (refusal : Refusal) → s .verdict ≡ Refused refusal → refusedLine refusal ≡ linesAs x
-  refused-lines (refused given) e refusal v = let same : refusal ≡ given = cc (ap (λ (t : Settled). t .verdict) e) in ap refusedLine same
-  refused-lines (night n costs) e refusal v = let z : _≡_ {A = ℕ} 0 1 = cc (ap (λ (t : Settled). t .verdict) e) in absurd (omega arith)
+  pub refused-lines : (x : Read) → s ≡ settledAs x → (refusal : Refusal) → s .reply ≡ Refused refusal → refusedLine refusal ≡ linesAs x
+  refused-lines (refused given) e refusal v = let same : refusal ≡ given = cc (ap (λ (t : Settled). t .reply) e) in ap refusedLine same
+  refused-lines (night n costs) e refusal v = let z : _≡_ {A = ℕ} 0 1 = cc (ap (λ (t : Settled). t .reply) e) in absurd (omega arith)
 
   -- What `put_night` is asked with, and what it then writes.
   pub record Ready (n : ℕ) (total : ℤ) (out lines : List ℕ) : Type 0 where
@@ -45,14 +31,14 @@ module _ (room : ℕ) (s : Settled) where
     pub rows : Rows n (take (n * n) (s .state .costs)) (take n (s .state .cols)) (80 + 80 * n) out
     pub same : acceptedLine n total ++ rowLines n (take (n * n) (s .state .costs)) (take n (s .state .cols)) n ≡ lines
 
-  pub night-lines : (x : Read) → Right room x → s ≡ settledAs x → (n : ℕ) (total : ℤ) → s .verdict ≡ Paired n total → (out : List ℕ) → 80 + 80 * 64 ≤ length out
+  pub night-lines : (x : Read) → Right room x → s ≡ settledAs x → (n : ℕ) (total : ℤ) → s .reply ≡ Accepted n total → (out : List ℕ) → 80 + 80 * 64 ≤ length out
       → Ready n total out (linesAs x)
-  night-lines (refused given) right e n total v out long = let z : _≡_ {A = ℕ} 0 1 = cc (ap (λ (t : Settled). t .verdict) e) in absurd (omega arith)
+  night-lines (refused given) right e n total v out long = let z : _≡_ {A = ℕ} 0 1 = cc (ap (λ (t : Settled). t .reply) e) in absurd (omega arith)
   night-lines (night m costs) right e n total v out long =
-      let a = run m costs in
-      let owed = solved-owes m costs (lent fresh) (passes room m costs right) in
-      let side : n ≡ m = cc (ap (λ (t : Settled). t .verdict) e) in
-      let sum : total ≡ a .total = cc (ap (λ (t : Settled). t .verdict) e) in
+      let a = answer m costs in
+      let owed = answer-owes m costs (omega (arith, right .small, sheetSide-within)) (right .within) in
+      let side : n ≡ m = cc (ap (λ (t : Settled). t .reply) e) in
+      let sum : total ≡ a .total = cc (ap (λ (t : Settled). t .reply) e) in
       let state = ap (λ (t : Settled). t .state) e in
       let costs-are : take (n * n) (s .state .costs) ≡ costs = ap₂ (λ (k : ℕ) (l : List ℤ). take (k * k) l) side (ap (λ (t : State). t .costs) state) ∙ take-at costs (drop (m * m) (fresh .costs)) (m * m) (right .squared) in
       let cols-are : take n (s .state .cols) ≡ a .cols = ap₂ (λ (k : ℕ) (l : List ℕ). take k l) side (ap (λ (t : State). t .cols) state) ∙ take-at (a .cols) (drop m (fresh .cols)) m (owed .cols-size) in

@@ -1,18 +1,17 @@
 -- The program's whole output, from a sheet's bytes. Every line ends with a line feed.
-use mathlib.Core.Path.{_≡_}
 use mathlib.Core.Bool.{Bool, false, cond}
 use mathlib.Core.List.{List, [], _∷_, _++_}
-use Prim.Native.Nat.{ℕ, zero, suc, _+_, _*_, _≤_, _<_}
+use Prim.Native.Nat.{ℕ, zero, suc, _+_, _*_}
 use lib.Dec.{eqb}
 use lib.IntN.{ℤ, pos, negsuc}
 use lib.ListN.{length, drop}
 use Rattle.lists.specs.Permutations.{at}
-use Rattle.assignment.specs.Pairings.{price}
+use Rattle.layout.specs.Slips.{slipLength}
+use Rattle.assignment.specs.Pairings.{signedAt}
 use Rattle.matrix.specs.Limits.{K}
 use Rattle.matrix.specs.Refusals.{numberOf, placeOf}
 use Rattle.matrix.specs.declared.Refusal.{Refusal}
-use Rattle.rules.specs.Run.{run}
-use Rattle.sheet.specs.Layout.{slipLength}
+use Rattle.lapjv.specs.Answers.{answer}
 use Rattle.sheet.specs.Reading.{sheetSide, Read, refused, night, read}
 use Rattle.lines.specs.Decimal.{decimal, signedDecimal}
 
@@ -64,7 +63,7 @@ rowLine row column cost = decimal row ++ (blank ++ (decimal column ++ (blank ++ 
 -- The lines of the first k rows.
 unfoldable pub rowLines : ℕ → List ℤ → List ℕ → ℕ → List ℕ
 rowLines n costs cols zero = []
-rowLines n costs cols (suc k) = rowLines n costs cols k ++ rowLine k (at cols k) (price costs (k * n + at cols k))
+rowLines n costs cols (suc k) = rowLines n costs cols k ++ rowLine k (at cols k) (signedAt costs (k * n + at cols k))
 
 -- "A refusal is the one line "refused N place P"."
 unfoldable pub refusedLine : Refusal → List ℕ
@@ -73,7 +72,7 @@ refusedLine refusal = refusedText ++ (decimal (numberOf refusal) ++ (placeText +
 -- The lines of a sheet as it was read.
 abbrev pub linesAs : Read → List ℕ
 linesAs (refused refusal) = refusedLine refusal
-linesAs (night n costs) = acceptedLine n (run n costs .total) ++ rowLines n costs (run n costs .cols) n
+linesAs (night n costs) = acceptedLine n (answer n costs .total) ++ rowLines n costs (answer n costs .cols) n
 
 -- The lines of a sheet. The program's slip room is long enough for every side: 16 does not arise.
 unfoldable pub output : List ℕ → List ℕ
@@ -87,10 +86,3 @@ pub record Printed : Type 0 where
 -- The lines stand at the front of the room; past them it is untouched.
 unfoldable pub printed : List ℕ → List ℕ → Printed
 printed sheet room = record { count = length (output sheet); room = output sheet ++ drop (length (output sheet)) room }
-
--- What `put_rows` is asked with: a square of costs, a column for each of n rows, and a room of so many bytes.
-pub record Rows (n : ℕ) (costs : List ℤ) (cols : List ℕ) (room : ℕ) (out : List ℕ) : Type 0 where
-  pub squared : length costs ≡ n * n
-  pub listed : n ≤ length cols
-  pub inside : (i : ℕ) → i < n → at cols i < n
-  pub roomy : room ≤ length out

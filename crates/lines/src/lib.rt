@@ -5,10 +5,11 @@ ghost use Prim.Native.Nat.{_+_, _*_, _%_, _<_, _≤_};
 ghost use lib.ListN.{length, take};
 ghost use Rattle.lines.specs.Decimal.{decimal, signedDecimal};
 ghost use Rattle.lines.specs.Put.{Put};
-ghost use Rattle.lines.specs.Lines.{barredMark, acceptedLine, rowLine, rowLines, refusedLine, Rows, Printed, printed};
+ghost use Rattle.lines.specs.Lines.{barredMark, acceptedLine, rowLine, rowLines, refusedLine, Printed, printed};
+ghost use Rattle.lines.specs.Asked.{Rows};
 use matrix::Refusal;
+use sheet::Reply;
 use sheet::State;
-use sheet::Verdict;
 
 // A byte at a position.
 fn put_byte(out: &mut [u8], place: usize, byte: u8) -> usize
@@ -72,7 +73,7 @@ fn put_barred(out: &mut [u8], place: usize, cost: i32) -> usize
     requires { ⌜ place + 7 ≤ length (now out) ⌝ }
     ensures { λ r. ⌜ Put (now (out .entry)) place (barredMark cost) (now (out .exit)) r ⌝ }
 {
-    if cost as i64 == matrix::bound() {
+    if cost as i64 == matrix::limits::bound() {
         put_text(out, place, b" barred")
     } else {
         place
@@ -128,9 +129,9 @@ fn put_refused(out: &mut [u8], refusal: Refusal) -> usize
     ensures { λ r. ⌜ Put (now (out .entry)) 0 (refusedLine refusal) (now (out .exit)) r × (r ≤ 80) ⌝ }
 {
     let after_word = put_text(out, 0, b"refused ");
-    let after_number = put_decimal(out, after_word, matrix::number(refusal));
+    let after_number = put_decimal(out, after_word, matrix::refusals::number(refusal));
     let after_place = put_text(out, after_number, b" place ");
-    let after_both = put_decimal(out, after_place, matrix::place(refusal) as u64);
+    let after_both = put_decimal(out, after_place, matrix::refusals::place(refusal) as u64);
     put_byte(out, after_both, b'\n')
 }
 
@@ -169,10 +170,10 @@ pub fn print(sheet: &[u8], out: &mut [u8; 8192]) -> usize
 {
     let room: &mut [u8] = out;
     let settled = sheet::settle(sheet, 1172);
-    let verdict = settled.verdict;
-    match verdict {
-        Verdict::Refused(refusal) => put_refused(room, refusal),
-        Verdict::Paired(n, total) => {
+    let reply = settled.reply;
+    match reply {
+        Reply::Refused(refusal) => put_refused(room, refusal),
+        Reply::Accepted(n, total) => {
             let state = settled.state;
             put_night(room, n, total, state)
         }

@@ -1,10 +1,9 @@
--- Loops that may be left: what every turn keeps, and a loop that was left within a longer range. Assumes nothing.
-use mathlib.Core.Path.{_≡_, sym, ap, _∙_, subst}
-use Prim.Native.Nat.{ℕ, zero, suc, _+_, _-_, _≤_, _<_}
-use native.Mathlib.Nat.{add-zero, add-suc}
+-- Loops that may be left: what every turn keeps, a loop that was left within a longer range, and the first of so many like turns. Assumes nothing.
+use mathlib.Core.Path.{_≡_, refl, sym, ap, _∙_}
+use Prim.Native.Nat.{ℕ, zero, suc, _-_, _≤_, _<_}
 use native.Mathlib.Omega.{arith}
-use Rattle.lists.specs.Runs.{Turn, on, left, andThen, until}
-use Rattle.lists.proofs.Runs.{upward-keeps, until-last}
+use Rattle.lists.specs.Runs.{turns, upward, Turn, on, left, andThen, until}
+use Rattle.lists.proofs.Runs.{upward-keeps, upward-stays, until-first}
 
 -- A loop goes on with a state of which P holds, or is left with a result of which Q holds.
 pub data Either {S R : Type 0} (P : S → Type 0) (Q : R → Type 0) : Turn S R → Type 0 where
@@ -30,10 +29,27 @@ module _ {S R : Type 0} where
 
   -- A loop that was left within a range is left with the same within a longer one.
   pub until-longer : (a b : ℕ) (f : ℕ → S → Turn S R) (s : S) (r : R) → a ≤ b → until a b f s ≡ left r → (c : ℕ) → b ≤ c → until a c f s ≡ left r
-  until-longer a b f s r h e c g = let z : b + (c - b) ≡ c = omega arith in subst (λ (k : ℕ). until a k f s ≡ left r) z (go (c - b))
+  unfolding until
+  until-longer a b f s r h e c g = sym (upward-stays a b c (λ k t. andThen t (f k)) (on s) (left r) h g (sym e) (λ k l m. refl))
+
+-- ---- a turn that does not use its number
+
+module _ {S R : Type 0} (f : S → Turn S R) where
+  turns-anywhere : (a b m : ℕ) (t : Turn S R) → turns a m (λ k x. andThen x f) t ≡ turns b m (λ k x. andThen x f) t
+  unfolding turns
+  turns-anywhere a b zero t = refl
+  turns-anywhere a b (suc m) t = ap (λ (x : Turn S R). andThen x f) (turns-anywhere a b m t)
+
+  shifted : (m : ℕ) (x : S) → until 1 (suc m) (λ k. f) x ≡ until 0 m (λ k. f) x
+  unfolding until upward
+  shifted m x =
+      let e : suc m - 1 ≡ m - 0 = omega arith in
+      ap (λ (k : ℕ). turns 1 k (λ i t. andThen t f) (on x)) e ∙ turns-anywhere 1 0 (m - 0) (on x)
+
+  -- The first of m + 1 turns, and the rest.
+  pub repeat-first : (m : ℕ) (s : S) → until 0 (suc m) (λ k. f) s ≡ andThen (f s) (until 0 m (λ k. f))
+  repeat-first m s = until-first 0 (suc m) (λ k. f) s (omega arith) ∙ go (f s)
     where
-      go : (d : ℕ) → until a (b + d) f s ≡ left r
-      go zero = subst (λ (k : ℕ). until a k f s ≡ left r) (sym (add-zero b)) e
-      go (suc d) =
-          subst (λ (k : ℕ). until a k f s ≡ left r) (sym (add-suc b d))
-          (until-last a (b + d) f s (omega arith) ∙ ap (λ (t : Turn S R). andThen t (f (b + d))) (go d))
+      go : (t : Turn S R) → andThen t (until 1 (suc m) (λ k. f)) ≡ andThen t (until 0 m (λ k. f))
+      go (on x) = shifted m x
+      go (left r) = refl

@@ -1,9 +1,9 @@
--- The laws of counted loops: no turn, the first turn, the last turn, what every turn keeps; and what the first place of a test is. Assumes nothing.
+-- The laws of counted loops: no turn, the first turn, the last turn, what every turn keeps, a run cut in two, turns that change nothing; and what the first place of a test is. Assumes nothing.
 use mathlib.Core.Path.{_≡_, refl, sym, ap, _∙_, subst}
 use mathlib.Core.Bool.{Bool, true, false, cond, true≢false}
 use Prim.Native.Nat.{ℕ, zero, suc, _+_, _-_, _≤_, _<_}
 use native.Mathlib.Decide.{decLe, decLt}
-use native.Mathlib.Nat.{add-zero}
+use native.Mathlib.Nat.{add-zero, add-suc}
 use native.Mathlib.Omega.{arith}
 use lib.Dec.{ltb}
 use borrow.Author.Tests.{lt-ltb, le-ltb}
@@ -31,6 +31,13 @@ module _ {S : Type 0} where
   turns-cong a zero f g s e = refl
   turns-cong a (suc m) f g s e =
       ap (f (a + m)) (turns-cong a m f g s (λ k t h l. e k t h (omega arith))) ∙ e (a + m) (turns a m g s) (omega arith) (omega arith)
+
+  turns-split : (a m d : ℕ) (f : ℕ → S → S) (s : S) → turns a (m + d) f s ≡ turns (a + m) d f (turns a m f s)
+  unfolding turns
+  turns-split a m zero f s = ap (λ (k : ℕ). turns a k f s) (add-zero m)
+  turns-split a m (suc d) f s =
+      let e : a + (m + d) ≡ a + m + d = omega arith in
+      ap (λ (k : ℕ). turns a k f s) (add-suc m d) ∙ ap (λ (k : ℕ). f k (turns a (m + d) f s)) e ∙ ap (f (a + m + d)) (turns-split a m d f s)
 
   -- ---- upward
 
@@ -64,6 +71,26 @@ module _ {S : Type 0} where
   unfolding upward
   upward-cong a b f g s e = turns-cong a (b - a) f g s (λ k t h l. e k t h (omega arith))
 
+  -- A run, cut in two.
+  pub upward-split : (a b c : ℕ) (f : ℕ → S → S) (s : S) → a ≤ b → b ≤ c → upward a c f s ≡ upward b c f (upward a b f s)
+  unfolding upward
+  upward-split a b c f s h l =
+      let e : c - a ≡ (b - a) + (c - b) = omega arith in
+      let d : a + (b - a) ≡ b = omega arith in
+      ap (λ (m : ℕ). turns a m f s) e ∙ turns-split a (b - a) (c - b) f s ∙ ap (λ (k : ℕ). turns k (c - b) f (turns a (b - a) f s)) d
+
+  -- Turns that change nothing.
+  pub upward-idle : (a b : ℕ) (f : ℕ → S → S) (s : S) → ((k : ℕ) → a ≤ k → k < b → f k s ≡ s) → upward a b f s ≡ s
+  upward-idle a b f s idle = elim (decLe a b) [
+    | yes h ↦ upward-keeps (λ k t. t ≡ s) a b f s h refl (λ k t l m e. ap (f k) e ∙ idle k l m)
+    | no h ↦ upward-none a b f s (omega arith)
+  ]
+
+  -- What a run has come to, and no later turn changes, is where it ends.
+  pub upward-stays : (a b c : ℕ) (f : ℕ → S → S) (s t : S) → a ≤ b → b ≤ c → t ≡ upward a b f s → ((k : ℕ) → b ≤ k → k < c → f k t ≡ t)
+      → t ≡ upward a c f s
+  upward-stays a b c f s t h l e idle = sym (upward-split a b c f s h l ∙ ap (upward b c f) (sym e) ∙ upward-idle b c f t idle)
+
   -- ---- downward
 
   pub downward-none : (f : ℕ → S → S) (s : S) → downward 0 f s ≡ s
@@ -86,12 +113,7 @@ module _ {S : Type 0} where
 module _ {S R : Type 0} where
   -- A loop that was left stays left.
   left-stays : (a b : ℕ) (f : ℕ → S → Turn S R) (r : R) → upward a b (λ k t. andThen t (f k)) (left r) ≡ left r
-  left-stays a b f r = by (decLe a b)
-    where
-      by : Dec (a ≤ b) → upward a b (λ k t. andThen t (f k)) (left r) ≡ left r
-      by (yes h) =
-          upward-keeps (λ k t. t ≡ left r) a b (λ k t. andThen t (f k)) (left r) h refl (λ k t l m e. ap (λ (x : Turn S R). andThen x (f k)) e)
-      by (no h) = upward-none a b (λ k t. andThen t (f k)) (left r) (omega arith)
+  left-stays a b f r = upward-idle a b (λ k t. andThen t (f k)) (left r) (λ k l m. refl)
 
   pub until-none : (a b : ℕ) (f : ℕ → S → Turn S R) (s : S) → b ≤ a → until a b f s ≡ on s
   unfolding until

@@ -1,7 +1,7 @@
 -- Sums over the numbers below n: of equal, of smaller and of added terms, in two parts, with one term changed, and of terms none of which is
 -- negative. Assumes nothing.
 use mathlib.Core.Path.{_≡_, refl, sym, ap, ap₂, _∙_}
-use mathlib.Core.Logic.{_≢_, _↔_}
+use mathlib.Core.Logic.{_≢_}
 use Prim.Native.Nat.{ℕ, zero, suc, _+_, _*_, _<_}
 use native.Mathlib.Decide.{ℕ-discrete}
 use native.Mathlib.Nat.{add-zero, zero-mul, suc-mul}
@@ -76,11 +76,6 @@ sum-le-tight (suc n) f g h s i l = by (ℕ-discrete i n) (λ d. sum-le-tight n f
     by : Dec (i ≡ n) → (i ≢ n → f i ≡ g i) → f i ≡ g i
     by (yes e) ih = ap f e ∙ last ∙ ap g (sym e)
     by (no d) ih = ih d
-
--- A sum of terms none of which is negative is 0 exactly if each is.
-pub sum-zero-iff : (n : ℕ) (f : ℕ → ℤ) → ((i : ℕ) → i < n → pos 0 ≤ℤ f i) → (sum n f ≡ pos 0) ↔ ((i : ℕ) → i < n → f i ≡ pos 0)
-sum-zero-iff n f h =
-    (λ e i l. sym (sum-le-tight n (λ k. pos 0) f h (omega (zlin, sum-zero n (λ k. pos 0) (λ k m. refl))) i l), sum-zero n f)
 
 -- The same term n times, for terms of size 1.
 pub sum-ones : (n : ℕ) → sum n (λ i. pos 1) ≡ pos n

@@ -9,7 +9,7 @@ use Rattle.ints.specs.Parts.{Within}
 use Rattle.ints.proofs.Sums.{up-neg, down-neg}
 use Rattle.ints.proofs.Ranges.{zarith, within-orders}
 use Rattle.ints.proofs.Tests.{le-ltZ}
-use Rattle.matrix.specs.Refusals.{outside}
+use Rattle.matrix.specs.Tests.{outside}
 
 neither : (a b : Bool) → (a || b) ≡ false → (a ≡ false) × (b ≡ false)
 neither true b e = absurd (true≢false e)

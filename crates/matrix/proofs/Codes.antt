@@ -1,58 +1,48 @@
--- Refusals as one number: the paper's numbers are below 256, and the places of `cost` far below 2^48. Assumes nothing.
+-- Refusals as one number: the numbers of `cost` are below 256, and its places far below 2^48. Assumes nothing.
 use mathlib.Core.Path.{_≡_}
-use mathlib.Core.List.{List}
+use mathlib.Core.List.{List, [], _∷_}
 use Prim.Native.Nat.{ℕ, _*_, _^_, _≤_, _<_}
 use native.Mathlib.Nat.{mul-le-mul, le-of-lt, lt-of-le-of-lt}
 use native.Mathlib.Omega.{arith}
-use borrow.Author.Tests.{ltb-false, eqb-true, not-false}
 use lib.Dec.{lit<}
 use lib.IntN.{ℤ}
 use lib.ListN.{length}
 use Rattle.matrix.specs.Limits.{side}
-use Rattle.matrix.specs.Cost.{cost}
-use Rattle.matrix.specs.Refusals.{numberOf, placeOf}
-use Rattle.matrix.specs.declared.Answer.{Answer}
-use Rattle.matrix.specs.declared.Answer.the-variants.{Total, Refused}
-use Rattle.matrix.proofs.Limits.{side-small}
-use Rattle.matrix.proofs.Refusals.{refuseIf-all, refuseAt-all}
-use Rattle.matrix.specs.declared.Refusal.{Refusal}
-use Rattle.matrix.specs.declared.Refusal.the-variants.{SideOver, CostsNotSquare, ListLength, RoomShort, CostOutside, ColumnOutside, RowNotNamed, PriceOutside, PricesOverCost, PricesNotCost, NoMark, EditionNotOne, SheetSideOver, DistanceNotCosts, DistancePastBytes, SlipRoomShort, SheetOver}
-
-pub number-small : (refusal : Refusal) → numberOf refusal < 256
-number-small SideOver = lit< tt
-number-small CostsNotSquare = lit< tt
-number-small (ListLength place) = lit< tt
-number-small (RoomShort place) = lit< tt
-number-small (CostOutside place) = lit< tt
-number-small (ColumnOutside place) = lit< tt
-number-small (RowNotNamed place) = lit< tt
-number-small (PriceOutside place) = lit< tt
-number-small (PricesOverCost place) = lit< tt
-number-small (PricesNotCost place) = lit< tt
-number-small NoMark = lit< tt
-number-small EditionNotOne = lit< tt
-number-small SheetSideOver = lit< tt
-number-small DistanceNotCosts = lit< tt
-number-small DistancePastBytes = lit< tt
-number-small SlipRoomShort = lit< tt
-number-small SheetOver = lit< tt
-
--- An answer whose place, if it is a refusal, is below 2^48.
-abbrev pub PlaceSmall : Answer → Type 0
-PlaceSmall (Total t) = Unit {0}
-PlaceSmall (Refused refusal) = placeOf refusal < 2 ^ 48
+use Rattle.matrix.specs.Cost.{costTests, cost}
+use Rattle.matrix.specs.Answers.{totalled}
+use Rattle.matrix.specs.Tests.{shaped, roomsLong}
+use Rattle.matrix.specs.Asked.{TellableIn}
+use Rattle.matrix.proofs.SmallLimits.{side-small}
+use Rattle.matrix.proofs.Verdicts.{then-iff, Small, then-small, failsIf-small, failsAt-small}
+use Rattle.matrix.proofs.Passed.{side-within, costs-fill, list-short}
+use Rattle.matrix.specs.declared.Verdict.{Verdict}
+use Rattle.matrix.specs.declared.Verdict.the-variants.{Passed, Fails}
 
 -- A square of costs within the limit has at most 2^32 places.
 pub square-small : (n m : ℕ) → n ≤ side → m ≡ n * n → m ≤ 2 ^ 32
 square-small n m h e = omega (arith, mul-le-mul (le-of-lt (lt-of-le-of-lt h side-small)) (le-of-lt (lt-of-le-of-lt h side-small)))
 
-pub cost-places : (n : ℕ) (costs : List ℤ) (listed : List ℕ) → PlaceSmall (cost n costs listed)
-unfolding cost
+pub totalled-small : (verdict : Verdict) (total : ℤ) → Small verdict → TellableIn (totalled verdict total)
+unfolding totalled
+totalled-small Passed total h = tt
+totalled-small (Fails refusal) total h = h
+
+pub shaped-small : (n : ℕ) (costs : List ℤ) (a b c d : ℕ) → Small (shaped n costs (a ∷ b ∷ c ∷ d ∷ []))
+shaped-small n costs a b c d =
+    then-small _ _ (then-small _ _ (failsIf-small _ _ _ (lit< tt) (λ e. lit< tt)) (λ e. failsIf-small _ _ _ (lit< tt) (λ e. lit< tt)))
+    (λ e. failsAt-small _ _ _ _ (lit< tt) (λ k l. omega arith))
+
+pub rooms-small : (n indices numbers : ℕ) → Small (roomsLong n indices numbers)
+rooms-small n indices numbers = then-small _ _ (failsIf-small _ _ _ (lit< tt) (λ e. lit< tt)) (λ e. failsIf-small _ _ _ (lit< tt) (λ e. lit< tt))
+
+pub cost-places : (n : ℕ) (costs : List ℤ) (listed : List ℕ) → TellableIn (cost n costs listed)
+unfolding cost costTests
 cost-places n costs listed =
-    refuseIf-all PlaceSmall _ _ _ (λ e. lit< tt)
-    (λ side-kept. refuseIf-all PlaceSmall _ _ _ (λ e. lit< tt)
-    (λ square-kept.
-    let long = square-small n (length costs) (ltb-false side n side-kept) (eqb-true (length costs) (n * n) (not-false _ square-kept)) in
-    refuseIf-all PlaceSmall _ _ _ (λ e. lit< tt)
-    (λ list-kept. refuseAt-all PlaceSmall _ _ _ _ (λ k l. omega arith)
-    (refuseAt-all PlaceSmall _ _ _ _ (λ i l. omega (arith, side-small, ltb-false side n side-kept, ltb-false n (length listed) list-kept)) tt))))
+    totalled-small _ _
+    (then-small _ _
+    (then-small _ _
+    (then-small _ _
+    (then-small _ _ (failsIf-small _ _ _ (lit< tt) (λ e. lit< tt)) (λ a. failsIf-small _ _ _ (lit< tt) (λ e. lit< tt)))
+    (λ b. failsIf-small _ _ _ (lit< tt) (λ e. lit< tt)))
+    (λ c. failsAt-small _ _ _ _ (lit< tt) (λ k l. let b = then-iff _ _ .0 c .0 in omega (arith, square-small n (length costs) (side-within side n .0 (then-iff _ _ .0 b .0)) (costs-fill n n costs .0 (then-iff _ _ .0 b .1))))))
+    (λ d. failsAt-small _ _ _ _ (lit< tt) (λ i l. let c = then-iff _ _ .0 d .0 in omega (arith, side-small, side-within side n .0 (then-iff _ _ .0 (then-iff _ _ .0 c .0) .0), list-short n (length listed) .0 (then-iff _ _ .0 c .1)))))

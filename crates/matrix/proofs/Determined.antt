@@ -1,11 +1,25 @@
--- The promise of `cost` determines its answer: two answers that meet it are equal. Nothing is lent to be written. Assumes nothing.
-use mathlib.Core.Path.{_≡_, sym, _∙_}
+-- The values of an answer determine it, and so the promise of `cost` does: two answers that meet it are equal. Nothing is lent to be written.
+-- Assumes nothing.
+use mathlib.Core.Path.{_≡_, sym, ap, ap₂, _∙_}
+use mathlib.Core.Bool.{true≢false}
 use mathlib.Core.List.{List}
 use Prim.Native.Nat.{ℕ}
 use lib.IntN.{ℤ}
-use Rattle.matrix.specs.declared.Answer.{Answer}
+use Rattle.matrix.specs.Answers.{Values, valuesOf}
 use Rattle.matrix.specs.Cost.{cost}
+use Rattle.matrix.specs.declared.Refusal.{Refusal}
+use Rattle.matrix.specs.declared.Answer.{Answer}
+use Rattle.matrix.specs.declared.Answer.the-variants.{Total, Refused}
+
+abbrev refusal-is : (number place : ℕ) → Refusal
+refusal-is number place = record { number = number; place = place }
+
+pub values-determine : (a b : Answer) → valuesOf a ≡ valuesOf b → a ≡ b
+values-determine (Total s) (Total t) e = ap Total (ap (λ (v : Values). v .total) e)
+values-determine (Total s) (Refused r) e = absurd (true≢false (ap (λ (v : Values). v .accepted) e))
+values-determine (Refused q) (Total t) e = absurd (true≢false (sym (ap (λ (v : Values). v .accepted) e)))
+values-determine (Refused q) (Refused r) e = ap Refused (ap₂ refusal-is (ap (λ (v : Values). v .number) e) (ap (λ (v : Values). v .place) e))
 
 pub cost-determined : (n : ℕ) (costs : List ℤ) (listed : List ℕ) (answer other : Answer)
-    → answer ≡ cost n costs listed → other ≡ cost n costs listed → answer ≡ other
-cost-determined n costs listed answer other e f = e ∙ sym f
+    → valuesOf answer ≡ valuesOf (cost n costs listed) → valuesOf other ≡ valuesOf (cost n costs listed) → answer ≡ other
+cost-determined n costs listed answer other e f = values-determine answer other (e ∙ sym f)

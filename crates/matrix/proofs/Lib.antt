@@ -1,9 +1,11 @@
-pub mod Limits
+pub mod SmallLimits
 pub mod First
-pub mod Refusals
+pub mod Verdicts
 pub mod Places
 pub mod Bounds
 pub mod Codes
-pub mod Rows
+pub mod RowParts
 pub mod Lengths
+pub mod Passed
+pub mod Listing
 pub mod Determined

@@ -15,13 +15,13 @@ use Rattle.ints.specs.Parts.{Within}
 use Rattle.ints.proofs.Sums.{dif}
 use Rattle.ints.proofs.Shapes.{zlin}
 use Rattle.lists.specs.Permutations.{at}
+use Rattle.lists.proofs.Cases.{cond-cases}
 use Rattle.rules.specs.declared.Low.{Low}
 use Rattle.rules.specs.declared.TwoLowest.{TwoLowest}
 use Rattle.rules.specs.declared.TwoLowest.the-variants.{One, Two}
 use Rattle.rules.specs.declared.Choice.{Choice}
 use Rattle.rules.specs.declared.Pass.{Pass}
 use Rattle.rules.specs.Rows.{keepPrice, lowerPrice, choose, passAt, displace}
-use Rattle.rules.proofs.Cases.{cond-cases}
 use Rattle.matrix.specs.Limits.{near}
 use Rattle.reduction.specs.Rows.{Inside, placedAt}
 

@@ -10,8 +10,8 @@ use lib.Seq.{getD-set-same, getD-set-other}
 use Rattle.lists.specs.Permutations.{at}
 use Rattle.lists.specs.Runs.{downward}
 use Rattle.lists.proofs.Runs.{downward-none, downward-first}
+use Rattle.lists.proofs.Cases.{cond-cases, here-or-elsewhere}
 use Rattle.rules.specs.Columns.{Claims, claim, free}
-use Rattle.rules.proofs.Cases.{cond-cases, here-or-elsewhere}
 use Rattle.reduction.specs.Columns.{Claimable}
 
 -- The two ways of a claim.

@@ -4,7 +4,7 @@ use mathlib.Core.Bool.{Bool, cond}
 use mathlib.Core.List.{List}
 use Prim.Native.Nat.{ℕ, suc, _+_, _*_, _-_, _^_, _≤_, _<_}
 use native.Mathlib.Decide.{decLt}
-use native.Mathlib.Nat.{mul-le-mul}
+use native.Mathlib.Nat.{mul-le-mul, zero-mul}
 use native.Mathlib.Numerals.{add-one}
 use native.Mathlib.Omega.{arith}
 use lib.Dec.{ltb}
@@ -12,15 +12,16 @@ use lib.IntN.{ℤ}
 use lib.ListN.{length, set, length-set}
 use Rattle.lists.specs.Permutations.{at}
 use Rattle.lists.proofs.Runs.{upward-keeps}
-use Rattle.assignment.specs.Pairings.{square, price}
+use Rattle.lists.proofs.Cases.{cond-cases}
+use Rattle.assignment.specs.Pairings.{square, signedAt}
 use Rattle.rules.specs.declared.Choice.{Choice}
 use Rattle.rules.specs.declared.Pass.{Pass}
 use Rattle.rules.specs.Lowest.{reduced, twoLowest}
+use Rattle.rules.specs.Columns.{Stage}
 use Rattle.rules.specs.Rows.{Passing, Placed, choose, passAt, displace, settle, isEarly, look, looks, passStart, rowReduction}
-use Rattle.rules.proofs.Cases.{cond-cases}
 use Rattle.rules.proofs.Passes.{looks-none, looks-more, looks-rest}
-use Rattle.matrix.proofs.Limits.{side-small}
-use Rattle.reduction.specs.Ranges.{Near}
+use Rattle.matrix.proofs.SmallLimits.{side-small}
+use Rattle.reduction.specs.Ranges.{Near, Square}
 use Rattle.reduction.specs.Columns.{stageAt}
 use Rattle.reduction.specs.Rows.{placedAt, passingAt, Ready, Passable}
 
@@ -28,7 +29,7 @@ module _ (n : ℕ) (cost : ℕ → ℕ → ℤ) (x : Passing) where
   -- What the free row at `current` chooses.
   abbrev pub choiceOf : Choice
   choiceOf =
-      choose n (isEarly n (x .pass)) (x .prices) (x .pairs .rows) (twoLowest n (reduced cost (price (x .prices)) (at (x .frees) (x .pass .current))))
+      choose n (isEarly n (x .pass)) (x .prices) (x .pairs .rows) (twoLowest n (reduced cost (signedAt (x .prices)) (at (x .frees) (x .pass .current))))
 
   pub look-is : (w : Choice) → w ≡ choiceOf → (f : List ℕ) (q : Pass) → placedAt f q ≡ displace n (x .frees) (x .pass) (w .back) (at (x .pairs .rows) (w .column))
       → let i = at (x .frees) (x .pass .current) in
@@ -91,6 +92,26 @@ unfolding looks
 looks-sized n cost count x s m =
     upward-keeps (λ k. Sized n) 0 m (λ k y. cond (ltb (y .pass .current) count) (look n cost y) y) x (omega arith) s
     (λ k y l h z. cond-cases (ltb (y .pass .current) count) (Sized n) (look n cost y) y (λ t. look-sized n cost y z) (λ t. z))
+
+-- A pass keeps the sizes, over any of its rows.
+pub pass-sized : (n : ℕ) (cost : ℕ → ℕ → ℤ) (s : Stage) → Sized n (passStart s) → Sized n (rowReduction n cost s)
+unfolding rowReduction
+pass-sized n cost s z = looks-sized n cost (s .count) (passStart s) z (s .count * n)
+
+-- A pass over no rows asks for nothing but sizes.
+pub passable-none : (n : ℕ) (costs : List ℤ) (s : Stage) → Square n costs → Sized n (passStart s)
+    → Passable n costs (s .pairs .cols) (s .pairs .rows) (s .prices) (s .frees) 0
+passable-none n costs s squared z = record {
+  squared = squared;
+  cols-size = z .cols-size;
+  rows-size = z .rows-size;
+  prices-size = z .prices-size;
+  frees-size = z .frees-size;
+  count-most = omega arith;
+  ends = omega arith;
+  row-below = λ m l. absurd (omega (arith, zero-mul n));
+  near-prices = λ m l. absurd (omega (arith, zero-mul n));
+}
 
 -- ---- the loop of a pass, at its head: it stands where its counter says
 

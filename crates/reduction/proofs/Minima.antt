@@ -7,7 +7,7 @@ use lib.ListN.{length}
 use Rattle.lists.specs.Parts.{part}
 use Rattle.lists.specs.Permutations.{at, table}
 use Rattle.lists.proofs.Tables.{getD-table, table-getD, table-cong}
-use Rattle.assignment.specs.Pairings.{square, price}
+use Rattle.assignment.specs.Pairings.{square, signedAt}
 use Rattle.rules.specs.declared.Low.{Low}
 use Rattle.rules.specs.Lowest.{lowest}
 use Rattle.reduction.specs.Columns.{lowAt}
@@ -30,9 +30,9 @@ module _ (n i : ℕ) (costs row : List ℤ) (inside : i < n) (size : length cost
   lowAt-is : 1 ≤ i → (rows : List ℕ) (v : List ℤ) → rows ≡ places n costs i → v ≡ values n costs i → (j : ℕ) → j < n
       → lowAt i row v rows j ≡ lowestOf n costs (i + 1) j
   lowAt-is one rows v e f j h =
-      let value : price v j ≡ lowestOf n costs i j .value = ap (λ (x : List ℤ). price x j) f ∙ getD-table n (λ k. lowestOf n costs i k .value) (pos 0) j h in
+      let value : signedAt v j ≡ lowestOf n costs i j .value = ap (λ (x : List ℤ). signedAt x j) f ∙ getD-table n (λ k. lowestOf n costs i k .value) (pos 0) j h in
       let place : at rows j ≡ lowestOf n costs i j .place = ap (λ (x : List ℕ). at x j) e ∙ getD-table n (λ k. lowestOf n costs i k .place) 0 j h in
-      let here : price row j ≡ square n costs .cost i j = row-at n i costs row inside size is j h in
+      let here : signedAt row j ≡ square n costs .cost i j = row-at n i costs row inside size is j h in
       lower-cong i value place here ∙ sym (lowest-more (λ k. square n costs .cost k j) i one)
 
   module _ (one : 1 ≤ i) (rows : List ℕ) (v : List ℤ) (e : rows ≡ places n costs i) (f : v ≡ values n costs i) where
@@ -55,6 +55,6 @@ module _ (n : ℕ) (costs row : List ℤ) (inside : 0 < n) (size : length costs 
 
   pub values-one : row ≡ values n costs 1
   values-one =
-      sym (table-getD row (pos 0)) ∙ ap (λ (m : ℕ). table m (price row)) (row-length n 0 costs row inside size is)
-      ∙ table-cong n (price row) (λ j. lowestOf n costs 1 j .value)
+      sym (table-getD row (pos 0)) ∙ ap (λ (m : ℕ). table m (signedAt row)) (row-length n 0 costs row inside size is)
+      ∙ table-cong n (signedAt row) (λ j. lowestOf n costs 1 j .value)
       (λ j h. row-at n 0 costs row inside size is j h ∙ sym (ap (λ (x : Low). x .value) (lowest-one (λ k. square n costs .cost k j))))

@@ -13,9 +13,9 @@ use Rattle.lists.specs.Permutations.{at}
 use Rattle.lists.specs.Parts.{part, replaced}
 use Rattle.lists.proofs.Runs.{upward-none, upward-last, upward-keeps}
 use Rattle.lists.proofs.Parts.{part-at, part-length, replaced-length, replaced-part, replaced-part-after, replaced-self, replaced-replaced, lent-back}
+use Rattle.lists.proofs.Cases.{cond-cases}
 use Rattle.assignment.specs.Pairings.{square}
 use Rattle.rules.specs.Columns.{Claims, Transfer, lowerColumn, transfer}
-use Rattle.rules.proofs.Cases.{cond-cases}
 use Rattle.reduction.specs.Ranges.{Near}
 use Rattle.reduction.specs.Columns.{claimsOf, transferOf, transferring, Transferable, Transferred}
 

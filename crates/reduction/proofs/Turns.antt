@@ -1,20 +1,20 @@
 -- The runs of rule 1 and of the least values of rule 3, turn by turn, as code goes through them. Assumes nothing.
-use mathlib.Core.Path.{_≡_, refl, sym, ap, _∙_, subst}
+use mathlib.Core.Path.{_≡_, refl, sym, ap, _∙_}
 use mathlib.Core.Bool.{Bool, true, false, cond}
-use Prim.Native.Nat.{ℕ, zero, suc, _+_, _-_, _≤_, _<_}
-use native.Mathlib.Nat.{add-zero}
+use Prim.Native.Nat.{ℕ, _+_, _≤_, _<_}
 use native.Mathlib.Omega.{arith}
 use native.Mathlib.Numerals.{add-one}
 use borrow.Author.Tests.{eq-eqb, ne-eqb}
 use lib.Dec.{eqb}
 use lib.IntN.{ℤ}
 use lib.Signed.{ltZ}
-use Rattle.lists.proofs.Runs.{upward-none, upward-last}
+use Rattle.lists.proofs.Runs.{upward-none, upward-last, upward-stays}
+use Rattle.lists.proofs.Cases.{cond-cases}
 use Rattle.rules.specs.declared.Low.{Low}
 use Rattle.rules.specs.declared.TwoLowest.{TwoLowest}
 use Rattle.rules.specs.declared.TwoLowest.the-variants.{One, Two}
-use Rattle.rules.specs.declared.Least.{Least}
-use Rattle.rules.specs.declared.Least.the-variants.{NoneYet}
+use Rattle.rules.specs.declared.LeastSoFar.{LeastSoFar}
+use Rattle.rules.specs.declared.LeastSoFar.the-variants.{NoneYet}
 use Rattle.rules.specs.Lowest.{low, beside, twoStep, twoLowest, lower, lowest, least, leastBut}
 
 -- The lowest so far beside a value at place i, by equal numbers.
@@ -36,15 +36,10 @@ module _ (f : ℕ → ℤ) where
   -- A pair of columns stays the two lowest past columns that do not count.
   pub twoLowest-pass : (a b : Low) (j r : ℕ) → 1 ≤ j → j ≤ r → Two a b ≡ twoLowest j f → ((k : ℕ) → k < r → j ≤ k → ltZ (f k) (b .value) ≡ false)
       → Two a b ≡ twoLowest r f
-  twoLowest-pass a b j r h l e passed = let z : j + (r - j) ≡ r = omega arith in subst (λ (m : ℕ). Two a b ≡ twoLowest m f) z (go (r - j) (omega arith))
-    where
-      go : (d : ℕ) → j + d ≤ r → Two a b ≡ twoLowest (j + d) f
-      go zero m = subst (λ (k : ℕ). Two a b ≡ twoLowest k f) (sym (add-zero j)) e
-      go (suc d) m =
-          let z : j + d + 1 ≡ j + suc d = omega arith in
-          subst (λ (k : ℕ). Two a b ≡ twoLowest k f) z
-          (ap (λ (t : Bool). cond t (beside a (low (f (j + d)) (j + d))) (Two a b)) (sym (passed (j + d) (omega arith) (omega arith)))
-          ∙ ap (λ (t : TwoLowest). twoStep t (low (f (j + d)) (j + d))) (go d (omega arith)) ∙ sym (twoLowest-more (j + d) (omega arith)))
+  unfolding twoLowest
+  twoLowest-pass a b j r h l e passed =
+      upward-stays 1 j r (λ k found. twoStep found (low (f k) k)) (One (low (f 0) 0)) (Two a b) h l e
+      (λ k m n. ap (λ (t : Bool). cond t (beside a (low (f k) k)) (Two a b)) (passed k n m))
 
   -- A column that counts, beside the two lowest so far.
   pub twoLowest-count : (a b : Low) (j : ℕ) → 1 ≤ j → Two a b ≡ twoLowest j f → ltZ (f j) (b .value) ≡ true → beside a (low (f j) j) ≡ twoLowest (j + 1) f
@@ -75,18 +70,9 @@ module _ (f : ℕ → ℤ) where
   leastBut-other j k d = leastBut-more j k ∙ ap (λ (t : Bool). cond t (leastBut k f j) (least (leastBut k f j) (f k))) (ne-eqb k j d)
 
   -- What was found stays the least past values that leave it.
-  pub leastBut-pass : (found : Least) (j k r : ℕ) → k ≤ r → found ≡ leastBut k f j → ((i : ℕ) → i < r → k ≤ i → least found (f i) ≡ found)
+  pub leastBut-pass : (found : LeastSoFar) (j k r : ℕ) → k ≤ r → found ≡ leastBut k f j → ((i : ℕ) → i < r → k ≤ i → least found (f i) ≡ found)
       → found ≡ leastBut r f j
-  leastBut-pass found j k r l e passed = let z : k + (r - k) ≡ r = omega arith in subst (λ (m : ℕ). found ≡ leastBut m f j) z (go (r - k) (omega arith))
-    where
-      kept : (t : Bool) (x : Least) → x ≡ found → found ≡ cond t found x
-      kept true x q = refl
-      kept false x q = sym q
-
-      go : (d : ℕ) → k + d ≤ r → found ≡ leastBut (k + d) f j
-      go zero m = subst (λ (i : ℕ). found ≡ leastBut i f j) (sym (add-zero k)) e
-      go (suc d) m =
-          let z : k + d + 1 ≡ k + suc d = omega arith in
-          subst (λ (i : ℕ). found ≡ leastBut i f j) z
-          (kept (eqb (k + d) j) (least found (f (k + d))) (passed (k + d) (omega arith) (omega arith))
-          ∙ ap (λ (x : Least). cond (eqb (k + d) j) x (least x (f (k + d)))) (go d (omega arith)) ∙ sym (leastBut-more j (k + d)))
+  unfolding leastBut
+  leastBut-pass found j k r l e passed =
+      upward-stays 0 k r (λ i x. cond (eqb i j) x (least x (f i))) NoneYet found (omega arith) l e
+      (λ i m n. cond-cases (eqb i j) (λ x. x ≡ found) found (least found (f i)) (λ t. refl) (λ t. passed i n m))

@@ -8,10 +8,10 @@ use Rattle.ints.specs.Parts.{Within}
 use Rattle.lists.specs.Runs.{upward}
 use Rattle.lists.specs.Permutations.{at}
 use Rattle.lists.specs.Parts.{part, replaced}
-use Rattle.assignment.specs.Pairings.{square, price}
+use Rattle.assignment.specs.Pairings.{square, signedAt}
 use Rattle.rules.specs.declared.Low.{Low}
-use Rattle.rules.specs.declared.Least.{Least}
-use Rattle.rules.specs.declared.Least.the-variants.{NoneYet, Of}
+use Rattle.rules.specs.declared.LeastSoFar.{LeastSoFar}
+use Rattle.rules.specs.declared.LeastSoFar.the-variants.{NoneYet, Of}
 use Rattle.rules.specs.Lowest.{low, lower, least}
 use Rattle.rules.specs.Columns.{Stage, Claims, claims, Transfer, transfer, untransferred}
 use Rattle.matrix.specs.Limits.{near}
@@ -19,7 +19,7 @@ use Rattle.reduction.specs.Ranges.{Near, Square}
 
 -- Row i beside the lowest so far of column j.
 abbrev pub lowAt : ℕ → List ℤ → List ℤ → List ℕ → ℕ → Low
-lowAt i row v rows j = lower (low (price v j) (at rows j)) (low (price row j) i)
+lowAt i row v rows j = lower (low (signedAt v j) (at rows j)) (low (signedAt row j) i)
 
 -- The claims that three lists hold.
 abbrev pub claimsOf : List ℕ → List ℕ → List ℕ → Claims
@@ -34,13 +34,13 @@ pub record Claimable (n k : ℕ) (s : Claims) : Type 0 where
   pub col-below : (i : ℕ) → i < n → at (s .cols) i < n
 
 -- r is a place from `from` on, n at most, and no value of f before it changes the least that was found.
-pub record NextLeast (f : ℕ → ℤ) (found : Least) (from n r : ℕ) : Type 0 where
+pub record NextLeast (f : ℕ → ℤ) (found : LeastSoFar) (from n r : ℕ) : Type 0 where
   pub on : from ≤ r
   pub most : r ≤ n
   pub passed : (k : ℕ) → k < r → from ≤ k → least found (f k) ≡ found
 
 -- A least value that is the difference of a cost and a price that is near.
-abbrev pub NearLeast : Least → Type 0
+abbrev pub NearLeast : LeastSoFar → Type 0
 NearLeast NoneYet = Unit
 NearLeast (Of h) = Within (near + near) h
 

@@ -7,12 +7,12 @@ use lib.IntN.{ℤ}
 use lib.Signed.{ltZ}
 use lib.ListN.{length}
 use Rattle.ints.specs.Parts.{Within}
-use Rattle.assignment.specs.Pairings.{square, price}
+use Rattle.assignment.specs.Pairings.{square, signedAt}
 use Rattle.matrix.specs.Limits.{side, near}
 
 -- The first n prices of a list are near.
 abbrev pub Near : ℕ → List ℤ → Type 0
-Near n v = (j : ℕ) → j < n → Within near (price v j)
+Near n v = (j : ℕ) → j < n → Within near (signedAt v j)
 
 -- The costs of a square night: its side is within the limit, and its costs are near.
 pub record Square (n : ℕ) (costs : List ℤ) : Type 0 where

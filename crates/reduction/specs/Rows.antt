@@ -28,6 +28,10 @@ placedAt frees pass = record { frees = frees; pass = pass }
 abbrev pub passingAt : List ℕ → List ℕ → List ℤ → List ℕ → Pass → Passing
 passingAt cols rows v frees pass = record { pairs = record { cols = cols; rows = rows }; prices = v; frees = frees; pass = pass }
 
+-- A loose bound of the looks of a pass: no counter of looks wraps below it.
+abbrev pub looksMost : ℕ
+looksMost = 2 ^ 40
+
 -- What a look asks: lists of n entries, a place and a row in range, and near prices.
 pub record Ready (n : ℕ) (costs : List ℤ) (x : Passing) : Type 0 where
   pub squared : Square n costs
@@ -37,7 +41,7 @@ pub record Ready (n : ℕ) (costs : List ℤ) (x : Passing) : Type 0 where
   pub frees-size : length (x .frees) ≡ n
   pub current-below : x .pass .current < n
   pub left-most : x .pass .left ≤ x .pass .current
-  pub looks-fit : x .pass .looks < 2 ^ 40
+  pub looks-fit : x .pass .looks < looksMost
   pub row-below : at (x .frees) (x .pass .current) < n
   pub near-prices : Near n (x .prices)
 

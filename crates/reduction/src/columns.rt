@@ -6,14 +6,14 @@ ghost use lib.ListN.{length};
 ghost use Rattle.lists.specs.Runs.{downward};
 ghost use Rattle.lists.specs.Permutations.{at, table};
 ghost use Rattle.lists.specs.Parts.{part, replaced};
-ghost use Rattle.assignment.specs.Pairings.{price, square};
+ghost use Rattle.assignment.specs.Pairings.{signedAt, square};
 ghost use Rattle.rules.specs.Lowest.{least, leastBut};
 ghost use Rattle.rules.specs.Columns.{Claims, minimum, claim, claims, lessLeast, lowerColumn, transfer, columnReduction};
 ghost use Rattle.ints.specs.Parts.{Within};
 ghost use Rattle.matrix.specs.Limits.{side, near};
 ghost use Rattle.reduction.specs.Ranges.{Near, Square};
 ghost use Rattle.reduction.specs.Columns.{lowAt, claimsOf, Claimable, NextLeast, NearLeast, transferOf, Transferable, Transferred, transferring, stageAt, Reducible};
-use rules::Least;
+use rules::LeastSoFar;
 
 // A row's costs, each as a price.
 fn widen(row: &[i32], v: &mut [i64])
@@ -49,13 +49,16 @@ fn minima(n: usize, costs: &[i32], rows: &mut [u32], v: &mut [i64])
     ensures { λ r. ⌜ (now (rows .exit) ≡ table n (λ j. minimum n (square n (now (costs .entry)) .cost) j .place)) × (now (v .exit) ≡ table n (λ j. minimum n (square n (now (costs .entry)) .cost) j .value)) ⌝ }
 {
     lists::fill(rows, 0);
-    widen(matrix::row(costs, n, 0), v);
+    widen(matrix::rows::row(costs, n, 0), v);
     let mut i = 1;
     while i < n {
-        lower_minima(i, matrix::row(costs, n, i), rows, v);
+        lower_minima(i, matrix::rows::row(costs, n, i), rows, v);
         i += 1;
     }
 }
+
+// The free mark, which is no row.
+const FREE: u32 = 4294967295;
 
 // Column j claims its row; a loser is free and marks that row not unique.
 fn claim(n: usize, j: usize, cols: &mut [u32], rows: &mut [u32], marks: &mut [u32])
@@ -67,7 +70,7 @@ fn claim(n: usize, j: usize, cols: &mut [u32], rows: &mut [u32], marks: &mut [u3
         cols[i] = j as u32;
         marks[i] = 1;
     } else {
-        rows[j] = 4294967295;
+        rows[j] = FREE;
         marks[i] = 2;
     }
 }
@@ -85,36 +88,36 @@ fn claim_all(n: usize, cols: &mut [u32], rows: &mut [u32], marks: &mut [u32])
 }
 
 // A value beside the least so far.
-fn least(found: Least, h: i64) -> Least
+fn least(found: LeastSoFar, h: i64) -> LeastSoFar
     ensures { λ r. ⌜ r ≡ least found h ⌝ }
 {
     match found {
-        Least::NoneYet => Least::Of(h),
-        Least::Of(a) => { if h < a { Least::Of(h) } else { found } }
+        LeastSoFar::NoneYet => LeastSoFar::Of(h),
+        LeastSoFar::Of(a) => { if h < a { LeastSoFar::Of(h) } else { found } }
     }
 }
 
 // The first column from `from` on whose reduced cost may change the least so far.
-fn next_least(row: &[i32], v: &[i64], from: usize, found: Least) -> usize
+fn next_least(row: &[i32], v: &[i64], from: usize, found: LeastSoFar) -> usize
     requires { ⌜ (length (now v) ≡ length (now row)) × Near (length (now row)) (now v) × (from ≤ length (now row)) ⌝ }
-    ensures { λ r. ⌜ NextLeast (λ k. price (now (row .entry)) k -ℤ price (now (v .entry)) k) found from (length (now (row .entry))) r ⌝ }
+    ensures { λ r. ⌜ NextLeast (λ k. signedAt (now (row .entry)) k -ℤ signedAt (now (v .entry)) k) found from (length (now (row .entry))) r ⌝ }
 {
     match found {
-        Least::NoneYet => from,
-        Least::Of(a) => super::lowest::next_below(row, v, from, a),
+        LeastSoFar::NoneYet => from,
+        LeastSoFar::Of(a) => super::lowest::next_below(row, v, from, a),
     }
 }
 
 // The least reduced cost of a row over the columns but j.
-fn least_other(row: &[i32], v: &[i64], j: usize) -> Least
+fn least_other(row: &[i32], v: &[i64], j: usize) -> LeastSoFar
     requires { ⌜ (length (now v) ≡ length (now row)) × Near (length (now row)) (now v) ⌝ }
-    ensures { λ r. ⌜ r ≡ leastBut (length (now (row .entry))) (λ k. price (now (row .entry)) k -ℤ price (now (v .entry)) k) j ⌝ }
+    ensures { λ r. ⌜ r ≡ leastBut (length (now (row .entry))) (λ k. signedAt (now (row .entry)) k -ℤ signedAt (now (v .entry)) k) j ⌝ }
 {
-    let mut found = Least::NoneYet;
+    let mut found = LeastSoFar::NoneYet;
     let mut k = 0;
     while k < row.len() {
         if k != j {
-            found = least(found, matrix::reduced_cost(row[k], v[k]));
+            found = least(found, matrix::rows::reduced_cost(row[k], v[k]));
         }
         k = next_least(row, v, k + 1, found);
     }
@@ -122,13 +125,13 @@ fn least_other(row: &[i32], v: &[i64], j: usize) -> Least
 }
 
 // A price, lowered by a least value where there is one.
-fn less_least(price: i64, least: Least) -> i64
+fn less_least(price: i64, least: LeastSoFar) -> i64
     requires { ⌜ Within near price × NearLeast least ⌝ }
     ensures { λ r. ⌜ r ≡ lessLeast price least ⌝ }
 {
     match least {
-        Least::NoneYet => price,
-        Least::Of(h) => price - h,
+        LeastSoFar::NoneYet => price,
+        LeastSoFar::Of(h) => price - h,
     }
 }
 
@@ -137,7 +140,7 @@ fn lower_column(n: usize, costs: &[i32], i: usize, j: usize, v: &mut [i64])
     requires { ⌜ Square n (now costs) × (i < n) × (j < n) × (length (now v) ≡ n) × Near n (now v) ⌝ }
     ensures { λ r. ⌜ now (v .exit) ≡ lowerColumn n (square n (now (costs .entry)) .cost) i j (now (v .entry)) ⌝ }
 {
-    let found = least_other(matrix::row(costs, n, i), v, j);
+    let found = least_other(matrix::rows::row(costs, n, i), v, j);
     v[j] = less_least(v[j], found);
 }
 

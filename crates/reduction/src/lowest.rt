@@ -3,7 +3,7 @@ ghost use mathlib.Core.Path.{_≡_};
 ghost use lib.IntN.{_-ℤ_};
 ghost use lib.Signed.{ltZ};
 ghost use lib.ListN.{length};
-ghost use Rattle.assignment.specs.Pairings.{price};
+ghost use Rattle.assignment.specs.Pairings.{signedAt};
 ghost use Prim.Native.Nat.{_≤_, _<_};
 ghost use Rattle.rules.specs.declared.TwoLowest.the-variants.{Two};
 ghost use Rattle.rules.specs.Lowest.{beside, twoLowest};
@@ -20,15 +20,15 @@ struct Pair {
 // Whether the reduced cost of column j is below a bound.
 fn below(row: &[i32], v: &[i64], j: usize, bound: i64) -> bool
     requires { ⌜ (length (now v) ≡ length (now row)) × Near (length (now row)) (now v) × (j < length (now row)) ⌝ }
-    ensures { λ r. ⌜ r ≡ ltZ (price (now (row .entry)) j -ℤ price (now (v .entry)) j) bound ⌝ }
+    ensures { λ r. ⌜ r ≡ ltZ (signedAt (now (row .entry)) j -ℤ signedAt (now (v .entry)) j) bound ⌝ }
 {
-    matrix::reduced_cost(row[j], v[j]) < bound
+    matrix::rows::reduced_cost(row[j], v[j]) < bound
 }
 
 // The first column from `from` on whose reduced cost is below a bound; the length where there is none. Four columns a turn while there are four.
 pub fn next_below(row: &[i32], v: &[i64], from: usize, bound: i64) -> usize
     requires { ⌜ (length (now v) ≡ length (now row)) × Near (length (now row)) (now v) × (from ≤ length (now row)) ⌝ }
-    ensures { λ r. ⌜ NextBelow (λ j. price (now (row .entry)) j -ℤ price (now (v .entry)) j) bound from (length (now (row .entry))) r ⌝ }
+    ensures { λ r. ⌜ NextBelow (λ j. signedAt (now (row .entry)) j -ℤ signedAt (now (v .entry)) j) bound from (length (now (row .entry))) r ⌝ }
 {
     let mut j = from;
     while 4 <= row.len() - j {
@@ -83,24 +83,24 @@ fn bound(two: Pair) -> i64
 // Rule 1: the two lowest reduced costs of a row. From column 2 on a value counts only if below the second; the columns between are passed over.
 pub fn find_umins_plain(row: &[i32], v: &[i64]) -> TwoLowest
     requires { ⌜ Priced (now row) (now v) ⌝ }
-    ensures { λ r. ⌜ r ≡ twoLowest (length (now (row .entry))) (λ j. price (now (row .entry)) j -ℤ price (now (v .entry)) j) ⌝ }
+    ensures { λ r. ⌜ r ≡ twoLowest (length (now (row .entry))) (λ j. signedAt (now (row .entry)) j -ℤ signedAt (now (v .entry)) j) ⌝ }
 {
     let first = Low {
-        value: matrix::reduced_cost(row[0], v[0]),
+        value: matrix::rows::reduced_cost(row[0], v[0]),
         place: 0,
     };
     if row.len() == 1 {
         return TwoLowest::One(first);
     }
     let next = Low {
-        value: matrix::reduced_cost(row[1], v[1]),
+        value: matrix::rows::reduced_cost(row[1], v[1]),
         place: 1,
     };
     let mut two = beside(first, next);
     let mut j = next_below(row, v, 2, bound(two));
     while j < row.len() {
         let h = Low {
-            value: matrix::reduced_cost(row[j], v[j]),
+            value: matrix::rows::reduced_cost(row[j], v[j]),
             place: j,
         };
         let lowest = two.lowest;

@@ -1,14 +1,14 @@
 // Rule 4, row reduction.
 ghost use mathlib.Core.Path.{_≡_};
-ghost use Prim.Native.Nat.{_+_, _^_, _<_, _≤_};
+ghost use Prim.Native.Nat.{_+_, _<_, _≤_};
 ghost use lib.ListN.{length};
 ghost use Rattle.ints.specs.Parts.{Within};
-ghost use Rattle.assignment.specs.Pairings.{price, square};
+ghost use Rattle.assignment.specs.Pairings.{signedAt, square};
 ghost use Rattle.rules.specs.Rows.{keepPrice, lowerPrice, choose, displace, isEarly, look, rowReduction};
 ghost use Rattle.matrix.specs.Limits.{side, near};
 ghost use Rattle.reduction.specs.Ranges.{Near};
 ghost use Rattle.reduction.specs.Columns.{stageAt};
-ghost use Rattle.reduction.specs.Rows.{Inside, placedAt, passingAt, Ready, Passable};
+ghost use Rattle.reduction.specs.Rows.{Inside, looksMost, placedAt, passingAt, Ready, Passable};
 use rules::Choice;
 use rules::Pass;
 use rules::TwoLowest;
@@ -25,14 +25,15 @@ fn keep_price(v: &[i64], j: usize) -> Choice
     }
 }
 
-// Column j at a price lowered by second minus lowest.
-fn lower_price(v: &[i64], j: usize, lowest: i64, second: i64) -> Choice
-    requires { ⌜ (j < length (now v)) × Within near (price (now v) j) × Within (near + near) lowest × Within (near + near) second ⌝ }
-    ensures { λ r. ⌜ r ≡ lowerPrice (now (v .entry)) j lowest second ⌝ }
+// Column j1 at a price lowered by second minus lowest, v2 minus v1.
+fn lower_price(v: &[i64], j1: usize, v1: i64, v2: i64) -> Choice
+    requires { ⌜ (j1 < length (now v)) × Within near (signedAt (now v) j1) × Within (near + near) v1 × Within (near + near) v2 ⌝ }
+    ensures { λ r. ⌜ r ≡ lowerPrice (now (v .entry)) j1 v1 v2 ⌝ }
 {
+    let v1_new = v[j1] - (v2 - v1);
     Choice {
-        column: j,
-        price: v[j] - (second - lowest),
+        column: j1,
+        price: v1_new,
         back: true,
     }
 }
@@ -44,51 +45,51 @@ fn choose(n: usize, early: bool, v: &[i64], rows: &[u32], two: TwoLowest) -> Cho
 {
     match two {
         TwoLowest::One(a) => {
-            let j = a.place;
-            keep_price(v, j)
+            let j1 = a.place;
+            keep_price(v, j1)
         }
         TwoLowest::Two(a, b) => {
-            let j = a.place;
-            let k = b.place;
-            let lowest = a.value;
-            let second = b.value;
+            let j1 = a.place;
+            let j2 = b.place;
+            let v1 = a.value;
+            let v2 = b.value;
             if early {
-                if lowest < second {
-                    lower_price(v, j, lowest, second)
+                if v1 < v2 {
+                    lower_price(v, j1, v1, v2)
                 } else {
-                    let h = rows[j] as usize;
-                    if h < n {
-                        keep_price(v, k)
+                    let i0 = rows[j1] as usize;
+                    if i0 < n {
+                        keep_price(v, j2)
                     } else {
-                        keep_price(v, j)
+                        keep_price(v, j1)
                     }
                 }
             } else {
-                keep_price(v, j)
+                keep_price(v, j1)
             }
         }
     }
 }
 
-// Row h held the column; where h is n or more, none did.
-fn displace(n: usize, frees: &mut [u32], pass: Pass, back: bool, h: u32) -> Pass
-    requires { ⌜ (n ≤ side) × (length (now frees) ≡ n) × (pass .current < n) × (pass .left ≤ pass .current) × (pass .looks < 2 ^ 40) ⌝ }
-    ensures { λ r. ⌜ placedAt (now (frees .exit)) r ≡ displace n (now (frees .entry)) pass back h ⌝ }
+// Row i0 held the column; where i0 is n or more, none did.
+fn displace(n: usize, frees: &mut [u32], pass: Pass, back: bool, i0: u32) -> Pass
+    requires { ⌜ (n ≤ side) × (length (now frees) ≡ n) × (pass .current < n) × (pass .left ≤ pass .current) × (pass .looks < looksMost) ⌝ }
+    ensures { λ r. ⌜ placedAt (now (frees .exit)) r ≡ displace n (now (frees .entry)) pass back i0 ⌝ }
 {
     let current = pass.current;
     let left = pass.left;
     let looks = pass.looks + 1;
-    let held = h as usize;
+    let held = i0 as usize;
     if held < n {
         if back {
-            frees[current] = h;
+            frees[current] = i0;
             Pass {
                 current: current,
                 left: left,
                 looks: looks,
             }
         } else {
-            frees[left] = h;
+            frees[left] = i0;
             Pass {
                 current: current + 1,
                 left: left + 1,
@@ -106,7 +107,7 @@ fn displace(n: usize, frees: &mut [u32], pass: Pass, back: bool, h: u32) -> Pass
 
 // Whether the counter, raised by a look, is below `current`, raised by it too, times n.
 fn is_early(n: usize, pass: Pass) -> bool
-    requires { ⌜ (n ≤ side) × (pass .current < n) × (pass .looks < 2 ^ 40) ⌝ }
+    requires { ⌜ (n ≤ side) × (pass .current < n) × (pass .looks < looksMost) ⌝ }
     ensures { λ r. ⌜ r ≡ isEarly n pass ⌝ }
 {
     let looks = pass.looks + 1;
@@ -128,19 +129,19 @@ fn look(
     ensures { λ r. ⌜ passingAt (now (cols .exit)) (now (rows .exit)) (now (v .exit)) (now (frees .exit)) r ≡ look n (square n (now (costs .entry)) .cost) (passingAt (now (cols .entry)) (now (rows .entry)) (now (v .entry)) (now (frees .entry)) pass) ⌝ }
 {
     let current = pass.current;
-    let i = frees[current] as usize;
-    let row = matrix::row(costs, n, i);
+    let free_i = frees[current] as usize;
+    let row = matrix::rows::row(costs, n, free_i);
     let two = super::lowest::find_umins_plain(row, v);
     let early = is_early(n, pass);
     let choice = choose(n, early, v, rows, two);
-    let j = choice.column;
+    let j1 = choice.column;
     let price = choice.price;
     let back = choice.back;
-    let h = rows[j];
-    v[j] = price;
-    cols[i] = j as u32;
-    rows[j] = i as u32;
-    displace(n, frees, pass, back, h)
+    let i0 = rows[j1];
+    v[j1] = price;
+    cols[free_i] = j1 as u32;
+    rows[j1] = free_i as u32;
+    displace(n, frees, pass, back, i0)
 }
 
 // Rule 4: a pass over the first `count` rows of the free list. The rows that are still free are the first `left` of it then.

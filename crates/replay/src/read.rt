@@ -1,20 +1,20 @@
 // The numbers of the input. Past its end every byte is 0.
-ghost use Prim.Native.Nat.{_≤_, _<_};
+ghost use Prim.Native.Nat.{_^_, _<_, _≤_};
 
-fn wide(byte: u8) -> u32
-    ensures { λ r. ⌜ r < 256 ⌝ }
+// A number of 4 bytes.
+pub fn number() -> usize
+    ensures { λ r. ⌜ r < 256 ^ 4 ⌝ }
 {
-    byte as u32
-}
-
-fn joined(four: &[u8; 4]) -> u32 {
-    wide(four[0]) + 256 * wide(four[1]) + 65536 * wide(four[2]) + 16777216 * wide(four[3])
-}
-
-pub fn number() -> u32 {
     let mut four: [u8; 4] = [0; 4];
     io::read_full(0, &mut four);
-    joined(&four)
+    layout::value::value_at(&four, 0, 4)
+}
+
+// A number of 8 bytes.
+pub fn long() -> usize {
+    let mut eight: [u8; 8] = [0; 8];
+    io::read_full(0, &mut eight);
+    layout::value::value_at(&eight, 0, 8)
 }
 
 pub fn least(a: usize, b: usize) -> usize
@@ -24,10 +24,10 @@ pub fn least(a: usize, b: usize) -> usize
 }
 
 // A length, at most what there is.
-pub fn length(most: usize) -> usize
+fn length(most: usize) -> usize
     ensures { λ r. ⌜ r ≤ most ⌝ }
 {
-    least(number() as usize, most)
+    least(number(), most)
 }
 
 // The part that is lent.
@@ -46,13 +46,42 @@ pub fn numbers(s: &mut [i64]) -> &mut [i64] {
     &mut s[0..lent]
 }
 
-// A cost, in two's complement.
+// A cost of 4 bytes, in two's complement.
 fn cost() -> i32 {
-    let bits = number();
-    if bits < 2147483648 {
-        bits as i32
-    } else {
-        -1 - ((4294967295 - bits) as i32)
+    layout::value::unwrapped(number())
+}
+
+// A price of 8.
+fn price() -> i64 {
+    layout::value::unwrapped_eight(long())
+}
+
+// The entries given, and the same again behind them.
+fn fill_costs(s: &mut [i32], given: usize) {
+    let mut k = 0;
+    while k < s.len() {
+        s[k] = if k < given { cost() } else { s[k - given] };
+        k += 1;
+    }
+}
+
+fn fill_indices(s: &mut [u32], given: usize) {
+    let mut k = 0;
+    while k < s.len() {
+        s[k] = if k < given {
+            number() as u32
+        } else {
+            s[k - given]
+        };
+        k += 1;
+    }
+}
+
+fn fill_prices(s: &mut [i64], given: usize) {
+    let mut k = 0;
+    while k < s.len() {
+        s[k] = if k < given { price() } else { s[k - given] };
+        k += 1;
     }
 }
 
@@ -62,29 +91,35 @@ fn set(costs: &mut [i32], place: usize, cost: i32) {
     }
 }
 
-// The cost of a place: among those given it is read, behind them it is one that was given.
-fn next(costs: &[i32], place: usize, given: usize) -> i32 {
-    if place < given {
-        cost()
-    } else if place - given < costs.len() {
-        costs[place - given]
-    } else {
-        0
-    }
-}
-
-fn fill(costs: &mut [i32], given: usize) {
-    let mut k = 0;
-    while k < costs.len() {
-        let cost = next(costs, k, given);
-        set(costs, k, cost);
-        k += 1;
-    }
-}
-
-// The costs given, the same again behind them, and one that may stand alone.
+// The costs that are lent, with one that may stand alone.
 pub fn costs(costs: &mut [i32]) {
-    fill(costs, number() as usize);
-    let place = number() as usize;
+    fill_costs(costs, number());
+    let place = number();
     set(costs, place, cost());
+}
+
+// A list of columns or of rows.
+pub fn list(s: &mut [u32]) -> &mut [u32] {
+    let lent = indices(s);
+    fill_indices(lent, number());
+    lent
+}
+
+pub fn prices(s: &mut [i64]) -> &mut [i64] {
+    let lent = numbers(s);
+    fill_prices(lent, number());
+    lent
+}
+
+// Writes the part of a text that is lent.
+fn echo(text: &mut [u8]) {
+    let lent = length(text.len());
+    io::read_full(0, &mut text[0..lent]);
+    io::write_all(1, &text[0..lent]);
+}
+
+// The night's name, written.
+pub fn name() {
+    let mut text: [u8; 128] = [0; 128];
+    echo(&mut text);
 }

@@ -1,5 +1,5 @@
 // The parts of a line.
-use lapjv::Night;
+use lapjv::Sums;
 use matrix::Answer;
 use matrix::Refusal;
 
@@ -53,7 +53,7 @@ pub fn lists(n: usize, cols: &[u32], rows: &[u32], us: &[i64], vs: &[i64]) {
     prices(us, n);
 }
 
-pub fn sums(night: Night) {
+pub fn sums(night: Sums) {
     signed(night.total);
     end();
     let counts = night.counts;
@@ -67,8 +67,8 @@ pub fn sums(night: Night) {
 
 pub fn refused(refusal: Refusal) {
     io::write_all(1, b" refused");
-    number(matrix::number(refusal));
-    number(matrix::place(refusal) as u64);
+    number(matrix::refusals::number(refusal));
+    number(matrix::refusals::place(refusal) as u64);
     end();
 }
 
@@ -78,6 +78,7 @@ pub fn kept(held: bool) {
     }
 }
 
+// The checker's answer on what the solver paired.
 pub fn checked(answer: Answer) {
     match answer {
         Answer::Total(total) => {
@@ -85,6 +86,22 @@ pub fn checked(answer: Answer) {
         }
         Answer::Refused(refusal) => {
             refused(refusal);
+        }
+    }
+}
+
+// The answer of a night of the checker, or of `cost`.
+pub fn answer(answer: Answer) {
+    match answer {
+        Answer::Total(total) => {
+            io::write_all(1, b" accepted total");
+            signed(total);
+        }
+        Answer::Refused(refusal) => {
+            io::write_all(1, b" refused");
+            number(matrix::refusals::number(refusal));
+            io::write_all(1, b" place");
+            number(matrix::refusals::place(refusal) as u64);
         }
     }
 }

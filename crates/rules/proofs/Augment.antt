@@ -12,16 +12,16 @@ use Rattle.ints.proofs.Ranges.{zarith}
 use Rattle.ints.proofs.Shapes.{zlin}
 use Rattle.lists.specs.Permutations.{at}
 use Rattle.lists.proofs.Injections.{source, source-of, reached}
-use Rattle.assignment.specs.Pairings.{price}
+use Rattle.assignment.specs.Pairings.{signedAt}
 use Rattle.rules.specs.Lowest.{reduced, lowest}
 use Rattle.rules.specs.Columns.{Pairs}
 use Rattle.rules.specs.Search.{Work, Found, search, newPrices}
-use Rattle.rules.specs.Augmentation.{State, augment}
+use Rattle.rules.specs.Augmentation.{Progress, augment}
+use Rattle.rules.specs.Asked.{AtMinimum, Fair, Paired, Unpaired, Agree, Can}
 use Rattle.rules.proofs.Lowest.{lowest-is}
-use Rattle.rules.proofs.Prices.{AtMinimum, Fair}
-use Rattle.rules.proofs.Pairs.{Paired, Unpaired, Agree, free-column}
+use Rattle.rules.proofs.Pairs.{free-column}
 use Rattle.rules.proofs.Scan.{place, far, FromColumn, Sound}
-use Rattle.rules.proofs.Search.{Ended, Good, search-ok}
+use Rattle.rules.proofs.Search.{Ended, Good, search-good}
 use Rattle.rules.proofs.PriceChange.{new-size, new-fair, new-falls, free-same, leads-minimum}
 use Rattle.rules.proofs.Flips.{Before, Rooted, Flipping, Whole, flips-whole, free-open}
 
@@ -93,29 +93,21 @@ module _ (n : ℕ) (cost : ℕ → ℕ → ℤ) (v : ℕ → ℤ) (p : Pairs) (s
 -- ---- one row more
 
 -- What a search from row s, its price change and its flips make of a state.
-pub record Gain (n : ℕ) (cost : ℕ → ℕ → ℤ) (x : State) (s : ℕ) (y : State) : Type 0 where
+pub record Gain (n : ℕ) (cost : ℕ → ℕ → ℤ) (x : Progress) (s : ℕ) (y : Progress) : Type 0 where
   pub agree : Agree n (y .pairs)
   pub prices-size : length (y .prices) ≡ n
-  pub fair : Fair n cost (price (y .prices)) (at (y .pairs .rows))
+  pub fair : Fair n cost (signedAt (y .prices)) (at (y .pairs .rows))
   pub start-paired : Paired (y .pairs) s
   pub still-paired : (i : ℕ) → i < n → Paired (x .pairs) i → Paired (y .pairs) i
   pub still-unpaired : (i : ℕ) → i ≢ s → Unpaired n (x .pairs) i → Unpaired n (y .pairs) i
-  pub not-risen : (k : ℕ) → k < n → price (y .prices) k ≤ℤ price (x .prices) k
-  pub reached-free : (j : ℕ) × (j < n) × (n ≤ at (x .pairs .rows) j) × (price (y .prices) j ≡ price (x .prices) j)
-  pub free-untouched : (k : ℕ) → k < n → n ≤ at (y .pairs .rows) k → (n ≤ at (x .pairs .rows) k) × (price (y .prices) k ≡ price (x .prices) k)
+  pub not-risen : (k : ℕ) → k < n → signedAt (y .prices) k ≤ℤ signedAt (x .prices) k
+  pub reached-free : (j : ℕ) × (j < n) × (n ≤ at (x .pairs .rows) j) × (signedAt (y .prices) j ≡ signedAt (x .prices) j)
+  pub free-untouched : (k : ℕ) → k < n → n ≤ at (y .pairs .rows) k → (n ≤ at (x .pairs .rows) k) × (signedAt (y .prices) k ≡ signedAt (x .prices) k)
   pub scanned-few : y .scanned ≤ x .scanned + (n - 1)
 
--- A state from which row s can get a column.
-pub record Can (n : ℕ) (cost : ℕ → ℕ → ℤ) (x : State) (s : ℕ) : Type 0 where
-  pub agree : Agree n (x .pairs)
-  pub prices-size : length (x .prices) ≡ n
-  pub fair : Fair n cost (price (x .prices)) (at (x .pairs .rows))
-  pub start-below : s < n
-  pub start-unpaired : Unpaired n (x .pairs) s
-
-module _ (n : ℕ) (cost : ℕ → ℕ → ℤ) (x : State) (s : ℕ) (C : Can n cost x s) where
+module _ (n : ℕ) (cost : ℕ → ℕ → ℤ) (x : Progress) (s : ℕ) (C : Can n cost x s) where
   abbrev v : ℕ → ℤ
-  v = price (x .prices)
+  v = signedAt (x .prices)
 
   abbrev row : ℕ → ℕ
   row = at (x .pairs .rows)
@@ -127,7 +119,7 @@ module _ (n : ℕ) (cost : ℕ → ℕ → ℤ) (x : State) (s : ℕ) (C : Can n
   pub found-good : Good n cost v row s (floorOf n cost v s one) (search n cost v row s)
   found-good =
       let y = free-column n (x .pairs) (C .agree) s (C .start-below) (C .start-unpaired) in
-      search-ok n cost v row s (floorOf n cost v s one) (C .fair) (y .0) (y .1) (y .2) (floor-under n cost v s one)
+      search-good n cost v row s (floorOf n cost v s one) (C .fair) (y .0) (y .1) (y .2) (floor-under n cost v s one)
 
   pub augment-gain : Gain n cost x s (augment n cost x s)
   augment-gain =
@@ -151,9 +143,9 @@ module _ (n : ℕ) (cost : ℕ → ℕ → ℤ) (x : State) (s : ℕ) (C : Can n
         prices-size = new-size n cost (x .prices) row s fl (C .prices-size) (C .fair) f μ E;
         fair = record {
           paired-at-minimum = λ k l h. ⊎-elim
-              (λ a. subst (λ (i : ℕ). AtMinimum n cost (price (newPrices f (x .prices))) i k) (sym a)
+              (λ a. subst (λ (i : ℕ). AtMinimum n cost (signedAt (newPrices f (x .prices))) i k) (sym a)
               (new-fair n cost (x .prices) row s fl (C .prices-size) (C .fair) f μ E .paired-at-minimum k l (omega (arith, a))))
-              (λ a. subst (λ (i : ℕ). AtMinimum n cost (price (newPrices f (x .prices))) i k) (sym (a .1)) (minimum k l (a .0 .1)))
+              (λ a. subst (λ (i : ℕ). AtMinimum n cost (signedAt (newPrices f (x .prices))) i k) (sym (a .1)) (minimum k l (a .0 .1)))
               (W .row-from k l);
         };
         start-paired = W .start-paired;

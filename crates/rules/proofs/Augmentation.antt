@@ -11,24 +11,23 @@ use lib.IntN.{ℤ}
 use lib.ListN.{length}
 use Rattle.lists.specs.Permutations.{at}
 use Rattle.lists.proofs.Runs.{upward-keeps}
-use Rattle.assignment.specs.Pairings.{price}
-use Rattle.rules.specs.Augmentation.{State, augment, augments}
-use Rattle.rules.proofs.Prices.{Fair}
-use Rattle.rules.proofs.Pairs.{Paired, Agree}
+use Rattle.assignment.specs.Pairings.{signedAt}
+use Rattle.rules.specs.Augmentation.{Progress, augment, augments}
+use Rattle.rules.specs.Asked.{Fair, Paired, Agree, Can}
 use Rattle.rules.proofs.Kept.{Listed}
-use Rattle.rules.proofs.Augment.{Can, Gain, augment-gain}
+use Rattle.rules.proofs.Augment.{Gain, augment-gain}
 
 module _ (n : ℕ) (cost : ℕ → ℕ → ℤ) (frees : List ℕ) (count : ℕ) where
   -- The first m rows of the list have their columns.
-  pub record Augmented (x₀ : State) (m : ℕ) (x : State) : Type 0 where
+  pub record Augmented (x₀ : Progress) (m : ℕ) (x : Progress) : Type 0 where
     pub agree : Agree n (x .pairs)
     pub prices-size : length (x .prices) ≡ n
-    pub fair : Fair n cost (price (x .prices)) (at (x .pairs .rows))
+    pub fair : Fair n cost (signedAt (x .prices)) (at (x .pairs .rows))
     pub listed : Listed n (x .pairs) frees (λ t. (m ≤ t) × (t < count))
     pub scanned-few : x .scanned ≤ x₀ .scanned + m * (n - 1)
 
   -- The row at place m can get its column.
-  pub augmented-can : (x₀ : State) (m : ℕ) (x : State) → m < count → Augmented x₀ m x → Can n cost x (at frees m)
+  pub augmented-can : (x₀ : Progress) (m : ℕ) (x : Progress) → m < count → Augmented x₀ m x → Can n cost x (at frees m)
   augmented-can x₀ m x l A = record {
     agree = A .agree;
     prices-size = A .prices-size;
@@ -37,8 +36,8 @@ module _ (n : ℕ) (cost : ℕ → ℕ → ℤ) (frees : List ℕ) (count : ℕ)
     start-unpaired = A .listed .unpaired m (omega arith, l);
   }
 
-  pub augment-ok : (x₀ : State) (m : ℕ) (x : State) → m < count → Augmented x₀ m x → Augmented x₀ (suc m) (augment n cost x (at frees m))
-  augment-ok x₀ m x l A =
+  pub augmented-more : (x₀ : Progress) (m : ℕ) (x : Progress) → m < count → Augmented x₀ m x → Augmented x₀ (suc m) (augment n cost x (at frees m))
+  augmented-more x₀ m x l A =
       let s = at frees m in
       let y = augment n cost x s in
       let g = augment-gain n cost x s (augmented-can x₀ m x l A) in
@@ -62,16 +61,16 @@ module _ (n : ℕ) (cost : ℕ → ℕ → ℤ) (frees : List ℕ) (count : ℕ)
       }
 
   -- Q is what one search keeps.
-  pub augments-ok : (Q : State → Type 0) → ((x : State) (s : ℕ) → Q x → Can n cost x s → Gain n cost x s (augment n cost x s) → Q (augment n cost x s))
-      → (x₀ : State) → Augmented x₀ 0 x₀ → Q x₀ → (m : ℕ) → m ≤ count → Augmented x₀ m (augments n cost frees m x₀) × Q (augments n cost frees m x₀)
+  pub augmented-and-kept : (Q : Progress → Type 0) → ((x : Progress) (s : ℕ) → Q x → Can n cost x s → Gain n cost x s (augment n cost x s) → Q (augment n cost x s))
+      → (x₀ : Progress) → Augmented x₀ 0 x₀ → Q x₀ → (m : ℕ) → m ≤ count → Augmented x₀ m (augments n cost frees m x₀) × Q (augments n cost frees m x₀)
   unfolding augments
-  augments-ok Q keeps x₀ A q m h =
+  augmented-and-kept Q keeps x₀ A q m h =
       upward-keeps (λ k x. Augmented x₀ k x × Q x) 0 m (λ k y. augment n cost y (at frees k)) x₀ (omega arith) (A, q)
       (λ k x a l P.
       let C = augmented-can x₀ k x (omega arith) (P .0) in
-      (augment-ok x₀ k x (omega arith) (P .0), keeps x (at frees k) (P .1) C (augment-gain n cost x (at frees k) C)))
+      (augmented-more x₀ k x (omega arith) (P .0), keeps x (at frees k) (P .1) C (augment-gain n cost x (at frees k) C)))
 
   -- Once all have columns, no row is free.
-  pub augmented-paired : (x₀ x : State) → Augmented x₀ count x → (i : ℕ) → i < n → Paired (x .pairs) i
+  pub augmented-paired : (x₀ x : Progress) → Augmented x₀ count x → (i : ℕ) → i < n → Paired (x .pairs) i
   augmented-paired x₀ x A i l =
       ⊎-elim (λ a. a) (λ (a : (t : ℕ) × ((count ≤ t) × (t < count)) × (at frees t ≡ i)). absurd (omega (arith, a .1 .0, a .1 .1))) (A .listed .paired-or-listed i l)

@@ -13,24 +13,24 @@ use Rattle.ints.proofs.Ranges.{zarith}
 use Rattle.lists.specs.Permutations.{at, Permutation, exchange}
 use Rattle.lists.proofs.Runs.{upward-keeps}
 use Rattle.lists.proofs.Permutations.{exchange-second, exchange-first, exchange-other, exchange-permutation}
-use Rattle.assignment.specs.Pairings.{price}
+use Rattle.lists.proofs.Cases.{cond-cases, lt-or-le, here-or-elsewhere}
+use Rattle.assignment.specs.Pairings.{signedAt}
 use Rattle.rules.specs.Block.{Block, blockWith, blockStep, blockStart, block}
-use Rattle.rules.proofs.Cases.{cond-cases, lt-or-le, here-or-elsewhere}
 
 module _ (n : ℕ) (d : List ℤ) (lo : ℕ) (list : List ℕ) where
-  -- The places before k have been looked at.
+  -- The places before k have been passed.
   pub record IsBlock (k : ℕ) (b : Block) : Type 0 where
     pub permutation : Permutation n (b .list)
     pub order : (lo < b .hi) × (b .hi ≤ k) × (k ≤ n)
     pub before-kept : (t : ℕ) → t < lo → at (b .list) t ≡ at list t
     pub from-after : (t : ℕ) → lo ≤ t → t < n → (u : ℕ) × (lo ≤ u) × (u < n) × (at (b .list) t ≡ at list u)
-    pub at-least : (t : ℕ) → lo ≤ t → t < b .hi → price d (at (b .list) t) ≡ b .minimum
-    pub not-less : (t : ℕ) → b .hi ≤ t → t < k → b .minimum ≤ℤ price d (at (b .list) t)
+    pub at-least : (t : ℕ) → lo ≤ t → t < b .hi → signedAt d (at (b .list) t) ≡ b .minimum
+    pub not-less : (t : ℕ) → b .hi ≤ t → t < k → b .minimum ≤ℤ signedAt d (at (b .list) t)
 
   -- The columns at k and p change places, and the minimum is that of the column at k: p is the block's last place then.
-  swap-ok : (k p : ℕ) (b : Block) → IsBlock k b → k < n → lo ≤ p → p ≤ b .hi → price d (at (b .list) k) ≤ℤ b .minimum
-      → ((t : ℕ) → lo ≤ t → t < p → b .minimum ≤ℤ price d (at (b .list) k)) → IsBlock (suc k) (blockWith b k (price d (at (b .list) k)) p)
-  swap-ok k p b B l h g e f =
+  block-one-more : (k p : ℕ) (b : Block) → IsBlock k b → k < n → lo ≤ p → p ≤ b .hi → signedAt d (at (b .list) k) ≤ℤ b .minimum
+      → ((t : ℕ) → lo ≤ t → t < p → b .minimum ≤ℤ signedAt d (at (b .list) k)) → IsBlock (suc k) (blockWith b k (signedAt d (at (b .list) k)) p)
+  block-one-more k p b B l h g e f =
       let xs = b .list in
       let ys = exchange xs k p in
       let lp : p < n = omega (arith, B .order) in
@@ -39,7 +39,7 @@ module _ (n : ℕ) (d : List ℤ) (lo : ℕ) (list : List ℕ) where
       let sa : at ys k ≡ at xs p = exchange-first xs k p (omega arith) (omega arith) in
       let so : (t : ℕ) → t ≢ k → t ≢ p → at ys t ≡ at xs t = exchange-other xs k p in
       -- at or above the old minimum
-      let above : (t : ℕ) → lo ≤ t → t < k → b .minimum ≤ℤ price d (at xs t) = λ t a m. elim (lt-or-le t (b .hi)) [
+      let above : (t : ℕ) → lo ≤ t → t < k → b .minimum ≤ℤ signedAt d (at xs t) = λ t a m. elim (lt-or-le t (b .hi)) [
         | inl z ↦ omega (zarith, B .at-least t a z)
         | inr z ↦ B .not-less t z m
       ] in
@@ -55,21 +55,21 @@ module _ (n : ℕ) (d : List ℤ) (lo : ℕ) (list : List ℕ) where
             (λ y a m. (from-p .0, from-p .1, from-p .2, sa ∙ from-p .3))
             (λ t z y a m. let F = B .from-after t a m in (F .0, F .1, F .2, so t z y ∙ F .3)) t y);
         at-least = λ t a m. elim (ℕ-discrete t p) [
-          | yes z ↦ ap (λ (y : ℕ). price d (at ys y)) z ∙ ap (price d) sb
-          | no y ↦ omega (zarith, ap (price d) (so t (λ z. omega (arith, B .order)) y), B .at-least t a (omega arith), e, f t a (omega arith))
+          | yes z ↦ ap (λ (y : ℕ). signedAt d (at ys y)) z ∙ ap (signedAt d) sb
+          | no y ↦ omega (zarith, ap (signedAt d) (so t (λ z. omega (arith, B .order)) y), B .at-least t a (omega arith), e, f t a (omega arith))
         ];
         not-less = λ t a m. elim (ℕ-discrete t k) [
-          | yes z ↦ omega (zarith, ap (λ (y : ℕ). price d (at ys y)) z, ap (price d) sa, above p h (omega arith), e)
-          | no z ↦ omega (zarith, ap (price d) (so t z (λ q. omega arith)), above t (omega arith) (omega arith), e)
+          | yes z ↦ omega (zarith, ap (λ (y : ℕ). signedAt d (at ys y)) z, ap (signedAt d) sa, above p h (omega arith), e)
+          | no z ↦ omega (zarith, ap (signedAt d) (so t z (λ q. omega arith)), above t (omega arith) (omega arith), e)
         ];
       }
 
-  pub blockStep-ok : (k : ℕ) (b : Block) → IsBlock k b → k < n → IsBlock (suc k) (blockStep d lo k b)
-  blockStep-ok k b B l =
+  pub block-more : (k : ℕ) (b : Block) → IsBlock k b → k < n → IsBlock (suc k) (blockStep d lo k b)
+  block-more k b B l =
       cond-cases (leZ h (b .minimum)) (IsBlock (suc k)) (blockWith b k h (cond (ltZ h (b .minimum)) lo (b .hi))) b
       (λ e. cond-cases (ltZ h (b .minimum)) (λ p. IsBlock (suc k) (blockWith b k h p)) lo (b .hi)
-      (λ a. swap-ok k lo b B l (omega arith) (omega (arith, B .order)) (omega zarith) (λ t m q. absurd (omega arith)))
-      (λ a. swap-ok k (b .hi) b B l (omega (arith, B .order)) (omega arith) (omega zarith) (λ t m q. omega zarith)))
+      (λ a. block-one-more k lo b B l (omega arith) (omega (arith, B .order)) (omega zarith) (λ t m q. absurd (omega arith)))
+      (λ a. block-one-more k (b .hi) b B l (omega (arith, B .order)) (omega arith) (omega zarith) (λ t m q. omega zarith)))
       (λ e. record {
         permutation = B .permutation;
         order = omega (arith, B .order);
@@ -77,24 +77,24 @@ module _ (n : ℕ) (d : List ℤ) (lo : ℕ) (list : List ℕ) where
         from-after = B .from-after;
         at-least = B .at-least;
         not-less = λ t g m. elim (ℕ-discrete t k) [
-          | yes z ↦ omega (zarith, ap (λ (y : ℕ). price d (at (b .list) y)) z)
+          | yes z ↦ omega (zarith, ap (λ (y : ℕ). signedAt d (at (b .list) y)) z)
           | no z ↦ B .not-less t g (omega arith)
         ];
       })
     where
       h : ℤ
-      h = price d (at (b .list) k)
+      h = signedAt d (at (b .list) k)
 
-  pub blockStart-ok : Permutation n list → lo < n → IsBlock (lo + 1) (blockStart d lo list)
-  blockStart-ok p l = record {
+  pub block-first : Permutation n list → lo < n → IsBlock (lo + 1) (blockStart d lo list)
+  block-first p l = record {
     permutation = p;
     order = omega arith;
     before-kept = λ t m. refl;
     from-after = λ t a m. (t, a, m, refl);
-    at-least = λ t a m. let e : t ≡ lo = omega arith in ap (λ (y : ℕ). price d (at list y)) e;
+    at-least = λ t a m. let e : t ≡ lo = omega arith in ap (λ (y : ℕ). signedAt d (at list y)) e;
     not-less = λ t a m. absurd (omega arith);
   }
 
-  pub block-ok : Permutation n list → lo < n → IsBlock n (block n d lo list)
+  pub block-of-minima : Permutation n list → lo < n → IsBlock n (block n d lo list)
   unfolding block
-  block-ok p l = upward-keeps IsBlock (lo + 1) n (blockStep d lo) (blockStart d lo list) (omega arith) (blockStart-ok p l) (λ k b a m B. blockStep-ok k b B m)
+  block-of-minima p l = upward-keeps IsBlock (lo + 1) n (blockStep d lo) (blockStart d lo list) (omega arith) (block-first p l) (λ k b a m B. block-more k b B m)

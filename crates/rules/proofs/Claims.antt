@@ -15,8 +15,8 @@ use Rattle.ints.proofs.Shapes.{zlin}
 use Rattle.lists.specs.Permutations.{at}
 use Rattle.lists.proofs.Runs.{downward-keeps}
 use Rattle.lists.proofs.Tables.{length-table, getD-table}
+use Rattle.lists.proofs.Cases.{cond-cases, here-or-elsewhere}
 use Rattle.rules.specs.Columns.{free, Claims, claim, unclaimed, claims, minimum}
-use Rattle.rules.proofs.Cases.{cond-cases, here-or-elsewhere}
 use Rattle.rules.proofs.Lowest.{IsLowest, lowest-is}
 use Rattle.rules.proofs.Prices.{NotBelow}
 
@@ -128,15 +128,15 @@ module _ (n : ℕ) (cost : ℕ → ℕ → ℤ) (one : 1 ≤ n) where
               let C = h .marked-held x a (before x b) in (omega (arith, C .0), kr (at (s .cols) x) (λ e. omega (arith, C .0)) ∙ C .1);
         }
 
-    pub claim-ok : Claimed j (claim j s)
-    claim-ok =
+    pub claimed-more : Claimed j (claim j s)
+    claimed-more =
         cond-cases (eqb (at (s .marks) i) 0) (Claimed j)
         (record { cols = set (s .cols) i j; rows = s .rows; marks = set (s .marks) i 1 })
         (record { cols = s .cols; rows = set (s .rows) j free; marks = set (s .marks) i 2 })
         (λ t. wins (eqb-true (at (s .marks) i) 0 t)) (λ t. loses (omega (arith, eqb-false (at (s .marks) i) 0 t)))
 
-  pub unclaimed-ok : Claimed n (unclaimed n cost)
-  unclaimed-ok = record {
+  pub claimed-none : Claimed n (unclaimed n cost)
+  claimed-none = record {
     cols-size = length-table {A = ℕ} n (λ i. 0);
     rows-size = length-table n best;
     marks-size = length-table {A = ℕ} n (λ i. 0);
@@ -146,6 +146,6 @@ module _ (n : ℕ) (cost : ℕ → ℕ → ℤ) (one : 1 ≤ n) where
     marked-held = λ i h m. absurd (omega (arith, getD-table {A = ℕ} n (λ i. 0) 0 i h));
   }
 
-  pub claims-ok : n ≤ free → Claimed 0 (claims n cost)
+  pub claimed-all : n ≤ free → Claimed 0 (claims n cost)
   unfolding claims
-  claims-ok room = downward-keeps Claimed n claim (unclaimed n cost) unclaimed-ok (λ k s l h. claim-ok room s k l h)
+  claimed-all room = downward-keeps Claimed n claim (unclaimed n cost) claimed-none (λ k s l h. claimed-more room s k l h)

@@ -10,11 +10,12 @@ use lib.ListN.{length, length-set}
 use Rattle.lists.specs.Runs.{Turn, on, left}
 use Rattle.lists.specs.Permutations.{at}
 use Rattle.lists.proofs.Leaving.{Either, goes-on, is-left, until-keeps, until-longer}
+use Rattle.lists.proofs.Cases.{cond-cases, here-or-elsewhere}
 use Rattle.rules.specs.Columns.{Pairs}
 use Rattle.rules.specs.Rows.{takeColumn}
 use Rattle.rules.specs.Augmentation.{Open, flip, flips, flipped}
-use Rattle.rules.proofs.Cases.{cond-cases, here-or-elsewhere}
-use Rattle.rules.proofs.Pairs.{Paired, Unpaired, Agree, took-col, kept-col, took-row, kept-row, taken-below}
+use Rattle.rules.specs.Asked.{Paired, Unpaired, Agree}
+use Rattle.rules.proofs.Pairs.{took-col, kept-col, took-row, kept-row, taken-below}
 
 -- From row s, along predecessors that came of pairs p₀. `Tree` are the columns that can be gone back to, `rank` the place of each.
 module _ (n s : ℕ) (ls : s < n) (predecessors : List ℕ) (p₀ : Pairs) (Tree : ℕ → Type 0) (rank : ℕ → ℕ) where
@@ -123,8 +124,8 @@ module _ (n s : ℕ) (ls : s < n) (predecessors : List ℕ) (p₀ : Pairs) (Tree
     pub rank-falls : rank (o .column) + k < n
 
   module _ (R : Rooted) where
-    pub flip-ok : (k : ℕ) (o : Open) → Flipping k o → Either (Flipping (suc k)) Whole (flip s predecessors o)
-    flip-ok k o H =
+    pub flip-goes-on-or-whole : (k : ℕ) (o : Open) → Flipping k o → Either (Flipping (suc k)) Whole (flip s predecessors o)
+    flip-goes-on-or-whole k o H =
         cond-cases (eqb i s) (Either (Flipping (suc k)) Whole) (left q) (on (record { column = at (o .pairs .cols) i; pairs = q }))
         (λ t. let e = eqb-true i s t in is-left (subst (λ (x : ℕ). Whole (takeColumn (o .pairs) x j)) (sym e) (last-flip (o .pairs) j (H .holed) e)))
         (λ t. goes-on (⊎-elim (λ e. absurd (eqb-false i s t e)) (λ b. next (eqb-false i s t) (b .0) (b .1)) (R j (H .holed .open-in-tree))))
@@ -144,14 +145,14 @@ module _ (n s : ℕ) (ls : s < n) (predecessors : List ℕ) (p₀ : Pairs) (Tree
             subst (λ (x : ℕ). Flipping (suc k) (record { column = x; pairs = q })) (sym (N .0))
             (record { holed = N .1; rank-falls = omega (arith, b .ranked, H .rank-falls) })
 
-    flips-ok : (m : ℕ) (o : Open) → Flipping 0 o → Either (Flipping m) Whole (flips m s predecessors o)
+    flips-go-on-or-whole : (m : ℕ) (o : Open) → Flipping 0 o → Either (Flipping m) Whole (flips m s predecessors o)
     unfolding flips
-    flips-ok m o H = until-keeps Flipping Whole 0 m (λ k. flip s predecessors) o (omega arith) H (λ k x a l X. flip-ok k x X)
+    flips-go-on-or-whole m o H = until-keeps Flipping Whole 0 m (λ k. flip s predecessors) o (omega arith) H (λ k x a l X. flip-goes-on-or-whole k x X)
 
     -- THE FLIPS end within n: the source's "will not finish" never arises.
     module _ (o : Open) (H : Flipping 0 o) where
       ended : (p : Pairs) × (flips n s predecessors o ≡ left p) × Whole p
-      ended = by (flips n s predecessors o) (flips-ok n o H)
+      ended = by (flips n s predecessors o) (flips-go-on-or-whole n o H)
         where
           by : (t : Turn Open Pairs) → Either (Flipping n) Whole t → (p : Pairs) × (t ≡ left p) × Whole p
           by (on x) (goes-on X) = absurd (omega (arith, X .rank-falls))

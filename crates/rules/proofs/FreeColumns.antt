@@ -8,10 +8,10 @@ use borrow.Author.Tests.{ltb-true, ltb-false}
 use lib.Dec.{ltb}
 use Rattle.lists.specs.Permutations.{at}
 use Rattle.lists.proofs.Runs.{upward-keeps}
+use Rattle.lists.proofs.Cases.{cond-cases, below-suc}
 use Rattle.rules.specs.declared.LastFree.{LastFree}
 use Rattle.rules.specs.declared.LastFree.the-variants.{NoneYet, At}
 use Rattle.rules.specs.Search.{lastFree}
-use Rattle.rules.proofs.Cases.{cond-cases, below-suc}
 
 module _ (n : ℕ) (row : ℕ → ℕ) (list : List ℕ) (lo : ℕ) where
   -- Among the places from lo up to k: none is free, or a free one.
@@ -23,9 +23,9 @@ module _ (n : ℕ) (row : ℕ → ℕ) (list : List ℕ) (lo : ℕ) where
   more-sought k NoneYet h S = λ t a m. below-suc (λ t. lo ≤ t → row (at list t) < n) (λ t l b. S t b l) (λ b. h) t m a
   more-sought k (At j) h S = (S .0, S .1, omega (arith, S .2), S .3, S .4)
 
-  pub lastFree-ok : (hi : ℕ) → lo ≤ hi → Sought hi (lastFree n row list lo hi)
+  pub lastFree-sought : (hi : ℕ) → lo ≤ hi → Sought hi (lastFree n row list lo hi)
   unfolding lastFree
-  lastFree-ok hi h =
+  lastFree-sought hi h =
       upward-keeps Sought lo hi (λ k found. cond (ltb (row (at list k)) n) found (At (at list k))) NoneYet h (λ t a m. absurd (omega arith))
       (λ k o a m S. cond-cases (ltb (row (at list k)) n) (Sought (suc k)) o (At (at list k))
       (λ e. more-sought k o (ltb-true (row (at list k)) n e) S)

@@ -1,5 +1,4 @@
 pub mod AllNights
-pub mod Cases
 pub mod Lowest
 pub mod Prices
 pub mod Sizes
@@ -24,6 +23,7 @@ pub mod Augment
 pub mod Augmentation
 pub mod Stages
 pub mod Run
+pub mod SearchesEnd
 pub mod SameSearch
 pub mod Risen
 pub mod StagesInStep

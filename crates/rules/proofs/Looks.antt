@@ -14,7 +14,8 @@ use lib.Seq.{getD-set-same, getD-set-other}
 use Rattle.ints.proofs.Sums.{dif}
 use Rattle.ints.proofs.Shapes.{zlin}
 use Rattle.lists.specs.Permutations.{at}
-use Rattle.assignment.specs.Pairings.{price}
+use Rattle.lists.proofs.Cases.{cond-cases, here-or-elsewhere}
+use Rattle.assignment.specs.Pairings.{signedAt}
 use Rattle.rules.specs.declared.Low.{Low}
 use Rattle.rules.specs.declared.TwoLowest.{TwoLowest}
 use Rattle.rules.specs.declared.TwoLowest.the-variants.{One, Two}
@@ -22,9 +23,9 @@ use Rattle.rules.specs.declared.Choice.{Choice}
 use Rattle.rules.specs.Lowest.{reduced}
 use Rattle.rules.specs.Columns.{Pairs}
 use Rattle.rules.specs.Rows.{keepPrice, lowerPrice, choose, takeColumn}
-use Rattle.rules.proofs.Cases.{cond-cases, here-or-elsewhere}
+use Rattle.rules.specs.Asked.{Paired, Unpaired, Agree}
 use Rattle.rules.proofs.Lowest.{AreLowest, RightTwo}
-use Rattle.rules.proofs.Pairs.{Agree, Paired, Unpaired, kept-col, took-row, kept-row, taken-paired}
+use Rattle.rules.proofs.Pairs.{kept-col, took-row, kept-row, taken-paired}
 use Rattle.rules.proofs.Lowering.{Lowers}
 use Rattle.rules.proofs.Kept.{Listed}
 
@@ -33,17 +34,17 @@ use Rattle.rules.proofs.Kept.{Listed}
 module _ (n : ℕ) (cost : ℕ → ℕ → ℤ) (one : 1 ≤ n) (v : List ℤ) (rows : List ℕ) (i : ℕ) where
   -- What is chosen lowers a price as a step may; and only an early look sends a row back.
   pub record Fits (early : Bool) (w : Choice) : Type 0 where
-    pub lowers : Lowers n cost (price v) i (w .column) (w .price)
+    pub lowers : Lowers n cost (signedAt v) i (w .column) (w .price)
     pub back-early : w .back ≡ true → early ≡ true
 
   not-back : {A : Type 0} → false ≡ true → A
   not-back e = absurd (true≢false (sym e))
 
-  module _ (a b : Low) (r : AreLowest (reduced cost (price v) i) n a b) where
-    lowered : Lowers n cost (price v) i (a .place) (price v (a .place) -ℤ (b .value -ℤ a .value))
+  module _ (a b : Low) (r : AreLowest (reduced cost (signedAt v) i) n a b) where
+    lowered : Lowers n cost (signedAt v) i (a .place) (signedAt v (a .place) -ℤ (b .value -ℤ a .value))
     lowered =
         let j = a .place in
-        let x = price v j in
+        let x = signedAt v j in
         record {
           column-below = r .first-inside;
           not-raised = omega (zlin, r .order, dif (b .value) (a .value));
@@ -56,29 +57,29 @@ module _ (n : ℕ) (cost : ℕ → ℕ → ℤ) (one : 1 ≤ n) (v : List ℤ) (
           );
         }
 
-    lowest-kept : Lowers n cost (price v) i (a .place) (price v (a .place))
+    lowest-kept : Lowers n cost (signedAt v) i (a .place) (signedAt v (a .place))
     lowest-kept = record {
       column-below = r .first-inside;
-      not-raised = ≤ℤ-refl (price v (a .place));
+      not-raised = ≤ℤ-refl (signedAt v (a .place));
       at-minimum = λ k l d. omega (zlin, r .no-lower k l, r .first-is);
       source = inl refl;
     }
 
-    second-kept : ltZ (a .value) (b .value) ≡ false → Lowers n cost (price v) i (b .place) (price v (b .place))
+    second-kept : ltZ (a .value) (b .value) ≡ false → Lowers n cost (signedAt v) i (b .place) (signedAt v (b .place))
     second-kept t = record {
       column-below = r .second-inside;
-      not-raised = ≤ℤ-refl (price v (b .place));
+      not-raised = ≤ℤ-refl (signedAt v (b .place));
       at-minimum = λ k l d. omega (zlin, r .no-lower k l, r .second-is);
       source = inl refl;
     }
 
-  pub choose-fits : (early : Bool) (t : TwoLowest) → RightTwo (reduced cost (price v) i) n t → Fits early (choose n early v rows t)
+  pub choose-fits : (early : Bool) (t : TwoLowest) → RightTwo (reduced cost (signedAt v) i) n t → Fits early (choose n early v rows t)
   choose-fits early (One a) r =
       let z : a .place ≡ 0 = ap (λ (x : Low). x .place) (r .1) in
       record {
         lowers = record {
           column-below = omega arith;
-          not-raised = ≤ℤ-refl (price v (a .place));
+          not-raised = ≤ℤ-refl (signedAt v (a .place));
           at-minimum = λ k l d. absurd (d (omega (arith, r .0)));
           source = inl refl;
         };

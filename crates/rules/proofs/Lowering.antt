@@ -8,9 +8,10 @@ use lib.IntN.{ℤ, _-ℤ_}
 use lib.Signed.{_≤ℤ_}
 use Rattle.ints.specs.Parts.{Within}
 use Rattle.ints.proofs.Shapes.{zlin}
+use Rattle.lists.proofs.Cases.{here-or-elsewhere}
 use Rattle.rules.specs.Lowest.{reduced}
-use Rattle.rules.proofs.Cases.{here-or-elsewhere}
-use Rattle.rules.proofs.Prices.{NotBelow, AtMinimum, Fair}
+use Rattle.rules.specs.Asked.{AtMinimum, Fair}
+use Rattle.rules.proofs.Prices.{NotBelow}
 
 module _ (n : ℕ) (cost : ℕ → ℕ → ℤ) where
   -- At price p row i sits at its minimum on column j; p is the old price, or makes j as dear as another column.

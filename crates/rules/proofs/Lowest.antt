@@ -12,13 +12,13 @@ use lib.Signed.{leZ, ltZ, _≤ℤ_, ≤ℤ-refl}
 use Rattle.ints.proofs.Shapes.{zlin}
 use Rattle.lists.specs.Runs.{upward}
 use Rattle.lists.proofs.Runs.{upward-keeps, upward-cong}
+use Rattle.lists.proofs.Cases.{cond-cases, below-suc}
 use Rattle.rules.specs.declared.Low.{Low}
 use Rattle.rules.specs.declared.TwoLowest.{TwoLowest}
 use Rattle.rules.specs.declared.TwoLowest.the-variants.{One, Two}
-use Rattle.rules.specs.declared.Least.{Least}
-use Rattle.rules.specs.declared.Least.the-variants.{NoneYet, Of}
+use Rattle.rules.specs.declared.LeastSoFar.{LeastSoFar}
+use Rattle.rules.specs.declared.LeastSoFar.the-variants.{NoneYet, Of}
 use Rattle.rules.specs.Lowest.{low, beside, twoStep, twoLowest, lower, lowest, least, leastBut}
-use Rattle.rules.proofs.Cases.{cond-cases, below-suc}
 
 -- ---- the lowest
 
@@ -57,11 +57,11 @@ pub record IsLeastBut (f : ℕ → ℤ) (j m : ℕ) (b : ℤ) : Type 0 where
   pub one : (k : ℕ) × (k < m) × (k ≢ j) × (b ≡ f k)
 
 -- None yet: there is no other place.
-abbrev pub RightBut : (ℕ → ℤ) → ℕ → ℕ → Least → Type 0
+abbrev pub RightBut : (ℕ → ℤ) → ℕ → ℕ → LeastSoFar → Type 0
 RightBut f j m NoneYet = (k : ℕ) → k < m → k ≡ j
 RightBut f j m (Of b) = IsLeastBut f j m b
 
-least-is : (f : ℕ → ℤ) (j m : ℕ) → m ≢ j → (o : Least) → RightBut f j m o → RightBut f j (suc m) (least o (f m))
+least-is : (f : ℕ → ℤ) (j m : ℕ) → m ≢ j → (o : LeastSoFar) → RightBut f j m o → RightBut f j (suc m) (least o (f m))
 least-is f j m d NoneYet r = record {
   no-lower = below-suc (λ k. k ≢ j → f m ≤ℤ f k) (λ k l e. absurd (e (r k l))) (λ e. ≤ℤ-refl (f m));
   one = (m, omega arith, d, refl);
@@ -77,7 +77,7 @@ least-is f j m d (Of a) r =
       one = (r .one .0, omega (arith, r .one .1), r .one .2, r .one .3);
     })
 
-same-is : (f : ℕ → ℤ) (j m : ℕ) → m ≡ j → (o : Least) → RightBut f j m o → RightBut f j (suc m) o
+same-is : (f : ℕ → ℤ) (j m : ℕ) → m ≡ j → (o : LeastSoFar) → RightBut f j m o → RightBut f j (suc m) o
 same-is f j m e NoneYet r = below-suc (λ k. k ≡ j) r e
 same-is f j m e (Of a) r = record {
   no-lower = below-suc (λ k. k ≢ j → a ≤ℤ f k) (r .no-lower) (λ d. absurd (d e));

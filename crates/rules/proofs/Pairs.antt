@@ -8,24 +8,10 @@ use lib.ListN.{length, length-set}
 use lib.Seq.{getD-set-same, getD-set-other}
 use Rattle.lists.specs.Permutations.{at, Injective}
 use Rattle.lists.proofs.Injections.{reached}
+use Rattle.lists.proofs.Cases.{lt-or-le, here-or-elsewhere, below-suc}
 use Rattle.rules.specs.Columns.{Pairs}
 use Rattle.rules.specs.Rows.{takeColumn}
-use Rattle.rules.proofs.Cases.{lt-or-le, here-or-elsewhere, below-suc}
-
--- Row i is paired: the column that it names names it back.
-abbrev pub Paired : Pairs → ℕ → Type 0
-Paired p i = at (p .rows) (at (p .cols) i) ≡ i
-
--- Row i has no column.
-abbrev pub Unpaired : ℕ → Pairs → ℕ → Type 0
-Unpaired n p i = (k : ℕ) → k < n → at (p .rows) k ≢ i
-
--- Lists of n entries, in which each row that a column names names it back.
-pub record Agree (n : ℕ) (p : Pairs) : Type 0 where
-  pub cols-size : length (p .cols) ≡ n
-  pub rows-size : length (p .rows) ≡ n
-  pub cols-below : (i : ℕ) → i < n → at (p .cols) i < n
-  pub named-back : (k : ℕ) → k < n → at (p .rows) k < n → at (p .cols) (at (p .rows) k) ≡ k
+use Rattle.rules.specs.Asked.{Paired, Unpaired, Agree}
 
 -- ---- row i takes column j
 

@@ -1,10 +1,10 @@
 -- Rule 4: every look of a pass keeps what every stage keeps; a pass over F rows makes F to F * n looks, and more turns change nothing.
 -- Assumes nothing.
-use mathlib.Core.Path.{_≡_, refl, ap, _∙_}
+use mathlib.Core.Path.{_≡_, refl, sym, ap, _∙_}
 use mathlib.Core.Logic.{_⊎_, inl, inr, ⊎-elim}
 use mathlib.Core.Bool.{Bool, true, cond}
-use Prim.Native.Nat.{ℕ, zero, suc, _+_, _*_, _≤_, _<_}
-use native.Mathlib.Nat.{mul-le-mul-right, add-zero, add-suc}
+use Prim.Native.Nat.{ℕ, suc, _+_, _*_, _≤_, _<_}
+use native.Mathlib.Nat.{mul-le-mul-right}
 use native.Mathlib.Numerals.{add-one}
 use native.Mathlib.Omega.{arith}
 use borrow.Author.Tests.{ltb-true, ltb-false, lt-ltb, le-ltb}
@@ -13,14 +13,14 @@ use lib.IntN.{ℤ}
 use lib.ListN.{length, set, length-set}
 use Rattle.ints.specs.Parts.{Within}
 use Rattle.lists.specs.Permutations.{at}
-use Rattle.lists.proofs.Runs.{upward-none, upward-last}
-use Rattle.assignment.specs.Pairings.{price}
+use Rattle.lists.proofs.Runs.{upward-none, upward-last, upward-stays}
+use Rattle.lists.proofs.Cases.{cond-cases}
+use Rattle.assignment.specs.Pairings.{signedAt}
 use Rattle.rules.specs.declared.Choice.{Choice}
 use Rattle.rules.specs.declared.Pass.{Pass}
 use Rattle.rules.specs.Lowest.{reduced, twoLowest}
 use Rattle.rules.specs.Columns.{Pairs}
 use Rattle.rules.specs.Rows.{takeColumn, Passing, choose, Placed, passAt, displace, settle, isEarly, look, looks}
-use Rattle.rules.proofs.Cases.{cond-cases}
 use Rattle.rules.proofs.Lowest.{twoLowest-is}
 use Rattle.rules.proofs.Pairs.{took-row, kept-row, take-agree, free-column}
 use Rattle.rules.proofs.Lowering.{Lowers}
@@ -44,17 +44,13 @@ module _ (n : ℕ) (cost : ℕ → ℕ → ℤ) (F : ℕ) (x : Passing) where
       let y = looks n cost F m x in
       looks-last m ∙ ap (λ (t : Bool). cond t (look n cost y) y) (lt-ltb (y .pass .current) F h)
 
-  pub looks-stop : (m : ℕ) → F ≤ looks n cost F m x .pass .current → looks n cost F (suc m) x ≡ looks n cost F m x
-  looks-stop m h =
-      let y = looks n cost F m x in
-      looks-last m ∙ ap (λ (t : Bool). cond t (look n cost y) y) (le-ltb (y .pass .current) F h)
-
   -- Once all F rows are done, more turns change nothing.
   pub looks-rest : (m : ℕ) → F ≤ looks n cost F m x .pass .current → (d : ℕ) → looks n cost F (m + d) x ≡ looks n cost F m x
-  looks-rest m h zero = ap (λ (k : ℕ). looks n cost F k x) (add-zero m)
-  looks-rest m h (suc d) =
-      let e = looks-rest m h d in
-      ap (λ (k : ℕ). looks n cost F k x) (add-suc m d) ∙ looks-stop (m + d) (omega (arith, ap (λ (y : Passing). y .pass .current) e)) ∙ e
+  unfolding looks
+  looks-rest m h d =
+      let y = looks n cost F m x in
+      sym (upward-stays 0 m (m + d) (λ k z. cond (ltb (z .pass .current) F) (look n cost z) z) x y (omega arith) (omega arith) refl
+      (λ k l q. ap (λ (t : Bool). cond t (look n cost y) y) (le-ltb (y .pass .current) F h)))
 
 module _ (n : ℕ) (cost : ℕ → ℕ → ℤ) (one : 1 ≤ n) (K : ℕ) (costs : (i j : ℕ) → Within K (cost i j)) where
   abbrev v₀ : ℕ → ℤ
@@ -147,24 +143,24 @@ module _ (n : ℕ) (cost : ℕ → ℕ → ℤ) (one : 1 ≤ n) (K : ℕ) (costs
           looks-now = λ g. next-looks;
         }
 
-        displace-ok : (back : Bool) → (back ≡ true → x .pass .looks + 1 < (x .pass .current + 1) * n) → Goes p′ (displace n (x .frees) (x .pass) back h)
-        displace-ok back early =
+        displace-goes : (back : Bool) → (back ≡ true → x .pass .looks + 1 < (x .pass .current + 1) * n) → Goes p′ (displace n (x .frees) (x .pass) back h)
+        displace-goes back early =
             let a : Placed = record { frees = set (x .frees) (x .pass .current) h; pass = passAt (x .pass .current) (x .pass .left) (x .pass .looks + 1) } in
             let b : Placed = record { frees = set (x .frees) (x .pass .left) h; pass = passAt (x .pass .current + 1) (x .pass .left + 1) (x .pass .looks + 1) } in
             cond-cases (ltb h n) (Goes p′) (cond back a b) (record { frees = x .frees; pass = passAt (x .pass .current + 1) (x .pass .left) (x .pass .looks + 1) })
             (λ t. cond-cases back (Goes p′) a b (λ u. goes-back (ltb-true h n t) (early u)) (λ u. goes-on (ltb-true h n t)))
             (λ t. nobody (ltb-false h n t))
 
-      settle-ok : (w : Choice) → Lowers n cost (price (x .prices)) i (w .column) (w .price)
+      settle-passed : (w : Choice) → Lowers n cost (signedAt (x .prices)) i (w .column) (w .price)
           → (w .back ≡ true → x .pass .looks + 1 < (x .pass .current + 1) * n) → x .pass .looks ≡ m → Passed (suc m) (settle n x i w)
-      settle-ok w low early z =
+      settle-passed w low early z =
           let j = w .column in
           let lj = low .column-below in
           let A = X .kept .agree in
           let li : i < n = X .listed .row-below (x .pass .current) is in
           let alone = X .listed .unpaired (x .pass .current) is in
           let y = free-column n (x .pairs) A i li alone in
-          let q = displace-ok j lj (w .back) early in
+          let q = displace-goes j lj (w .back) early in
           record {
             kept = step n cost K costs v₀ (first-low n cost one K costs) (x .pairs) (x .prices) (X .kept) j (w .price) lj
                 (y .0) (y .1) (free-low n cost K costs v₀ (first-low n cost one K costs) (x .pairs) (x .prices) (X .kept) (y .0) (y .1) (y .2))
@@ -181,9 +177,9 @@ module _ (n : ℕ) (cost : ℕ → ℕ → ℤ) (one : 1 ≤ n) (K : ℕ) (costs
             each-looks = inl (omega (arith, q .counted));
           }
 
-      pub look-ok : x .pass .looks ≡ m → Passed (suc m) (look n cost x)
-      look-ok z =
-          let f : ℕ → ℤ = reduced cost (price (x .prices)) i in
+      pub look-passed : x .pass .looks ≡ m → Passed (suc m) (look n cost x)
+      look-passed z =
+          let f : ℕ → ℤ = reduced cost (signedAt (x .prices)) i in
           let r = choose-fits n cost one (x .prices) (x .pairs .rows) i (isEarly n (x .pass)) (twoLowest n f) (twoLowest-is n f one) in
-          settle-ok (choose n (isEarly n (x .pass)) (x .prices) (x .pairs .rows) (twoLowest n f)) (r .lowers)
+          settle-passed (choose n (isEarly n (x .pass)) (x .prices) (x .pairs .rows) (twoLowest n f)) (r .lowers)
           (λ b. ltb-true (x .pass .looks + 1) ((x .pass .current + 1) * n) (r .back-early b)) z

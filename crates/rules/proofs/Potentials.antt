@@ -7,7 +7,7 @@ use lib.Signed.{_≤ℤ_}
 use Rattle.ints.proofs.Sums.{sum, dif}
 use Rattle.ints.proofs.Ranges.{zarith}
 use Rattle.rules.specs.Lowest.{reduced}
-use Rattle.rules.proofs.Prices.{AtMinimum, Fair}
+use Rattle.rules.specs.Asked.{AtMinimum, Fair}
 
 module _ (n : ℕ) (cost : ℕ → ℕ → ℤ) where
   -- Distances, cut at μ, that no step makes shorter.

@@ -5,8 +5,9 @@ use lib.IntN.{ℤ, pos, _+ℤ_}
 use lib.Signed.{_≤ℤ_}
 use Rattle.ints.specs.Parts.{up, down, Within}
 use Rattle.ints.proofs.Shapes.{zlin}
+use Rattle.lists.proofs.Cases.{lt-or-le}
 use Rattle.rules.specs.Lowest.{reduced}
-use Rattle.rules.proofs.Cases.{lt-or-le}
+use Rattle.rules.specs.Asked.{AtMinimum, Fair}
 use mathlib.Core.Logic.{inl, inr}
 
 -- z is -k or more.
@@ -14,27 +15,19 @@ pub record NotBelow (k : ℕ) (z : ℤ) : Type 0 where
   pub low : down z ≤ up z + k
 
 module _ (n : ℕ) (cost : ℕ → ℕ → ℤ) where
-  -- Row i sits at its minimum on column j: no column has a lower reduced cost.
-  pub record AtMinimum (v : ℕ → ℤ) (i j : ℕ) : Type 0 where
-    pub no-less : (k : ℕ) → k < n → reduced cost v i j ≤ℤ reduced cost v i k
-
-  -- Paired rows sit at their minimum. `row j` is the row of column j, n or more where j is free.
-  pub record Fair (v : ℕ → ℤ) (row : ℕ → ℕ) : Type 0 where
-    pub paired-at-minimum : (j : ℕ) → j < n → row j < n → AtMinimum v (row j) j
-
   -- Costs in -K..K.
   module _ (K : ℕ) (costs : (i j : ℕ) → Within K (cost i j)) where
     -- Where a row sits at its minimum on j, the price of j is less than 2K below any other's.
-    pub minimum-near : (v : ℕ → ℤ) (i j f : ℕ) → f < n → AtMinimum v i j → v f ≤ℤ (v j +ℤ pos (2 * K))
+    pub minimum-near : (v : ℕ → ℤ) (i j f : ℕ) → f < n → AtMinimum n cost v i j → v f ≤ℤ (v j +ℤ pos (2 * K))
     minimum-near v i j f l m = omega (zlin, m .no-less f l, costs i j, costs i f)
 
     -- Fair prices where column f is at -B or more: paired columns are at -(B + 2K) or more.
-    pub fair-near : (v : ℕ → ℤ) (row : ℕ → ℕ) (f B : ℕ) → f < n → NotBelow B (v f) → Fair v row → (k : ℕ) → k < n → row k < n → NotBelow (B + 2 * K) (v k)
+    pub fair-near : (v : ℕ → ℤ) (row : ℕ → ℕ) (f B : ℕ) → f < n → NotBelow B (v f) → Fair n cost v row → (k : ℕ) → k < n → row k < n → NotBelow (B + 2 * K) (v k)
     fair-near v row f B l low F k m h =
         record { low = omega (zlin, minimum-near v (row k) k f l (F .paired-at-minimum k m h), low .low) }
 
     -- Where free columns and one column are at -K or more, all are at -3K or more.
-    pub all-near : (v : ℕ → ℤ) (row : ℕ → ℕ) (f : ℕ) → f < n → NotBelow K (v f) → Fair v row → ((k : ℕ) → k < n → n ≤ row k → NotBelow K (v k))
+    pub all-near : (v : ℕ → ℤ) (row : ℕ → ℕ) (f : ℕ) → f < n → NotBelow K (v f) → Fair n cost v row → ((k : ℕ) → k < n → n ≤ row k → NotBelow K (v k))
         → (k : ℕ) → k < n → NotBelow (3 * K) (v k)
     all-near v row f l low F free k m = elim (lt-or-le (row k) n) [
       | inl h ↦ record { low = omega (arith, fair-near v row f K l low F k m h .low) }
@@ -42,5 +35,5 @@ module _ (n : ℕ) (cost : ℕ → ℕ → ℤ) where
     ]
 
     -- A row at its minimum pays at most K + B where some column is at -B or more.
-    pub minimum-pays : (v : ℕ → ℤ) (i j f B : ℕ) → f < n → NotBelow B (v f) → AtMinimum v i j → reduced cost v i j ≤ℤ pos (K + B)
+    pub minimum-pays : (v : ℕ → ℤ) (i j f B : ℕ) → f < n → NotBelow B (v f) → AtMinimum n cost v i j → reduced cost v i j ≤ℤ pos (K + B)
     minimum-pays v i j f B l low m = omega (zlin, m .no-less f l, costs i f, low .low)

@@ -14,12 +14,12 @@ use Rattle.ints.proofs.Tests.{ltZ-plus}
 use Rattle.lists.specs.Permutations.{table}
 use Rattle.lists.proofs.Tables.{length-table, getD-table, table-cong}
 use Rattle.lists.proofs.InStep.{upward-both}
-use Rattle.assignment.specs.Pairings.{price}
+use Rattle.lists.proofs.Cases.{cond-both, here-or-elsewhere}
+use Rattle.assignment.specs.Pairings.{signedAt}
 use Rattle.assignment.specs.Amounts.{risen}
 use Rattle.assignment.proofs.Amounts.{length-risen, price-risen}
 use Rattle.rules.specs.declared.Low.{Low}
 use Rattle.rules.specs.Lowest.{reduced, low, lower, lowest}
-use Rattle.rules.proofs.Cases.{cond-both, here-or-elsewhere}
 
 -- ---- prices
 
@@ -29,7 +29,7 @@ module _ (amount : ℕ → ℤ) where
   set-risen v j x y e =
       ext-getD (pos 0) (set (risen amount v) j y) (risen amount (set v j x))
       (length-set (risen amount v) j y ∙ length-risen amount v ∙ sym (length-set v j x) ∙ sym (length-risen amount (set v j x)))
-      (λ i h. here-or-elsewhere (λ k. k < length v → price (set (risen amount v) j y) k ≡ price (risen amount (set v j x)) k) j
+      (λ i h. here-or-elsewhere (λ k. k < length v → signedAt (set (risen amount v) j y) k ≡ signedAt (risen amount (set v j x)) k) j
       (λ l. getD-set-same (risen amount v) j y (pos 0) (omega (arith, length-risen amount v)) ∙ e l
       ∙ ap (λ z. z +ℤ amount j) (sym (getD-set-same v j x (pos 0) l)) ∙ sym (price-risen amount (set v j x) j (lt-length-set v j x l)))
       (λ k d l. getD-set-other (risen amount v) j k y (pos 0) d ∙ price-risen amount v k l
@@ -39,8 +39,8 @@ module _ (amount : ℕ → ℤ) where
   pub table-risen : (n : ℕ) (f g : ℕ → ℤ) → ((j : ℕ) → j < n → g j ≡ f j +ℤ amount j) → table n g ≡ risen amount (table n f)
   unfolding risen
   table-risen n f g e =
-      table-cong n g (λ j. price (table n f) j +ℤ amount j) (λ j l. e j l ∙ ap (λ z. z +ℤ amount j) (sym (getD-table n f (pos 0) j l)))
-      ∙ ap (λ (m : ℕ). table m (λ j. price (table n f) j +ℤ amount j)) (sym (length-table n f))
+      table-cong n g (λ j. signedAt (table n f) j +ℤ amount j) (λ j l. e j l ∙ ap (λ z. z +ℤ amount j) (sym (getD-table n f (pos 0) j l)))
+      ∙ ap (λ (m : ℕ). table m (λ j. signedAt (table n f) j +ℤ amount j)) (sym (length-table n f))
 
 -- ---- reduced costs
 
@@ -49,7 +49,7 @@ abbrev pub Added : ℕ → (ℕ → ℤ) → (ℕ → ℕ → ℤ) → (ℕ → 
 Added n amount cost cost′ = (i j : ℕ) → i < n → j < n → cost′ i j ≡ cost i j +ℤ amount j
 
 pub reduced-same : (n : ℕ) (amount : ℕ → ℤ) (cost cost′ : ℕ → ℕ → ℤ) → Added n amount cost cost′ → (v : List ℤ) → length v ≡ n
-    → (i j : ℕ) → i < n → j < n → reduced cost′ (price (risen amount v)) i j ≡ reduced cost (price v) i j
+    → (i j : ℕ) → i < n → j < n → reduced cost′ (signedAt (risen amount v)) i j ≡ reduced cost (signedAt v) i j
 reduced-same n amount cost cost′ added v size i j l m = omega (zlin, added i j l m, price-risen amount v j (omega arith))
 
 -- ---- the lowest of a column

@@ -13,14 +13,14 @@ use lib.ListN.{length}
 use Rattle.ints.specs.Parts.{Within}
 use Rattle.lists.specs.Permutations.{at}
 use Rattle.lists.proofs.Runs.{upward-keeps}
-use Rattle.assignment.specs.Pairings.{price}
+use Rattle.lists.proofs.Cases.{cond-cases, lt-or-le}
+use Rattle.assignment.specs.Pairings.{signedAt}
 use Rattle.rules.specs.Columns.{Stage}
 use Rattle.rules.specs.Rows.{Passing, look, looks, passStart, passEnd, rowReduction}
-use Rattle.rules.proofs.Cases.{cond-cases, lt-or-le}
 use Rattle.rules.proofs.Kept.{within-five}
 use Rattle.rules.proofs.Claims.{first, first-low, first-within}
 use Rattle.rules.proofs.Transfers.{Good}
-use Rattle.rules.proofs.Passes.{looks-rest, Passed, look-ok}
+use Rattle.rules.proofs.Passes.{looks-rest, Passed, look-passed}
 
 module _ (n : ℕ) (cost : ℕ → ℕ → ℤ) (one : 1 ≤ n) (K : ℕ) (costs : (i j : ℕ) → Within K (cost i j)) where
   module _ (F : ℕ) (lF : F ≤ n) where
@@ -41,13 +41,13 @@ module _ (n : ℕ) (cost : ℕ → ℕ → ℤ) (one : 1 ≤ n) (K : ℕ) (costs
       each-looks = inr h;
     }
 
-    pub looks-ok : (x : Passing) → P 0 x → (m : ℕ) → P m (looks n cost F m x)
+    pub looks-passed : (x : Passing) → P 0 x → (m : ℕ) → P m (looks n cost F m x)
     unfolding looks
-    looks-ok x X m =
+    looks-passed x X m =
         upward-keeps P 0 m (λ k y. cond (ltb (y .pass .current) F) (look n cost y) y) x (omega arith) X
         (λ k y a l Y. cond-cases (ltb (y .pass .current) F) (P (suc k)) (look n cost y) y
         (λ t. let c : y .pass .current < F = ltb-true (y .pass .current) F t in
-        look-ok n cost one K costs F lF y k Y c (⊎-elim (λ e. e) (λ e. absurd (omega arith)) (Y .each-looks)))
+        look-passed n cost one K costs F lF y k Y c (⊎-elim (λ e. e) (λ e. absurd (omega arith)) (Y .each-looks)))
         (λ t. stays k y Y (ltb-false (y .pass .current) F t)))
 
     -- After F * n turns all rows are done.
@@ -95,15 +95,15 @@ module _ (n : ℕ) (cost : ℕ → ℕ → ℤ) (one : 1 ≤ n) (K : ℕ) (costs
     abbrev after : ℕ → Passing
     after m = looks n cost (s .count) m (passStart s)
 
-    after-ok : (m : ℕ) → Passed n cost one K costs (s .count) (G .count-few) m (after m)
-    after-ok m = looks-ok (s .count) (G .count-few) (passStart s) (start-passed s G) m
+    after-passed : (m : ℕ) → Passed n cost one K costs (s .count) (G .count-few) m (after m)
+    after-passed m = looks-passed (s .count) (G .count-few) (passStart s) (start-passed s G) m
 
-    pub rowReduction-ok : PassOf s (rowReduction n cost s)
+    pub rowReduction-pass-of : PassOf s (rowReduction n cost s)
     unfolding rowReduction
-    rowReduction-ok =
+    rowReduction-pass-of =
         let F = s .count in
         let x = after (F * n) in
-        let X = after-ok (F * n) in
+        let X = after-passed (F * n) in
         let e : x .pass .current ≡ F = looks-done F (G .count-few) x X in
         record {
           good = record {
@@ -132,7 +132,7 @@ module _ (n : ℕ) (cost : ℕ → ℕ → ℤ) (one : 1 ≤ n) (K : ℕ) (costs
         let F = s .count in
         let e : F * n + (m - F * n) ≡ m = omega arith in
         ap after (sym e)
-        ∙ looks-rest n cost F (passStart s) (F * n) (omega (arith, looks-done F (G .count-few) (after (F * n)) (after-ok (F * n)))) (m - F * n)
+        ∙ looks-rest n cost F (passStart s) (F * n) (omega (arith, looks-done F (G .count-few) (after (F * n)) (after-passed (F * n)))) (m - F * n)
 
     -- What a look after m turns finds: sizes, indices in range, prices within 5K, and the counter.
     pub record Ready (m : ℕ) (x : Passing) : Type 0 where
@@ -143,14 +143,14 @@ module _ (n : ℕ) (cost : ℕ → ℕ → ℤ) (one : 1 ≤ n) (K : ℕ) (costs
       pub current-below : x .pass .current < n
       pub left-few : x .pass .left ≤ x .pass .current
       pub row-below : at (x .frees) (x .pass .current) < n
-      pub prices-within : (k : ℕ) → Within (5 * K) (price (x .prices) k)
+      pub prices-within : (k : ℕ) → Within (5 * K) (signedAt (x .prices) k)
       pub looks-counted : x .pass .looks ≡ m
       pub looks-below : m < s .count * n
 
     pub look-ready : (m : ℕ) → after m .pass .current < s .count → Ready m (after m)
     look-ready m l =
         let x = after m in
-        let X = after-ok m in
+        let X = after-passed m in
         let e : x .pass .looks ≡ m = ⊎-elim (λ a. a) (λ a. absurd (omega arith)) (X .each-looks) in
         record {
           cols-size = X .kept .agree .cols-size;

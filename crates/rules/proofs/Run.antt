@@ -8,26 +8,25 @@ use native.Mathlib.Decide.{ℕ-discrete}
 use native.Mathlib.Omega.{arith}
 use lib.IntN.{ℤ, pos, _-ℤ_, +ℤ-idl}
 use lib.Signed.{_≤ℤ_}
-use lib.ListN.{length}
 use Rattle.ints.specs.Parts.{Within}
 use Rattle.ints.proofs.Shapes.{zlin}
 use Rattle.lists.specs.Runs.{turns, upward, downward, until}
 use Rattle.lists.specs.Sums.{sum}
 use Rattle.lists.specs.Permutations.{at, table}
 use Rattle.lists.proofs.Tables.{length-table, getD-table}
-use Rattle.assignment.specs.Pairings.{Pairing, Least, Named, square, price, total}
+use Rattle.assignment.specs.Pairings.{Pairing, Least, Named, square, signedAt, total}
 use Rattle.assignment.specs.Prices.{Feasible, Tight}
 use Rattle.assignment.proofs.Square.{square-prices-least, square-named-pairing, square-named-back}
 use Rattle.rules.specs.Lowest.{reduced, lowest, leastBut}
 use Rattle.rules.specs.Columns.{free, Pairs, claims, transfers, columnReduction}
 use Rattle.rules.specs.Rows.{looks, rowReduction}
 use Rattle.rules.specs.Augmentation.{augments, augmentation}
-use Rattle.rules.specs.Run.{stages, Answer, rowPrices, run}
+use Rattle.rules.specs.Run.{stages, Result, rowPrices, run}
 use Rattle.rules.specs.Nights.{five}
 use Rattle.rules.specs.Right.{Between, Right}
-use Rattle.rules.proofs.Prices.{NotBelow, AtMinimum, Fair, minimum-pays}
+use Rattle.rules.specs.Asked.{AtMinimum, Fair, Paired, Agree}
+use Rattle.rules.proofs.Prices.{NotBelow, minimum-pays}
 use Rattle.rules.proofs.Sizes.{total-within}
-use Rattle.rules.proofs.Pairs.{Paired, Agree}
 use Rattle.rules.proofs.Lowering.{bounds-low}
 use Rattle.rules.proofs.Kept.{Kept}
 use Rattle.rules.proofs.Claims.{best, first, first-cost, first-least, first-low}
@@ -35,7 +34,7 @@ use Rattle.rules.proofs.Stages.{StagesRight, stages-right}
 
 -- ---- any state in which every row is paired and sits at its minimum
 
-module _ (n : ℕ) (costs : List ℤ) (p : Pairs) (v : List ℤ) (A : Agree n p) (F : Fair n (square n costs .cost) (price v) (at (p .rows)))
+module _ (n : ℕ) (costs : List ℤ) (p : Pairs) (v : List ℤ) (A : Agree n p) (F : Fair n (square n costs .cost) (signedAt v) (at (p .rows)))
     (all : (i : ℕ) → i < n → Paired p i) where
   abbrev cost : ℕ → ℕ → ℤ
   cost = square n costs .cost
@@ -43,12 +42,12 @@ module _ (n : ℕ) (costs : List ℤ) (p : Pairs) (v : List ℤ) (A : Agree n p)
   abbrev u : List ℤ
   u = rowPrices n cost (p .cols) v
 
-  u-is : (i : ℕ) → i < n → price u i ≡ reduced cost (price v) i (at (p .cols) i)
-  u-is i l = getD-table n (λ i. reduced cost (price v) i (at (p .cols) i)) (pos 0) i l
+  u-is : (i : ℕ) → i < n → signedAt u i ≡ reduced cost (signedAt v) i (at (p .cols) i)
+  u-is i l = getD-table n (λ i. reduced cost (signedAt v) i (at (p .cols) i)) (pos 0) i l
 
-  pub paired-minimum : (i : ℕ) → i < n → AtMinimum n cost (price v) i (at (p .cols) i)
+  pub paired-minimum : (i : ℕ) → i < n → AtMinimum n cost (signedAt v) i (at (p .cols) i)
   paired-minimum i l =
-      subst (λ (y : ℕ). AtMinimum n cost (price v) y (at (p .cols) i)) (all i l)
+      subst (λ (y : ℕ). AtMinimum n cost (signedAt v) y (at (p .cols) i)) (all i l)
       (F .paired-at-minimum (at (p .cols) i) (A .cols-below i l) (omega (arith, all i l)))
 
   pub all-named : Named (square n costs) (p .cols) (p .rows)
@@ -71,35 +70,35 @@ module _ (n : ℕ) (costs : List ℤ) (p : Pairs) (v : List ℤ) (A : Agree n p)
 module _ (n : ℕ) (cost : ℕ → ℕ → ℤ) (one : 1 ≤ n) (K : ℕ) (costs : (i j : ℕ) → Within K (cost i j)) (p : Pairs) (v : List ℤ)
     (κ : Kept n cost K costs (first n cost one) p v) where
   -- Column prices are in -5K..K.
-  pub column-price-between : (k : ℕ) → k < n → Between (5 * K) K (price v k)
+  pub column-price-between : (k : ℕ) → k < n → Between (5 * K) K (signedAt v k)
   column-price-between k l =
       let i = best n cost one k in
-      record { low = bounds-low n cost K costs (price v) (κ .bounds) k l .low; high = omega (zlin, κ .not-risen k l, first-cost n cost one k, costs i k) }
+      record { low = bounds-low n cost K costs (signedAt v) (κ .bounds) k l .low; high = omega (zlin, κ .not-risen k l, first-cost n cost one k, costs i k) }
 
   another : 2 ≤ n → (a : ℕ) → (k : ℕ) × (k < n) × (k ≢ a)
   another l a = elim (ℕ-discrete a 0) [ yes e ↦ (1, omega arith, λ z. omega arith) | no d ↦ (0, omega arith, λ z. d (sym z)) ]
 
   -- Some column is at -3K or more.
-  some-three : (k : ℕ) × (k < n) × NotBelow (3 * K) (price v k)
+  some-three : (k : ℕ) × (k < n) × NotBelow (3 * K) (signedAt v k)
   some-three = elim (ℕ-discrete n 1) [
     | yes e ↦ (0, one, record { low = omega (zlin, κ .single e 0 one, first-low n cost one K costs 0 .low) })
     | no d ↦ let o = another (omega arith) (κ .bounds .one) in (o .0, o .1, κ .bounds .others-low (o .0) (o .1) (o .2))
   ]
 
   -- Row prices are in 0..4K.
-  pub row-price-between : (i j : ℕ) → i < n → j < n → AtMinimum n cost (price v) i j → Between 0 (4 * K) (reduced cost (price v) i j)
+  pub row-price-between : (i j : ℕ) → i < n → j < n → AtMinimum n cost (signedAt v) i j → Between 0 (4 * K) (reduced cost (signedAt v) i j)
   row-price-between i j l m M =
       let t = some-three in
-      let pays = minimum-pays n cost K costs (price v) i j (t .0) (3 * K) (t .1) (t .2) M in
-      let paid : price v j ≤ℤ cost i j = omega (zlin, κ .not-risen j m, first-least n cost one i j l) in
-      between (reduced cost (price v) i j) pays (omega zlin)
+      let pays = minimum-pays n cost K costs (signedAt v) i j (t .0) (3 * K) (t .1) (t .2) M in
+      let paid : signedAt v j ≤ℤ cost i j = omega (zlin, κ .not-risen j m, first-least n cost one i j l) in
+      between (reduced cost (signedAt v) i j) pays (omega zlin)
     where
       between : (z : ℤ) → z ≤ℤ pos (K + 3 * K) → pos 0 ≤ℤ z → Between 0 (4 * K) z
       between z h g = record { low = omega zlin; high = omega zlin }
 
 -- ---- the run
 
-module _ (n : ℕ) (costs : List ℤ) (K : ℕ) (within : (k : ℕ) → Within K (price costs k)) where
+module _ (n : ℕ) (costs : List ℤ) (K : ℕ) (within : (k : ℕ) → Within K (signedAt costs k)) where
   abbrev cost′ : ℕ → ℕ → ℤ
   cost′ = square n costs .cost
 
@@ -119,7 +118,7 @@ module _ (n : ℕ) (costs : List ℤ) (K : ℕ) (within : (k : ℕ) → Within K
         record {
           cols-size = κ .agree .cols-size;
           rows-size = κ .agree .rows-size;
-          row-prices-size = length-table n (λ i. reduced cost′ (price v) i (at (p .cols) i));
+          row-prices-size = length-table n (λ i. reduced cost′ (signedAt v) i (at (p .cols) i));
           column-prices-size = κ .prices-size;
           named = named;
           named-back = square-named-back n costs (p .cols) (p .rows) named;
@@ -129,7 +128,7 @@ module _ (n : ℕ) (costs : List ℤ) (K : ℕ) (within : (k : ℕ) → Within K
           least = all-least n costs p v (κ .agree) (κ .fair) (L .all-paired);
           column-prices-between = column-price-between n cost′ one K (λ i j. within (i * n + j)) p v κ;
           row-prices-between = λ i l.
-              subst (Between 0 (4 * K)) (sym (getD-table n (λ i. reduced cost′ (price v) i (at (p .cols) i)) (pos 0) i l))
+              subst (Between 0 (4 * K)) (sym (getD-table n (λ i. reduced cost′ (signedAt v) i (at (p .cols) i)) (pos 0) i l))
               (row-price-between n cost′ one K (λ i j. within (i * n + j)) p v κ i (at (p .cols) i) l (κ .agree .cols-below i l)
               (paired-minimum n costs p v (κ .agree) (κ .fair) (L .all-paired) i l));
           total-is = refl;
@@ -140,7 +139,7 @@ module _ (n : ℕ) (costs : List ℤ) (K : ℕ) (within : (k : ℕ) → Within K
 -- ---- sides 0 and 1
 
 -- Side 0: nothing, total 0, counts 0.
-abbrev pub nothing : Answer
+abbrev pub nothing : Result
 nothing = record { cols = []; rows = []; rowPrices = []; columnPrices = []; total = pos 0; counts = five 0 0 0 0 0 }
 
 pub side-zero : (costs : List ℤ) → run 0 costs ≡ nothing
@@ -186,7 +185,7 @@ nothing-right costs K =
     }
 
 -- Side 1: "v is the cost and the row price 0"; no look.
-pub record SideOne (c : ℤ) (a : Answer) : Type 0 where
+pub record SideOne (c : ℤ) (a : Result) : Type 0 where
   pub cols-are : a .cols ≡ 0 ∷ []
   pub rows-are : a .rows ≡ 0 ∷ []
   pub row-prices-are : a .rowPrices ≡ pos 0 ∷ []
@@ -210,11 +209,11 @@ side-one c = record {
 
 -- ---- THE RUN, at any side up to the free mark and any bound K of the costs
 
-pub run-right : (n : ℕ) (costs : List ℤ) (K : ℕ) → ((k : ℕ) → Within K (price costs k)) → n ≤ free → Right n costs K (run n costs)
+pub run-right : (n : ℕ) (costs : List ℤ) (K : ℕ) → ((k : ℕ) → Within K (signedAt costs k)) → n ≤ free → Right n costs K (run n costs)
 run-right zero costs K within room = subst (Right 0 costs K) (sym (side-zero costs)) (nothing-right costs K)
 run-right (suc n) costs K within room = one-right (suc n) costs K within (omega arith) room
 
 -- All prices lie within 10K, as the checker asks.
-pub right-within-ten : (n : ℕ) (costs : List ℤ) (K : ℕ) (a : Answer) → Right n costs K a
-    → ((i : ℕ) → i < n → Within (10 * K) (price (a .rowPrices) i)) × ((j : ℕ) → j < n → Within (10 * K) (price (a .columnPrices) j))
+pub right-within-ten : (n : ℕ) (costs : List ℤ) (K : ℕ) (a : Result) → Right n costs K a
+    → ((i : ℕ) → i < n → Within (10 * K) (signedAt (a .rowPrices) i)) × ((j : ℕ) → j < n → Within (10 * K) (signedAt (a .columnPrices) j))
 right-within-ten n costs K a R = (λ i l. omega (arith, R .row-prices-between i l), λ j l. omega (arith, R .column-prices-between j l))

@@ -19,14 +19,14 @@ use Rattle.lists.proofs.Leaving.{Either, goes-on, is-left, either-map}
 use Rattle.lists.proofs.InStep.{until-same}
 use Rattle.lists.proofs.Tables.{length-table, getD-table, table-cong}
 use Rattle.lists.proofs.Permutations.{exchange-second, exchange-other, exchange-permutation}
+use Rattle.lists.proofs.Cases.{cond-cases, lt-or-le}
 use Rattle.rules.specs.declared.LastFree.{LastFree}
 use Rattle.rules.specs.declared.LastFree.the-variants.{NoneYet, At}
 use Rattle.rules.specs.Lowest.{reduced}
 use Rattle.rules.specs.Block.{Block, blockStep, blockStart, block}
 use Rattle.rules.specs.Search.{Work, Hit, workOf, same, reachBy, join, countOne, afterLowering, scanColumn, scanRow, scan, lastFree, freshBlock, afterScan, afterBlock, searchBlock, searchBlocks, searchStart, foundAt, search}
-use Rattle.rules.proofs.Cases.{cond-cases, lt-or-le}
-use Rattle.rules.proofs.Block.{block-ok}
-use Rattle.rules.proofs.FreeColumns.{Sought, lastFree-ok}
+use Rattle.rules.proofs.Block.{block-of-minima}
+use Rattle.rules.proofs.FreeColumns.{Sought, lastFree-sought}
 use Rattle.rules.proofs.Scan.{place, far}
 
 -- The columns in some order, and those of a block that starts at lo are paired.
@@ -163,13 +163,13 @@ module _ (n : ℕ) (cost cost′ : ℕ → ℕ → ℤ) (v v′ : ℕ → ℤ) (
 
       within : w .hi < n → Goal (lastFree n row (q .list) (w .hi) (q .hi))
       within l =
-          let B = block-ok n (w .distances) (w .hi) (w .list) P l in
-          by (lastFree n row (q .list) (w .hi) (q .hi)) (lastFree-ok n row (q .list) (w .hi) (q .hi) (omega (arith, B .order)))
+          let B = block-of-minima n (w .distances) (w .hi) (w .list) P l in
+          by (lastFree n row (q .list) (w .hi) (q .hi)) (lastFree-sought n row (q .list) (w .hi) (q .hi) (omega (arith, B .order)))
         where
           by : (o : LastFree) → Sought n row (q .list) (w .hi) (q .hi) o → Goal o
           by (At j) S = (is-left tt, refl)
           by NoneYet S =
-              let B = block-ok n (w .distances) (w .hi) (w .list) P l in
+              let B = block-of-minima n (w .distances) (w .hi) (w .list) P l in
               let r = scan-same (w .hi) q (record { permutation = B .permutation; few = omega (arith, B .order); paired = S }) (omega arith) in
               (after (w .hi) (q .hi) (scan n cost v row (w .hi) q) (r .0), ap (afterScan (w .hi) (q .hi)) (r .1))
 

@@ -2,13 +2,13 @@
 -- more, and each distance is reached along a column that stands earlier in the list. Assumes nothing.
 use mathlib.Core.Path.{_≡_, refl, sym, ap, _∙_, subst}
 use mathlib.Core.Logic.{_≢_, _⊎_, inl, inr, ⊎-elim}
-use mathlib.Core.Bool.{true, cond}
+use mathlib.Core.Bool.{Bool, true, false, cond, true≢false}
 use Prim.Native.Nat.{ℕ, suc, _+_, _≤_, _<_}
 use native.Mathlib.Decide.{ℕ-discrete}
 use native.Mathlib.Omega.{arith}
 use borrow.Author.Tests.{ltb-true, ltb-false}
 use lib.IntN.{ℤ, pos, _+ℤ_, _-ℤ_}
-use lib.Signed.{_≤ℤ_, _<ℤ_, ltZ}
+use lib.Signed.{_≤ℤ_, _<ℤ_, ltZ, leZ}
 use lib.ListN.{length, length-set}
 use lib.Seq.{getD-set-same, getD-set-other}
 use lib.Dec.{ltb}
@@ -19,18 +19,27 @@ use Rattle.lists.specs.Runs.{Turn, on, left}
 use Rattle.lists.specs.Permutations.{at, Permutation}
 use Rattle.lists.proofs.Permutations.{exchange-second, exchange-first, exchange-other, exchange-permutation}
 use Rattle.lists.proofs.Leaving.{Either, goes-on, is-left}
-use Rattle.assignment.specs.Pairings.{price}
+use Rattle.lists.proofs.Cases.{cond-cases, lt-or-le, here-or-elsewhere}
+use Rattle.assignment.specs.Pairings.{signedAt}
 use Rattle.rules.specs.Lowest.{reduced}
 use Rattle.rules.specs.Search.{Work, Hit, same, reachBy, join, afterLowering, scanColumn}
-use Rattle.rules.proofs.Cases.{cond-cases, lt-or-le, here-or-elsewhere, same-true}
-use Rattle.rules.proofs.Prices.{Fair}
+use Rattle.rules.specs.Asked.{Fair}
+
+-- Two distances that the test finds equal are equal.
+pub same-true : (x y : ℤ) → same x y ≡ true → x ≡ y
+same-true x y e = by (leZ x y) refl (leZ y x) refl e
+  where
+    by : (a : Bool) → leZ x y ≡ a → (b : Bool) → leZ y x ≡ b → cond a b false ≡ true → x ≡ y
+    by true p true q z = omega zarith
+    by true p false q z = absurd (true≢false (sym z))
+    by false p b q z = absurd (true≢false (sym z))
 
 -- The column at place t, and how far column j lies.
 abbrev pub place : Work → ℕ → ℕ
 place w t = at (w .list) t
 
 abbrev pub far : Work → ℕ → ℤ
-far w j = price (w .distances) j
+far w j = signedAt (w .distances) j
 
 -- A search from row s; `floor` is at most each reduced cost of row s.
 module _ (n : ℕ) (cost : ℕ → ℕ → ℤ) (v : ℕ → ℤ) (row : ℕ → ℕ) (s : ℕ) (floor : ℤ) where
@@ -241,9 +250,9 @@ module _ (n : ℕ) (cost : ℕ → ℕ → ℤ) (v : ℕ → ℤ) (row : ℕ →
           counted = M .counted;
         }
 
-    pub scanColumn-ok : (k : ℕ) (w : Work) → Seeing ready k₀ μ j₀ c k w → k < n
+    pub scanColumn-sees-or-reaches : (k : ℕ) (w : Work) → Seeing ready k₀ μ j₀ c k w → k < n
         → Either (Seeing ready k₀ μ j₀ c (suc k)) (Reaches ready k₀ μ c) (scanColumn n cost v row μ (R i₀ j₀ -ℤ μ) i₀ k w)
-    scanColumn-ok k w M l =
+    scanColumn-sees-or-reaches k w M l =
         cond-cases (ltZ x (far w j)) G (afterLowering n row μ k j x q) (on w)
         (λ a. cond-cases (same x μ) G (cond (ltb (row j) n) (on (join q k)) (left (record { column = j; work = q }))) (on q)
         (λ b. cond-cases (ltb (row j) n) G (on (join q k)) (left (record { column = j; work = q }))

@@ -14,11 +14,11 @@ use Rattle.ints.proofs.Ranges.{zarith}
 use Rattle.lists.specs.Runs.{on, until}
 use Rattle.lists.proofs.Injections.{reached}
 use Rattle.lists.proofs.Leaving.{Either, goes-on, either-map, until-keeps}
+use Rattle.lists.proofs.Cases.{cond-cases, here-or-elsewhere}
 use Rattle.rules.specs.Lowest.{reduced}
 use Rattle.rules.specs.Search.{Work, Hit, countOne, scanColumn, scanRow, scan}
-use Rattle.rules.proofs.Cases.{cond-cases, here-or-elsewhere}
-use Rattle.rules.proofs.Prices.{Fair}
-use Rattle.rules.proofs.Scan.{place, far, FromColumn, Relaxed, Scanning, Seeing, Reaches, scanColumn-ok}
+use Rattle.rules.specs.Asked.{Fair}
+use Rattle.rules.proofs.Scan.{place, far, FromColumn, Relaxed, Scanning, Seeing, Reaches, scanColumn-sees-or-reaches}
 
 module _ (n : ℕ) (cost : ℕ → ℕ → ℤ) (v : ℕ → ℤ) (row : ℕ → ℕ) (s : ℕ) (floor : ℤ) (ready : ℕ) (μ : ℤ) where
   -- The columns before place k have been scanned, and no more than those were counted.
@@ -106,8 +106,8 @@ module _ (n : ℕ) (cost : ℕ → ℕ → ℤ) (v : ℕ → ℤ) (row : ℕ →
           (subst (λ (x : ℕ). (far w y +ℤ reduced cost v (row x) x) ≤ℤ (μ +ℤ reduced cost v (row x) y)) (sym (M .here)) p)
 
   -- The row of the column at place k sees the columns after the block.
-  pub scanRow-ok : (k : ℕ) (w : Work) → C k w → k < w .hi → Either (C (suc k)) L (scanRow n cost v row k w)
-  scanRow-ok k w D l =
+  pub scanRow-counted-or-left : (k : ℕ) (w : Work) → C k w → k < w .hi → Either (C (suc k)) L (scanRow n cost v row k w)
+  scanRow-counted-or-left k w D l =
       let I = D .scanning in
       let j = place w k in
       let c = w .scanned + 1 in
@@ -116,7 +116,7 @@ module _ (n : ℕ) (cost : ℕ → ℕ → ℤ) (v : ℕ → ℤ) (row : ℕ →
       let Q : Hit → Type 0 = Reaches n cost v row s floor ready k μ c in
       let run : Either (P n) Q (until (w .hi) n (scanColumn n cost v row μ (reduced cost v (row j) j -ℤ μ) (row j)) (countOne w)) =
       until-keeps P Q (w .hi) n (scanColumn n cost v row μ (reduced cost v (row j) j -ℤ μ) (row j)) (countOne w) (I .order .2) (see-start k w I l)
-      (λ t x a m M. scanColumn-ok n cost v row s floor F ready k μ j c t x M m) in
+      (λ t x a m M. scanColumn-sees-or-reaches n cost v row s floor F ready k μ j c t x M m) in
       either-map
       (subst (λ (y : ℤ). Either (P n) Q (until (w .hi) n (scanColumn n cost v row y (reduced cost v (row j) j -ℤ y) (row j)) (countOne w))) (sym e) run)
       (λ x M. record {
@@ -131,12 +131,12 @@ module _ (n : ℕ) (cost : ℕ → ℕ → ℤ) (v : ℕ → ℤ) (row : ℕ →
       })
 
   -- The block's columns from place lo on.
-  pub scan-ok : (lo : ℕ) (w : Work) → lo ≤ n → C lo w → Either (C n) L (scan n cost v row lo w)
+  pub scan-counted-or-left : (lo : ℕ) (w : Work) → lo ≤ n → C lo w → Either (C n) L (scan n cost v row lo w)
   unfolding scan
-  scan-ok lo w l D =
+  scan-counted-or-left lo w l D =
       until-keeps C L lo n (λ k x. cond (ltb k (x .hi)) (scanRow n cost v row k x) (on x)) w l D
       (λ k x a m E. cond-cases (ltb k (x .hi)) (Either (C (suc k)) L) (scanRow n cost v row k x) (on x)
-      (λ t. scanRow-ok k x E (ltb-true k (x .hi) t))
+      (λ t. scanRow-counted-or-left k x E (ltb-true k (x .hi) t))
       (λ t. goes-on (past k x E (ltb-false k (x .hi) t))))
     where
       past : (k : ℕ) (x : Work) → C k x → x .hi ≤ k → C (suc k) x

@@ -11,17 +11,17 @@ use Rattle.lists.specs.Runs.{Turn, on, left}
 use Rattle.lists.proofs.Injections.{reached}
 use Rattle.lists.proofs.Tables.{length-table, getD-table}
 use Rattle.lists.proofs.Leaving.{Either, goes-on, is-left, either-map, until-keeps, until-longer}
+use Rattle.lists.proofs.Cases.{lt-or-le}
 use Rattle.rules.specs.declared.LastFree.{LastFree}
 use Rattle.rules.specs.declared.LastFree.the-variants.{NoneYet, At}
 use Rattle.rules.specs.Lowest.{reduced}
 use Rattle.rules.specs.Block.{Block, block}
 use Rattle.rules.specs.Search.{Work, Hit, Found, scan, lastFree, freshBlock, found, afterScan, afterBlock, searchBlock, searchBlocks, searchStart, foundAt, search}
-use Rattle.rules.proofs.Cases.{lt-or-le}
-use Rattle.rules.proofs.Prices.{Fair}
-use Rattle.rules.proofs.Block.{IsBlock, block-ok}
-use Rattle.rules.proofs.FreeColumns.{Sought, lastFree-ok}
+use Rattle.rules.specs.Asked.{Fair}
+use Rattle.rules.proofs.Block.{IsBlock, block-of-minima}
+use Rattle.rules.proofs.FreeColumns.{Sought, lastFree-sought}
 use Rattle.rules.proofs.Scan.{place, far, FromColumn, Root, Relaxed, Sound}
-use Rattle.rules.proofs.Scans.{Counted, LeftAt, scan-ok}
+use Rattle.rules.proofs.Scans.{Counted, LeftAt, scan-counted-or-left}
 
 module _ (n : ℕ) (cost : ℕ → ℕ → ℤ) (v : ℕ → ℤ) (row : ℕ → ℕ) (s : ℕ) (floor : ℤ) where
   -- Between two blocks: the columns before hi are settled.
@@ -66,7 +66,7 @@ module _ (n : ℕ) (cost : ℕ → ℕ → ℤ) (v : ℕ → ℤ) (row : ℕ →
     q = freshBlock n lo w
 
     isB : IsBlock n (w .distances) lo (w .list) n b
-    isB = block-ok n (w .distances) lo (w .list) (H .sound .permutation) l
+    isB = block-of-minima n (w .distances) lo (w .list) (H .sound .permutation) l
 
     lo-hi : lo ≤ q .hi
     lo-hi = omega (arith, isB .order)
@@ -198,8 +198,8 @@ module _ (n : ℕ) (cost : ℕ → ℕ → ℤ) (v : ℕ → ℤ) (row : ℕ →
         ]
 
     -- One block: at least one column more is settled, or the search is left.
-    pub searchBlock-ok : (w : Work) → Head w → Either (λ x. Head x × (w .hi < x .hi)) Good (searchBlock n cost v row w)
-    searchBlock-ok w H = by (lastFree n row (q w H l .list) (w .hi) (q w H l .hi)) (lastFree-ok n row (q w H l .list) (w .hi) (q w H l .hi) (lo-hi w H l))
+    pub searchBlock-grows-or-ends : (w : Work) → Head w → Either (λ x. Head x × (w .hi < x .hi)) Good (searchBlock n cost v row w)
+    searchBlock-grows-or-ends w H = by (lastFree n row (q w H l .list) (w .hi) (q w H l .hi)) (lastFree-sought n row (q w H l .list) (w .hi) (q w H l .hi) (lo-hi w H l))
       where
         l : w .hi < n
         l = head-open w H
@@ -215,18 +215,18 @@ module _ (n : ℕ) (cost : ℕ → ℕ → ℤ) (v : ℕ → ℤ) (row : ℕ →
           subst (λ (x : ℕ). Ended (found (w .hi) (record { lo = w .hi; hi = q w H l .hi }) x (q w H l)) (b w H l .minimum)) (S .3)
               (to-end w H l (S .0) (S .1) (S .2) (subst (λ (x : ℕ). n ≤ row x) (sym (S .3)) (S .4))),
         )
-        by NoneYet S = after (scan n cost v row (w .hi) (q w H l)) (scan-ok n cost v row s floor F (w .hi) (b w H l .minimum) (w .hi) (q w H l) (omega (arith, l)) (to-scan w H l S))
+        by NoneYet S = after (scan n cost v row (w .hi) (q w H l)) (scan-counted-or-left n cost v row s floor F (w .hi) (b w H l .minimum) (w .hi) (q w H l) (omega (arith, l)) (to-scan w H l S))
 
     -- Within m blocks: m columns are settled, or the search is left.
-    blocks-ok : (m : ℕ) (w : Work) → Head w → Either (λ x. Head x × (m ≤ x .hi)) Good (searchBlocks n cost v row m w)
+    blocks-grow-or-end : (m : ℕ) (w : Work) → Head w → Either (λ x. Head x × (m ≤ x .hi)) Good (searchBlocks n cost v row m w)
     unfolding searchBlocks
-    blocks-ok m w H =
+    blocks-grow-or-end m w H =
         until-keeps (λ k x. Head x × (k ≤ x .hi)) Good 0 m (λ k x. searchBlock n cost v row x) w (omega arith) (H, omega arith)
-        (λ k x a l P. either-map (searchBlock-ok x (P .0)) (λ z Q. (Q .0, omega (arith, P .1, Q .1))) (λ f G. G))
+        (λ k x a l P. either-map (searchBlock-grows-or-ends x (P .0)) (λ z Q. (Q .0, omega (arith, P .1, Q .1))) (λ f G. G))
 
     -- n blocks are enough.
     pub blocks-end : (w : Work) → Head w → (f : Found) × (searchBlocks n cost v row n w ≡ left f) × Good f
-    blocks-end w H = by (searchBlocks n cost v row n w) (blocks-ok n w H)
+    blocks-end w H = by (searchBlocks n cost v row n w) (blocks-grow-or-end n w H)
       where
         by : (t : Turn Work Found) → Either (λ x. Head x × (n ≤ x .hi)) Good t → (f : Found) × (t ≡ left f) × Good f
         by (on x) (goes-on P) = absurd (omega (arith, P .1, head-open x (P .0)))
@@ -272,9 +272,9 @@ module _ (n : ℕ) (cost : ℕ → ℕ → ℤ) (v : ℕ → ℤ) (row : ℕ →
     unfolding search
     search-left = let r = is-left-at in r .1 ∙ ap (λ (t : Turn Work Found). left (foundAt t)) (sym (r .1))
 
-    pub search-ok : Good (search n cost v row s)
+    pub search-good : Good (search n cost v row s)
     unfolding search
-    search-ok = let r = is-left-at in subst (λ (t : Turn Work Found). Good (foundAt t)) (sym (r .1)) (r .2)
+    search-good = let r = is-left-at in subst (λ (t : Turn Work Found). Good (foundAt t)) (sym (r .1)) (r .2)
 
     pub search-enough : (m : ℕ) → n ≤ m → searchBlocks n cost v row m (searchStart n cost v row s) ≡ left (search n cost v row s)
     unfolding searchBlocks

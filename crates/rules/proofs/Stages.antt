@@ -10,22 +10,21 @@ use Rattle.ints.specs.Parts.{Within}
 use Rattle.ints.proofs.Shapes.{zlin}
 use Rattle.lists.specs.Permutations.{at}
 use Rattle.lists.proofs.Runs.{upward-none}
-use Rattle.assignment.specs.Pairings.{price}
-use Rattle.rules.specs.declared.Counts.{Counts}
+use Rattle.assignment.specs.Pairings.{signedAt}
 use Rattle.rules.specs.Columns.{free, Stage, columnReduction}
 use Rattle.rules.specs.Rows.{looks, passStart, passEnd, rowReduction}
-use Rattle.rules.specs.Augmentation.{State, augment, augments, augmentation}
+use Rattle.rules.specs.Augmentation.{Progress, augment, augments, augmentation}
 use Rattle.rules.specs.Run.{Stages, stages, countsOf}
 use Rattle.rules.specs.Right.{CountsRight}
+use Rattle.rules.specs.Asked.{Paired, Can}
 use Rattle.rules.proofs.Prices.{all-near}
-use Rattle.rules.proofs.Pairs.{Paired}
 use Rattle.rules.proofs.Kept.{Kept, within-five}
 use Rattle.rules.proofs.Claims.{first, first-low, first-within}
 use Rattle.rules.proofs.Transfers.{Good, columnReduction-good}
 use Rattle.rules.proofs.Passes.{looks-none}
-use Rattle.rules.proofs.RowReduction.{PassOf, rowReduction-ok}
-use Rattle.rules.proofs.Augment.{Can, Gain}
-use Rattle.rules.proofs.Augmentation.{Augmented, augmented-can, augments-ok, augmented-paired}
+use Rattle.rules.proofs.RowReduction.{PassOf, rowReduction-pass-of}
+use Rattle.rules.proofs.Augment.{Gain}
+use Rattle.rules.proofs.Augmentation.{Augmented, augmented-can, augmented-and-kept, augmented-paired}
 
 -- A pass over no rows changes nothing, and makes no look.
 pub no-rows-no-pass : (n : ℕ) (cost : ℕ → ℕ → ℤ) (s : Stage) → s .count ≡ 0 → rowReduction n cost s ≡ passStart s
@@ -46,14 +45,14 @@ module _ (n : ℕ) (cost : ℕ → ℕ → ℤ) (one : 1 ≤ n) (K : ℕ) (costs
   v₀ = first n cost one
 
   -- A search keeps what every stage keeps.
-  pub gain-kept : (x : State) (s : ℕ) (y : State) → Kept n cost K costs v₀ (x .pairs) (x .prices) → Gain n cost x s y → Kept n cost K costs v₀ (y .pairs) (y .prices)
+  pub gain-kept : (x : Progress) (s : ℕ) (y : Progress) → Kept n cost K costs v₀ (x .pairs) (x .prices) → Gain n cost x s y → Kept n cost K costs v₀ (y .pairs) (y .prices)
   gain-kept x s y κ g =
       let f = g .reached-free .0 in
       let lf = g .reached-free .1 in
-      let ef : price (y .prices) f ≡ v₀ f = g .reached-free .3 ∙ κ .free-untouched f lf (g .reached-free .2) in
-      let untouched : (k : ℕ) → k < n → n ≤ at (y .pairs .rows) k → price (y .prices) k ≡ v₀ k =
+      let ef : signedAt (y .prices) f ≡ v₀ f = g .reached-free .3 ∙ κ .free-untouched f lf (g .reached-free .2) in
+      let untouched : (k : ℕ) → k < n → n ≤ at (y .pairs .rows) k → signedAt (y .prices) k ≡ v₀ k =
       λ k l h. g .free-untouched k l h .1 ∙ κ .free-untouched k l (g .free-untouched k l h .0) in
-      let all = all-near n cost K costs (price (y .prices)) (at (y .pairs .rows)) f lf (record { low = omega (zlin, ef, first-low n cost one K costs f .low) }) (g .fair)
+      let all = all-near n cost K costs (signedAt (y .prices)) (at (y .pairs .rows)) f lf (record { low = omega (zlin, ef, first-low n cost one K costs f .low) }) (g .fair)
       (λ k l h. record { low = omega (zlin, untouched k l h, first-low n cost one K costs k .low) }) in
       record {
         agree = g .agree;
@@ -61,14 +60,14 @@ module _ (n : ℕ) (cost : ℕ → ℕ → ℤ) (one : 1 ≤ n) (K : ℕ) (costs
         fair = g .fair;
         free-untouched = untouched;
         not-risen = λ k l. omega (zlin, g .not-risen k l, κ .not-risen k l);
-        single = λ a k l. subst (λ (z : ℕ). price (y .prices) z ≡ v₀ z) (let e : f ≡ k = omega arith in e) ef;
+        single = λ a k l. subst (λ (z : ℕ). signedAt (y .prices) z ≡ v₀ z) (let e : f ≡ k = omega arith in e) ef;
         bounds = record { one = f; one-low = record { low = omega (arith, all f lf .low) }; others-low = λ k l d. all k l };
       }
 
   -- ---- the last stage
 
   module _ (s : Stage) (G : Good n cost one K costs s) where
-    abbrev x₀ : State
+    abbrev x₀ : Progress
     x₀ = record { pairs = s .pairs; prices = s .prices; scanned = 0 }
 
     start-augmented : Augmented n cost (s .frees) (s .count) x₀ 0 x₀
@@ -91,13 +90,13 @@ module _ (n : ℕ) (cost : ℕ → ℕ → ℤ) (one : 1 ≤ n) (K : ℕ) (costs
         → Augmented n cost (s .frees) (s .count) x₀ m (augments n cost (s .frees) m x₀)
         × Kept n cost K costs v₀ (augments n cost (s .frees) m x₀ .pairs) (augments n cost (s .frees) m x₀ .prices)
     augments-kept =
-        augments-ok n cost (s .frees) (s .count) (λ x. Kept n cost K costs v₀ (x .pairs) (x .prices))
+        augmented-and-kept n cost (s .frees) (s .count) (λ x. Kept n cost K costs v₀ (x .pairs) (x .prices))
         (λ x r κ C g. gain-kept x r (augment n cost x r) κ g) x₀ start-augmented (G .kept)
 
     -- What search m finds: a state from which its row can get a column, and prices within 5K.
-    pub record SearchReady (m : ℕ) (x : State) : Type 0 where
+    pub record SearchReady (m : ℕ) (x : Progress) : Type 0 where
       pub can : Can n cost x (at (s .frees) m)
-      pub prices-within : (k : ℕ) → Within (5 * K) (price (x .prices) k)
+      pub prices-within : (k : ℕ) → Within (5 * K) (signedAt (x .prices) k)
       pub scanned-few : x .scanned ≤ m * (n - 1)
 
     pub search-ready : (m : ℕ) → m < s .count → SearchReady m (augments n cost (s .frees) m x₀)
@@ -111,14 +110,14 @@ module _ (n : ℕ) (cost : ℕ → ℕ → ℤ) (one : 1 ≤ n) (K : ℕ) (costs
         }
 
     -- All rows paired, all kept, and at most n - 1 columns scanned for each row left.
-    pub record Last (x : State) : Type 0 where
+    pub record Last (x : Progress) : Type 0 where
       pub all-paired : (i : ℕ) → i < n → Paired (x .pairs) i
       pub kept : Kept n cost K costs v₀ (x .pairs) (x .prices)
       pub scanned-few : x .scanned ≤ s .count * (n - 1)
 
-    pub augmentation-ok : Last (augmentation n cost s)
+    pub augmentation-last : Last (augmentation n cost s)
     unfolding augmentation
-    augmentation-ok =
+    augmentation-last =
         let x = augments n cost (s .frees) (s .count) x₀ in
         let A = augments-kept (s .count) (omega arith) in
         record { all-paired = augmented-paired n cost (s .frees) (s .count) x₀ x (A .0); kept = A .1; scanned-few = omega (arith, A .0 .scanned-few) }
@@ -138,9 +137,9 @@ module _ (n : ℕ) (cost : ℕ → ℕ → ℤ) (one : 1 ≤ n) (K : ℕ) (costs
       let s = columnReduction n cost in
       let G = columnReduction-good n cost one K costs room in
       let a = rowReduction n cost s in
-      let Q = rowReduction-ok n cost one K costs s G in
-      let R = rowReduction-ok n cost one K costs (passEnd a) (Q .good) in
-      let L = augmentation-ok (passEnd (rowReduction n cost (passEnd a))) (R .good) in
+      let Q = rowReduction-pass-of n cost one K costs s G in
+      let R = rowReduction-pass-of n cost one K costs (passEnd a) (Q .good) in
+      let L = augmentation-last (passEnd (rowReduction n cost (passEnd a))) (R .good) in
       record {
         columns-good = G;
         pass-one = Q;

@@ -17,22 +17,22 @@ use Rattle.lists.specs.Permutations.{at, table}
 use Rattle.lists.proofs.Runs.{upward-keeps}
 use Rattle.lists.proofs.InStep.{upward-both, upward-picture}
 use Rattle.lists.proofs.Tables.{length-table, getD-constant, table-cong}
-use Rattle.assignment.specs.Pairings.{price}
+use Rattle.lists.proofs.Cases.{cond-cases, cond-both, set-below}
+use Rattle.assignment.specs.Pairings.{signedAt}
 use Rattle.assignment.specs.Amounts.{risen}
 use Rattle.assignment.proofs.Amounts.{price-risen}
 use Rattle.rules.specs.declared.Low.{Low}
 use Rattle.rules.specs.declared.TwoLowest.{TwoLowest}
 use Rattle.rules.specs.declared.TwoLowest.the-variants.{One, Two}
-use Rattle.rules.specs.declared.Least.{Least}
-use Rattle.rules.specs.declared.Least.the-variants.{NoneYet, Of}
+use Rattle.rules.specs.declared.LeastSoFar.{LeastSoFar}
+use Rattle.rules.specs.declared.LeastSoFar.the-variants.{NoneYet, Of}
 use Rattle.rules.specs.declared.Choice.{Choice}
 use Rattle.rules.specs.Lowest.{reduced, twoLowest, leastBut}
 use Rattle.rules.specs.Columns.{Stage, minimum, Claims, claim, claims, Transfer, lessLeast, lowerColumn, transfer, untransferred, transfers, stageOf, columnReduction}
 use Rattle.rules.specs.Rows.{Passing, Placed, keepPrice, lowerPrice, choose, passAt, settle, isEarly, look, looks, passStart, passEnd, rowReduction}
-use Rattle.rules.specs.Search.{Found, search, raise, newPrices}
-use Rattle.rules.specs.Augmentation.{State, augmentBy, augment, augments, augmentation}
+use Rattle.rules.specs.Search.{Found, search, addDistance, newPrices}
+use Rattle.rules.specs.Augmentation.{Progress, augmentBy, augment, augments, augmentation}
 use Rattle.rules.specs.Run.{Stages, stages}
-use Rattle.rules.proofs.Cases.{cond-cases, cond-both, set-below}
 use Rattle.rules.proofs.Lowest.{twoLowest-cong, leastBut-cong}
 use Rattle.rules.proofs.Risen.{set-risen, table-risen, Added, reduced-same, lowPlus, lowest-plus}
 use Rattle.rules.proofs.SameSearch.{search-same}
@@ -49,7 +49,7 @@ module _ (amount : ℕ → ℤ) where
   abbrev pub risenPassing : Passing → Passing
   risenPassing x = record { pairs = x .pairs; prices = risen amount (x .prices); frees = x .frees; pass = x .pass }
 
-  abbrev pub risenState : State → State
+  abbrev pub risenState : Progress → Progress
   risenState x = record { pairs = x .pairs; prices = risen amount (x .prices); scanned = x .scanned }
 
   abbrev pub risenStages : Stages → Stages
@@ -85,17 +85,17 @@ module _ (n : ℕ) (one : 1 ≤ n) (amount : ℕ → ℤ) (cost cost′ : ℕ �
       ap (λ (v : List ℤ). record { prices = v; frees = table n (λ i. 0); count = 0 })
       (table-risen amount n (λ j. minimum n cost j .value) (λ j. minimum n cost′ j .value) (λ j l. ap (λ (a : Low). a .value) (minimum-plus j l)))
 
-  lessLeast-plus : (x y d : ℤ) (h : Least) → y ≡ x +ℤ d → lessLeast y h ≡ lessLeast x h +ℤ d
+  lessLeast-plus : (x y d : ℤ) (h : LeastSoFar) → y ≡ x +ℤ d → lessLeast y h ≡ lessLeast x h +ℤ d
   lessLeast-plus x y d NoneYet e = e
   lessLeast-plus x y d (Of h) e = omega (zlin, dif x h)
 
   lowerColumn-risen : (i j : ℕ) (v : List ℤ) → i < n → length v ≡ n → lowerColumn n cost′ i j (risen amount v) ≡ risen amount (lowerColumn n cost i j v)
   lowerColumn-risen i j v l size =
-      ap (λ (h : Least). set (risen amount v) j (lessLeast (price (risen amount v) j) h))
-      (leastBut-cong n (reduced cost′ (price (risen amount v)) i) (reduced cost (price v) i) j (λ k m. reduced-same n amount cost cost′ added v size i k l m))
-      ∙ set-risen amount v j (lessLeast (price v j) (leastBut n (reduced cost (price v) i) j))
-      (lessLeast (price (risen amount v) j) (leastBut n (reduced cost (price v) i) j))
-      (λ m. lessLeast-plus (price v j) (price (risen amount v) j) (amount j) (leastBut n (reduced cost (price v) i) j) (price-risen amount v j m))
+      ap (λ (h : LeastSoFar). set (risen amount v) j (lessLeast (signedAt (risen amount v) j) h))
+      (leastBut-cong n (reduced cost′ (signedAt (risen amount v)) i) (reduced cost (signedAt v) i) j (λ k m. reduced-same n amount cost cost′ added v size i k l m))
+      ∙ set-risen amount v j (lessLeast (signedAt v j) (leastBut n (reduced cost (signedAt v) i) j))
+      (lessLeast (signedAt (risen amount v) j) (leastBut n (reduced cost (signedAt v) i) j))
+      (λ m. lessLeast-plus (signedAt v j) (signedAt (risen amount v) j) (amount j) (leastBut n (reduced cost (signedAt v) i) j) (price-risen amount v j m))
 
   -- A row of the transfer, in step.
   abbrev StepTransfer : Transfer → Transfer → Type 0
@@ -145,12 +145,12 @@ module _ (n : ℕ) (one : 1 ≤ n) (amount : ℕ → ℤ) (cost cost′ : ℕ �
     Settles w w′ = settle n (risenPassing amount x) i w′ ≡ risenPassing amount (settle n x i w)
 
     keeps : (j : ℕ) → Settles (keepPrice v j) (keepPrice (risen amount v) j)
-    keeps j = ap (withPrices (settle n x i (keepPrice v j))) (set-risen amount v j (price v j) (price (risen amount v) j) (price-risen amount v j))
+    keeps j = ap (withPrices (settle n x i (keepPrice v j))) (set-risen amount v j (signedAt v j) (signedAt (risen amount v) j) (price-risen amount v j))
 
     lowers : (j : ℕ) (a b : ℤ) → Settles (lowerPrice v j a b) (lowerPrice (risen amount v) j a b)
     lowers j a b =
         ap (withPrices (settle n x i (lowerPrice v j a b)))
-        (set-risen amount v j (price v j -ℤ (b -ℤ a)) (price (risen amount v) j -ℤ (b -ℤ a)) (λ l. omega (zlin, price-risen amount v j l, dif (price v j) (b -ℤ a))))
+        (set-risen amount v j (signedAt v j -ℤ (b -ℤ a)) (signedAt (risen amount v) j -ℤ (b -ℤ a)) (λ l. omega (zlin, price-risen amount v j l, dif (signedAt v j) (b -ℤ a))))
 
     choose-settles : (early : Bool) (rows : List ℕ) (t : TwoLowest) → Settles (choose n early v rows t) (choose n early (risen amount v) rows t)
     choose-settles early rows (One a) = keeps (a .place)
@@ -187,11 +187,11 @@ module _ (n : ℕ) (one : 1 ≤ n) (amount : ℕ → ℤ) (cost cost′ : ℕ �
       let v = x .prices in
       let early = isEarly n (x .pass) in
       let rows = x .pairs .rows in (
-        settle-range x i (choose n early v rows (twoLowest n (reduced cost (price v) i))) R,
+        settle-range x i (choose n early v rows (twoLowest n (reduced cost (signedAt v) i))) R,
         ap (λ (t : TwoLowest). settle n (risenPassing amount x) i (choose n early (risen amount v) rows t))
-            (twoLowest-cong n (reduced cost′ (price (risen amount v)) i) (reduced cost (price v) i) one
+            (twoLowest-cong n (reduced cost′ (signedAt (risen amount v)) i) (reduced cost (signedAt v) i) one
             (λ j l. reduced-same n amount cost cost′ added v (R .prices-size) i j (R .rows-below (x .pass .current)) l))
-            ∙ choose-settles x i early rows (twoLowest n (reduced cost (price v) i)),
+            ∙ choose-settles x i early rows (twoLowest n (reduced cost (signedAt v) i)),
       )
 
   looks-step : (count m : ℕ) (x : Passing) → InRange n (x .prices) (x .frees)
@@ -208,39 +208,39 @@ module _ (n : ℕ) (one : 1 ≤ n) (amount : ℕ → ℤ) (cost cost′ : ℕ �
 
   -- ---- rules 5 and 6
 
-  raise-risen : (d : List ℤ) (minimum : ℤ) (j : ℕ) (v : List ℤ) → raise d minimum j (risen amount v) ≡ risen amount (raise d minimum j v)
-  raise-risen d minimum j v =
-      let z = price d j -ℤ minimum in
-      set-risen amount v j (price v j +ℤ z) (price (risen amount v) j +ℤ z) (λ l. omega (zlin, price-risen amount v j l, sum (price v j) z, sum (price v j) (amount j)))
+  addDistance-risen : (d : List ℤ) (minimum : ℤ) (j : ℕ) (v : List ℤ) → addDistance d minimum j (risen amount v) ≡ risen amount (addDistance d minimum j v)
+  addDistance-risen d minimum j v =
+      let z = signedAt d j -ℤ minimum in
+      set-risen amount v j (signedAt v j +ℤ z) (signedAt (risen amount v) j +ℤ z) (λ l. omega (zlin, price-risen amount v j l, sum (signedAt v j) z, sum (signedAt v j) (amount j)))
 
   newPrices-risen : (f : Found) (v : List ℤ) → newPrices f (risen amount v) ≡ risen amount (newPrices f v)
   unfolding newPrices
   newPrices-risen f v =
       let w = f .work in
-      let m = price (w .distances) (at (w .list) (f .cursor .lo)) in
-      upward-both (λ k x y. y ≡ risen amount x) 0 (f .ready) (λ k. raise (w .distances) m (at (w .list) k)) (λ k. raise (w .distances) m (at (w .list) k)) v (risen amount v)
+      let m = signedAt (w .distances) (at (w .list) (f .cursor .lo)) in
+      upward-both (λ k x y. y ≡ risen amount x) 0 (f .ready) (λ k. addDistance (w .distances) m (at (w .list) k)) (λ k. addDistance (w .distances) m (at (w .list) k)) v (risen amount v)
       (omega arith) refl
-      (λ k x y a l e. ap (raise (w .distances) m (at (w .list) k)) e ∙ raise-risen (w .distances) m (at (w .list) k) x)
+      (λ k x y a l e. ap (addDistance (w .distances) m (at (w .list) k)) e ∙ addDistance-risen (w .distances) m (at (w .list) k) x)
 
   newPrices-length : (f : Found) (v : List ℤ) → length (newPrices f v) ≡ length v
   unfolding newPrices
   newPrices-length f v =
       let w = f .work in
-      let m = price (w .distances) (at (w .list) (f .cursor .lo)) in
-      upward-keeps (λ k x. length x ≡ length v) 0 (f .ready) (λ k. raise (w .distances) m (at (w .list) k)) v (omega arith) refl
+      let m = signedAt (w .distances) (at (w .list) (f .cursor .lo)) in
+      upward-keeps (λ k x. length x ≡ length v) 0 (f .ready) (λ k. addDistance (w .distances) m (at (w .list) k)) v (omega arith) refl
       (λ k x a l e. simp length-set e)
 
-  abbrev StepState : State → State → Type 0
+  abbrev StepState : Progress → Progress → Type 0
   StepState x y = (length (x .prices) ≡ n) × (y ≡ risenState amount x)
 
-  augment-step : (x : State) (s : ℕ) → s < n → length (x .prices) ≡ n → StepState (augment n cost x s) (augment n cost′ (risenState amount x) s)
+  augment-step : (x : Progress) (s : ℕ) → s < n → length (x .prices) ≡ n → StepState (augment n cost x s) (augment n cost′ (risenState amount x) s)
   augment-step x s l size =
       let v = x .prices in
       let row = at (x .pairs .rows) in
-      let f = search n cost (price v) row s in (
+      let f = search n cost (signedAt v) row s in (
         newPrices-length f v ∙ size,
         ap (augmentBy n (risenState amount x) s)
-            (search-same n cost′ cost (price (risen amount v)) (price v) row (λ i j h m. reduced-same n amount cost cost′ added v size i j h m) s l)
+            (search-same n cost′ cost (signedAt (risen amount v)) (signedAt v) row (λ i j h m. reduced-same n amount cost cost′ added v size i j h m) s l)
             ∙ ap (λ (z : List ℤ). record { pairs = augmentBy n x s f .pairs; prices = z; scanned = x .scanned + f .work .scanned }) (newPrices-risen f v),
       )
 

@@ -14,7 +14,7 @@ use Rattle.lists.specs.Runs.{turns, upward, downward, until}
 use Rattle.lists.specs.Sums.{sum}
 use Rattle.lists.specs.Permutations.{at, table}
 use Rattle.lists.proofs.Tables.{table-cong}
-use Rattle.assignment.specs.Pairings.{Least, square, price, total}
+use Rattle.assignment.specs.Pairings.{Least, square, signedAt, total}
 use Rattle.assignment.specs.Amounts.{ColumnAmounts, RowAmounts, only, risen}
 use Rattle.assignment.proofs.Amounts.{column-amounts-total, row-amounts-least, sum-only, risen-only}
 use Rattle.rules.specs.Lowest.{reduced, twoLowest, lowest, leastBut}
@@ -23,7 +23,7 @@ use Rattle.rules.specs.Columns.{free, claims, transfers, columnReduction
 use Rattle.rules.specs.Rows.{looks, rowReduction}
 use Rattle.rules.specs.Search.{scan, lastFree, searchBlocks, search, newPrices}
 use Rattle.rules.specs.Augmentation.{flips, augments, augmentation}
-use Rattle.rules.specs.Run.{stages, rowPrices, Answer, answerOf, run}
+use Rattle.rules.specs.Run.{stages, rowPrices, Result, answerOf, run}
 use Rattle.rules.specs.Right.{Right}
 use Rattle.rules.specs.Nights.{even, rowDearer}
 use Rattle.rules.specs.Surcharge.{surcharged}
@@ -33,11 +33,11 @@ use Rattle.rules.proofs.Run.{side-zero, run-right}
 
 -- ---- what the run owes on any costs: every list of costs lies within some bound
 
-pub bounded : (costs : List ℤ) → (K : ℕ) × ((k : ℕ) → Within K (price costs k))
+pub bounded : (costs : List ℤ) → (K : ℕ) × ((k : ℕ) → Within K (signedAt costs k))
 bounded [] = (0, λ k. record { low = omega arith; high = omega arith })
 bounded (c ∷ costs) = let r = bounded costs in (r .0 + up c + down c, within r)
   where
-    within : (r : (K : ℕ) × ((k : ℕ) → Within K (price costs k))) (k : ℕ) → Within (r .0 + up c + down c) (price (c ∷ costs) k)
+    within : (r : (K : ℕ) × ((k : ℕ) → Within K (signedAt costs k))) (k : ℕ) → Within (r .0 + up c + down c) (signedAt (c ∷ costs) k)
     within r zero = record { low = omega arith; high = omega arith }
     within r (suc k) = let w = r .1 k in record { low = omega arith; high = omega arith }
 
@@ -59,7 +59,7 @@ module _ (n : ℕ) (room : n ≤ free) (amount : ℕ → ℤ) (costs costs′ : 
   row-prices-same : (cols : List ℕ) (v : List ℤ) → length v ≡ n → ((i : ℕ) → i < n → at cols i < n)
       → rowPrices n cost′ cols (risen amount v) ≡ rowPrices n cost cols v
   row-prices-same cols v size inside =
-      table-cong n (λ i. reduced cost′ (price (risen amount v)) i (at cols i)) (λ i. reduced cost (price v) i (at cols i))
+      table-cong n (λ i. reduced cost′ (signedAt (risen amount v)) i (at cols i)) (λ i. reduced cost (signedAt v) i (at cols i))
       (λ i l. reduced-same n amount cost cost′ added v size i (at cols i) l (inside i l))
 
   some-surcharge : 1 ≤ n → run n costs′ ≡ surcharged n amount (run n costs)
@@ -89,12 +89,12 @@ run-surcharge (suc m) room amount costs costs′ with-amounts = some-surcharge (
 -- One column: its price and the total rise by the amount. (That the other prices stay is `set`.)
 pub run-one-surcharge : (n : ℕ) → n ≤ free → (c : ℕ) → c < n → (a : ℤ) (costs costs′ : List ℤ)
     → ColumnAmounts (square n costs) (only c a) (square n costs′ .cost)
-    → (run n costs′ .columnPrices ≡ set (run n costs .columnPrices) c (price (run n costs .columnPrices) c +ℤ a))
+    → (run n costs′ .columnPrices ≡ set (run n costs .columnPrices) c (signedAt (run n costs .columnPrices) c +ℤ a))
     × (run n costs′ .total ≡ run n costs .total +ℤ a)
 run-one-surcharge n room c l a costs costs′ with-amounts =
     let e = run-surcharge n room (only c a) costs costs′ with-amounts in (
-      ap (λ (x : Answer). x .columnPrices) e ∙ risen-only c a (run n costs .columnPrices) (omega (arith, run-right-bounded n costs room .column-prices-size)),
-      ap (λ (x : Answer). x .total) e ∙ ap (λ (z : ℤ). run n costs .total +ℤ z) (sum-only c a n l),
+      ap (λ (x : Result). x .columnPrices) e ∙ risen-only c a (run n costs .columnPrices) (omega (arith, run-right-bounded n costs room .column-prices-size)),
+      ap (λ (x : Result). x .total) e ∙ ap (λ (z : ℤ). run n costs .total +ℤ z) (sum-only c a n l),
     )
 
 -- ---- an amount on each row

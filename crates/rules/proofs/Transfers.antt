@@ -18,21 +18,21 @@ use Rattle.ints.proofs.Shapes.{zlin}
 use Rattle.lists.specs.Permutations.{at, table}
 use Rattle.lists.proofs.Runs.{upward-keeps}
 use Rattle.lists.proofs.Tables.{length-table, getD-table}
-use Rattle.assignment.specs.Pairings.{price}
-use Rattle.rules.specs.declared.Least.{Least}
-use Rattle.rules.specs.declared.Least.the-variants.{NoneYet, Of}
+use Rattle.lists.proofs.Cases.{cond-cases, here-or-elsewhere}
+use Rattle.assignment.specs.Pairings.{signedAt}
+use Rattle.rules.specs.declared.LeastSoFar.{LeastSoFar}
+use Rattle.rules.specs.declared.LeastSoFar.the-variants.{NoneYet, Of}
 use Rattle.rules.specs.Lowest.{reduced, leastBut}
 use Rattle.rules.specs.Columns.{free, Pairs, Stage, Claims, claims, Transfer, lessLeast, lowerColumn, transfer, untransferred, transfers, columnReduction}
-use Rattle.rules.proofs.Cases.{cond-cases, here-or-elsewhere}
+use Rattle.rules.specs.Asked.{Agree}
 use Rattle.rules.proofs.Lowest.{RightBut, leastBut-is}
-use Rattle.rules.proofs.Pairs.{Agree}
 use Rattle.rules.proofs.Lowering.{Lowers}
 use Rattle.rules.proofs.Kept.{Listed, Kept, within-five, step}
-use Rattle.rules.proofs.Claims.{first, first-cost, first-least, first-low, first-within, Claimed, claims-ok}
+use Rattle.rules.proofs.Claims.{first, first-cost, first-least, first-low, first-within, Claimed, claimed-all}
 
 -- A price at its cost, less the least of the other reduced costs.
 less-lowers : (n : ℕ) (cost : ℕ → ℕ → ℤ) (v : ℕ → ℤ) (i j : ℕ) → j < n → v j ≡ cost i j → ((k : ℕ) → k < n → v k ≤ℤ cost i k)
-    → (o : Least) → RightBut (reduced cost v i) j n o → Lowers n cost v i j (lessLeast (v j) o)
+    → (o : LeastSoFar) → RightBut (reduced cost v i) j n o → Lowers n cost v i j (lessLeast (v j) o)
 less-lowers n cost v i j l e h NoneYet r = record {
   column-below = l;
   not-raised = ≤ℤ-refl (v j);
@@ -80,7 +80,7 @@ module _ (n : ℕ) (cost : ℕ → ℕ → ℤ) (one : 1 ≤ n) (K : ℕ) (costs
     -- The rows below m are done; the columns of later rows still have their minimum as price.
     pub record Transferred (m : ℕ) (x : Transfer) : Type 0 where
       pub kept : Kept n cost K costs v₀ pairs (x .prices)
-      pub waiting : (k : ℕ) → k < n → m ≤ row k → price (x .prices) k ≡ v₀ k
+      pub waiting : (k : ℕ) → k < n → m ≤ row k → signedAt (x .prices) k ≡ v₀ k
       pub frees-size : length (x .frees) ≡ n
       pub count-few : x .count ≤ m
       pub listed-below : (t : ℕ) → t < x .count → at (x .frees) t < m
@@ -88,7 +88,7 @@ module _ (n : ℕ) (cost : ℕ → ℕ → ℤ) (one : 1 ≤ n) (K : ℕ) (costs
       pub once : (t u : ℕ) → t < x .count → u < x .count → at (x .frees) t ≡ at (x .frees) u → t ≡ u
       pub unmarked-listed : (i : ℕ) → i < m → at (s .marks) i ≡ 0 → (t : ℕ) × (t < x .count) × (at (x .frees) t ≡ i)
 
-    start-kept : (v : List ℤ) → length v ≡ n → ((k : ℕ) → k < n → price v k ≡ v₀ k) → Kept n cost K costs v₀ pairs v
+    start-kept : (v : List ℤ) → length v ≡ n → ((k : ℕ) → k < n → signedAt v k ≡ v₀ k) → Kept n cost K costs v₀ pairs v
     start-kept v z e = record {
       agree = agree;
       prices-size = z;
@@ -141,7 +141,7 @@ module _ (n : ℕ) (cost : ℕ → ℕ → ℤ) (one : 1 ≤ n) (K : ℕ) (costs
           }
 
       -- A claimed row: the list stays, and so do the prices of columns whose rows come later.
-      passes : 1 ≤ at (s .marks) m → (v : List ℤ) → Kept n cost K costs v₀ pairs v → ((k : ℕ) → k < n → suc m ≤ row k → price v k ≡ price (x .prices) k)
+      passes : 1 ≤ at (s .marks) m → (v : List ℤ) → Kept n cost K costs v₀ pairs v → ((k : ℕ) → k < n → suc m ≤ row k → signedAt v k ≡ signedAt (x .prices) k)
           → Transferred (suc m) (record { prices = v; frees = x .frees; count = x .count })
       passes z v κ e = record {
         kept = κ;
@@ -158,7 +158,7 @@ module _ (n : ℕ) (cost : ℕ → ℕ → ℤ) (one : 1 ≤ n) (K : ℕ) (costs
       lowers : at (s .marks) m ≡ 1 → Transferred (suc m) (record { prices = lowerColumn n cost m (at (s .cols) m) (x .prices); frees = x .frees; count = x .count })
       lowers z =
           let j = at (s .cols) m in
-          let v : ℕ → ℤ = price (x .prices) in
+          let v : ℕ → ℤ = signedAt (x .prices) in
           let o = leastBut n (reduced cost v m) j in
           let lj : j < n = C .cols-below m lm in
           let hj : row j ≡ m = C .marked-held m lm (omega arith) .1 in
@@ -170,8 +170,8 @@ module _ (n : ℕ) (cost : ℕ → ℕ → ℤ) (one : 1 ≤ n) (K : ℕ) (costs
           j lj (record { low = omega (zlin, vj, first-low n cost one K costs j .low) }) m w pairs agree hj lm (λ k d. refl))
           (λ k l h. getD-set-other (x .prices) j k (lessLeast (v j) o) (pos 0) (λ y. omega (arith, ap row y)))
 
-      pub transfer-ok : Transferred (suc m) (transfer n cost s m x)
-      transfer-ok =
+      pub transferred-more : Transferred (suc m) (transfer n cost s m x)
+      transferred-more =
           let a : Transfer = record { prices = x .prices; frees = set (x .frees) (x .count) m; count = x .count + 1 } in
           let b : Transfer = record { prices = lowerColumn n cost m (at (s .cols) m) (x .prices); frees = x .frees; count = x .count } in
           cond-cases (eqb (at (s .marks) m) 0) (Transferred (suc m)) a (cond (eqb (at (s .marks) m) 1) b x)
@@ -180,8 +180,8 @@ module _ (n : ℕ) (cost : ℕ → ℕ → ℤ) (one : 1 ≤ n) (K : ℕ) (costs
           (λ u. lowers (eqb-true (at (s .marks) m) 1 u))
           (λ u. passes (omega (arith, eqb-false (at (s .marks) m) 0 t)) (x .prices) (T .kept) (λ k l h. refl)))
 
-    pub untransferred-ok : Transferred 0 (untransferred n cost)
-    untransferred-ok = record {
+    pub transferred-none : Transferred 0 (untransferred n cost)
+    transferred-none = record {
       kept = start-kept (table n v₀) (length-table n v₀) (λ k h. getD-table n v₀ (pos 0) k h);
       waiting = λ k h a. getD-table n v₀ (pos 0) k h;
       frees-size = length-table {A = ℕ} n (λ i. 0);
@@ -192,12 +192,12 @@ module _ (n : ℕ) (cost : ℕ → ℕ → ℤ) (one : 1 ≤ n) (K : ℕ) (costs
       unmarked-listed = λ i h. absurd (omega arith);
     }
 
-    pub transfers-ok : Transferred n (transfers n cost s)
+    pub transferred-all : Transferred n (transfers n cost s)
     unfolding transfers
-    transfers-ok = upward-keeps Transferred 0 n (transfer n cost s) (untransferred n cost) (omega arith) untransferred-ok (λ k x a l T. transfer-ok k l x T)
+    transferred-all = upward-keeps Transferred 0 n (transfer n cost s) (untransferred n cost) (omega arith) transferred-none (λ k x a l T. transferred-more k l x T)
 
     -- At each row the prices lie within 5K.
-    pub transferred-within : (m : ℕ) (x : Transfer) → Transferred m x → (k : ℕ) → Within (5 * K) (price (x .prices) k)
+    pub transferred-within : (m : ℕ) (x : Transfer) → Transferred m x → (k : ℕ) → Within (5 * K) (signedAt (x .prices) k)
     transferred-within m x T =
         within-five n cost K costs v₀ (first-low n cost one K costs) pairs (x .prices) (T .kept) (first-within n cost one K costs)
 
@@ -220,6 +220,6 @@ module _ (n : ℕ) (cost : ℕ → ℕ → ℤ) (one : 1 ≤ n) (K : ℕ) (costs
   unfolding columnReduction
   columnReduction-good room =
       let s = claims n cost in
-      let C = claims-ok n cost one room in
-      let T = transfers-ok s C in
+      let C = claimed-all n cost one room in
+      let T = transferred-all s C in
       record { kept = T .kept; frees-size = T .frees-size; count-few = T .count-few; listed = transferred-listed s C (transfers n cost s) T }

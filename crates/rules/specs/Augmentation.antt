@@ -7,7 +7,7 @@ use lib.IntN.{ℤ}
 use lib.Dec.{eqb}
 use Rattle.lists.specs.Runs.{upward, Turn, on, left, until}
 use Rattle.lists.specs.Permutations.{at}
-use Rattle.assignment.specs.Pairings.{price}
+use Rattle.assignment.specs.Pairings.{signedAt}
 use Rattle.rules.specs.Columns.{Pairs, Stage}
 use Rattle.rules.specs.Rows.{takeColumn}
 use Rattle.rules.specs.Search.{Found, search, newPrices}
@@ -34,13 +34,13 @@ flipped (left pairs) = pairs
 flipped (on o) = o .pairs
 
 -- Pairs, column prices and the columns scanned.
-pub record State : Type 0 where
+pub record Progress : Type 0 where
   pub pairs : Pairs
   pub prices : List ℤ
   pub scanned : ℕ
 
 -- What a search found changes the prices, and the pairs flip back from its column to row s.
-abbrev pub augmentBy : ℕ → State → ℕ → Found → State
+abbrev pub augmentBy : ℕ → Progress → ℕ → Found → Progress
 augmentBy n x s f = record {
   pairs = flipped (flips n s (f .work .predecessors) (record { column = f .column; pairs = x .pairs }));
   prices = newPrices f (x .prices);
@@ -48,13 +48,13 @@ augmentBy n x s f = record {
 }
 
 -- Row s gets a column.
-abbrev pub augment : ℕ → (ℕ → ℕ → ℤ) → State → ℕ → State
-augment n cost x s = augmentBy n x s (search n cost (price (x .prices)) (at (x .pairs .rows)) s)
+abbrev pub augment : ℕ → (ℕ → ℕ → ℤ) → Progress → ℕ → Progress
+augment n cost x s = augmentBy n x s (search n cost (signedAt (x .prices)) (at (x .pairs .rows)) s)
 
 -- The first m rows of the list, in list order.
-unfoldable pub augments : ℕ → (ℕ → ℕ → ℤ) → List ℕ → ℕ → State → State
+unfoldable pub augments : ℕ → (ℕ → ℕ → ℤ) → List ℕ → ℕ → Progress → Progress
 augments n cost frees m x = upward 0 m (λ k y. augment n cost y (at frees k)) x
 
 -- Rule 6.
-unfoldable pub augmentation : ℕ → (ℕ → ℕ → ℤ) → Stage → State
+unfoldable pub augmentation : ℕ → (ℕ → ℕ → ℤ) → Stage → Progress
 augmentation n cost s = augments n cost (s .frees) (s .count) (record { pairs = s .pairs; prices = s .prices; scanned = 0 })

@@ -8,7 +8,7 @@ use lib.IntN.{ℤ}
 use lib.Signed.{ltZ, leZ}
 use Rattle.lists.specs.Runs.{upward}
 use Rattle.lists.specs.Permutations.{at, exchange}
-use Rattle.assignment.specs.Pairings.{price}
+use Rattle.assignment.specs.Pairings.{signedAt}
 
 -- The column list, with the block from lo up to, not including, hi; and the block's minimum.
 pub record Block : Type 0 where
@@ -23,12 +23,12 @@ blockWith b k h hi = record { hi = hi + 1; minimum = h; list = exchange (b .list
 -- The column at place k: a smaller distance restarts the block at lo, an equal one is swapped to its end.
 abbrev pub blockStep : List ℤ → ℕ → ℕ → Block → Block
 blockStep distances lo k b =
-    let h = price distances (at (b .list) k) in
+    let h = signedAt distances (at (b .list) k) in
     cond (leZ h (b .minimum)) (blockWith b k h (cond (ltZ h (b .minimum)) lo (b .hi))) b
 
--- Before the places after lo are looked at.
+-- Before the places after lo are passed.
 abbrev pub blockStart : List ℤ → ℕ → List ℕ → Block
-blockStart distances lo list = record { hi = lo + 1; minimum = price distances (at list lo); list = list }
+blockStart distances lo list = record { hi = lo + 1; minimum = signedAt distances (at list lo); list = list }
 
 -- The block of minima of a list of n columns from lo on.
 unfoldable pub block : ℕ → List ℤ → ℕ → List ℕ → Block

@@ -7,10 +7,10 @@ use lib.ListN.{set}
 use lib.Dec.{eqb}
 use Rattle.lists.specs.Runs.{upward, downward}
 use Rattle.lists.specs.Permutations.{at, table}
-use Rattle.assignment.specs.Pairings.{price}
+use Rattle.assignment.specs.Pairings.{signedAt}
 use Rattle.rules.specs.declared.Low.{Low}
-use Rattle.rules.specs.declared.Least.{Least}
-use Rattle.rules.specs.declared.Least.the-variants.{NoneYet, Of}
+use Rattle.rules.specs.declared.LeastSoFar.{LeastSoFar}
+use Rattle.rules.specs.declared.LeastSoFar.the-variants.{NoneYet, Of}
 use Rattle.rules.specs.Lowest.{reduced, lowest, leastBut}
 
 -- The row of a free column: the free mark, which is no row.
@@ -69,13 +69,13 @@ pub record Transfer : Type 0 where
   pub count : ℕ
 
 -- A price, lowered by a least value. Side 1 has no other column, and there the price stays.
-abbrev pub lessLeast : ℤ → Least → ℤ
+abbrev pub lessLeast : ℤ → LeastSoFar → ℤ
 lessLeast v NoneYet = v
 lessLeast v (Of h) = v -ℤ h
 
 -- A unique row i lowers the price of its column j.
 abbrev pub lowerColumn : ℕ → (ℕ → ℕ → ℤ) → ℕ → ℕ → List ℤ → List ℤ
-lowerColumn n cost i j v = set v j (lessLeast (price v j) (leastBut n (reduced cost (price v) i) j))
+lowerColumn n cost i j v = set v j (lessLeast (signedAt v j) (leastBut n (reduced cost (signedAt v) i) j))
 
 -- Row i joins the free list, lowers its column's price, or does nothing.
 abbrev pub transfer : ℕ → (ℕ → ℕ → ℤ) → Claims → ℕ → Transfer → Transfer

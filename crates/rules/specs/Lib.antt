@@ -8,3 +8,4 @@ pub mod Run
 pub mod Right
 pub mod Nights
 pub mod Surcharge
+pub mod Asked

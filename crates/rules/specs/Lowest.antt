@@ -8,8 +8,8 @@ use Rattle.lists.specs.Runs.{upward}
 use Rattle.rules.specs.declared.Low.{Low}
 use Rattle.rules.specs.declared.TwoLowest.{TwoLowest}
 use Rattle.rules.specs.declared.TwoLowest.the-variants.{One, Two}
-use Rattle.rules.specs.declared.Least.{Least}
-use Rattle.rules.specs.declared.Least.the-variants.{NoneYet, Of}
+use Rattle.rules.specs.declared.LeastSoFar.{LeastSoFar}
+use Rattle.rules.specs.declared.LeastSoFar.the-variants.{NoneYet, Of}
 
 -- "Reduced cost of (i, j) is cost minus column price v[j]."
 abbrev pub reduced : (ℕ → ℕ → ℤ) → (ℕ → ℤ) → ℕ → ℕ → ℤ
@@ -44,10 +44,10 @@ unfoldable pub lowest : ℕ → (ℕ → ℤ) → Low
 lowest n f = upward 1 n (λ i found. lower found (low (f i) i)) (low (f 0) 0)
 
 -- A value beside the least so far.
-abbrev pub least : Least → ℤ → Least
+abbrev pub least : LeastSoFar → ℤ → LeastSoFar
 least NoneYet h = Of h
 least (Of a) h = Of (cond (ltZ h a) h a)
 
 -- The least of f 0, f 1, .., f (n - 1) but f j.
-unfoldable pub leastBut : ℕ → (ℕ → ℤ) → ℕ → Least
+unfoldable pub leastBut : ℕ → (ℕ → ℤ) → ℕ → LeastSoFar
 leastBut n f j = upward 0 n (λ k found. cond (eqb k j) found (least found (f k))) NoneYet

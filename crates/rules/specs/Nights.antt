@@ -42,6 +42,10 @@ five a b c d e = record { «free_rows» = a; «looks_one» = b; «looks_two» = 
 abbrev pub line : ℕ → List ℤ → List ℕ → List ℤ → List ℤ → ℤ → Counts → Line
 line n costs cols v rows total counts = record { side = n; costs = costs; cols = cols; v = v; rowPrices = rows; total = total; counts = counts }
 
+-- N8: [3 1 0 / 0 0 2 / 4 1 0], whose prices N9 and N10 take.
+abbrev pub n8 : Line
+n8 = line 3 (nats (3 ∷ 1 ∷ 0 ∷ 0 ∷ 0 ∷ 2 ∷ 4 ∷ 1 ∷ 0 ∷ [])) (2 ∷ 0 ∷ 1 ∷ []) (pos 0 ∷ pos 0 ∷ minus 1 ∷ []) (nats (1 ∷ 0 ∷ 1 ∷ [])) (pos 1) (five 1 1 1 1 1)
+
 -- A surcharge on a row: a night whose costs are all 0, and the same with 1 on row 0. The same pairings are least, and another is chosen.
 abbrev pub even : Line
 even = line 2 (nats (0 ∷ 0 ∷ 0 ∷ 0 ∷ [])) (1 ∷ 0 ∷ []) (nats (0 ∷ 0 ∷ [])) (nats (0 ∷ 0 ∷ [])) (pos 0) (five 1 1 0 0 0)
@@ -52,16 +56,24 @@ rowDearer = line 2 (nats (1 ∷ 1 ∷ 0 ∷ 0 ∷ [])) (0 ∷ 1 ∷ []) (nats (0
 -- N0 to N8, then eight nights that between them tell every slip that can be told, then the surcharge on a row.
 abbrev pub nights : List Line
 nights =
-    -- N0 to N8.
+    -- N0: side 0.
     line 0 [] [] [] [] (pos 0) (five 0 0 0 0 0)
+    -- N1: [7].
     ∷ line 1 (nats (7 ∷ [])) (0 ∷ []) (nats (7 ∷ [])) (nats (0 ∷ [])) (pos 7) (five 0 0 0 0 0)
+    -- N2: [1 2 / 3 4].
     ∷ line 2 (nats (1 ∷ 2 ∷ 3 ∷ 4 ∷ [])) (1 ∷ 0 ∷ []) (nats (1 ∷ 2 ∷ [])) (nats (0 ∷ 2 ∷ [])) (pos 5) (five 1 1 0 0 0)
+    -- N3: 3 by 3 zeros.
     ∷ line 3 (nats (table 9 (λ k. 0))) (2 ∷ 0 ∷ 1 ∷ []) (nats (0 ∷ 0 ∷ 0 ∷ [])) (nats (0 ∷ 0 ∷ 0 ∷ [])) (pos 0) (five 2 2 0 0 0)
+    -- N4: [1 5 / 6 2].
     ∷ line 2 (nats (1 ∷ 5 ∷ 6 ∷ 2 ∷ [])) (0 ∷ 1 ∷ []) (minus 2 ∷ minus 6 ∷ []) (nats (3 ∷ 8 ∷ [])) (pos 3) (five 0 0 0 0 0)
+    -- N5: [-K K / K -K].
     ∷ line 2 (minus K ∷ pos K ∷ pos K ∷ minus K ∷ []) (0 ∷ 1 ∷ []) (minus (3 * K) ∷ minus (5 * K) ∷ []) (pos (2 * K) ∷ pos (4 * K) ∷ []) (minus (2 * K)) (five 0 0 0 0 0)
+    -- N6: [1 2 / 1 5].
     ∷ line 2 (nats (1 ∷ 2 ∷ 1 ∷ 5 ∷ [])) (1 ∷ 0 ∷ []) (minus 2 ∷ pos 2 ∷ []) (nats (0 ∷ 3 ∷ [])) (pos 3) (five 1 1 0 0 0)
+    -- N7: [3 1 0 / 0 0 2 / 9 9 0].
     ∷ line 3 (nats (3 ∷ 1 ∷ 0 ∷ 0 ∷ 0 ∷ 2 ∷ 9 ∷ 9 ∷ 0 ∷ [])) (1 ∷ 0 ∷ 2 ∷ []) (pos 0 ∷ minus 2 ∷ minus 9 ∷ []) (nats (3 ∷ 0 ∷ 9 ∷ [])) (pos 1) (five 1 3 0 0 0)
-    ∷ line 3 (nats (3 ∷ 1 ∷ 0 ∷ 0 ∷ 0 ∷ 2 ∷ 4 ∷ 1 ∷ 0 ∷ [])) (2 ∷ 0 ∷ 1 ∷ []) (pos 0 ∷ pos 0 ∷ minus 1 ∷ []) (nats (1 ∷ 0 ∷ 1 ∷ [])) (pos 1) (five 1 1 1 1 1)
+    -- N8.
+    ∷ n8
     -- A fresh block with two free columns: the last is taken. And free rows in list order; an equal distance joins the block.
     ∷ line 5 (nats (1 ∷ 1 ∷ 1 ∷ 0 ∷ 0 ∷ 1 ∷ 1 ∷ 1 ∷ 0 ∷ 0 ∷ 1 ∷ 1 ∷ 1 ∷ 0 ∷ 0 ∷ 1 ∷ 1 ∷ 1 ∷ 0 ∷ 0 ∷ 1 ∷ 1 ∷ 1 ∷ 0 ∷ 0 ∷ [])) (4 ∷ 0 ∷ 2 ∷ 1 ∷ 3 ∷ []) (nats (1 ∷ 1 ∷ 1 ∷ 0 ∷ 0 ∷ [])) (nats (0 ∷ 0 ∷ 0 ∷ 0 ∷ 0 ∷ [])) (pos 3) (five 4 4 2 2 0)
     -- A hit in a scan: lo keeps its value, so v[2] and v[3] fall by 1 and not by 2. And a predecessor changes only on a lower distance.

@@ -8,7 +8,7 @@ use lib.ListN.{set}
 use lib.Dec.{ltb}
 use Rattle.lists.specs.Runs.{upward}
 use Rattle.lists.specs.Permutations.{at}
-use Rattle.assignment.specs.Pairings.{price}
+use Rattle.assignment.specs.Pairings.{signedAt}
 use Rattle.rules.specs.declared.TwoLowest.{TwoLowest}
 use Rattle.rules.specs.declared.TwoLowest.the-variants.{One, Two}
 use Rattle.rules.specs.declared.Choice.{Choice}
@@ -32,11 +32,11 @@ pub record Passing : Type 0 where
 
 -- Column j at the price that it has.
 abbrev pub keepPrice : List ℤ → ℕ → Choice
-keepPrice v j = record { column = j; price = price v j; back = false }
+keepPrice v j = record { column = j; price = signedAt v j; back = false }
 
 -- Column j at a price lowered by second minus lowest.
 abbrev pub lowerPrice : List ℤ → ℕ → ℤ → ℤ → Choice
-lowerPrice v j lowest second = record { column = j; price = price v j -ℤ (second -ℤ lowest); back = true }
+lowerPrice v j lowest second = record { column = j; price = signedAt v j -ℤ (second -ℤ lowest); back = true }
 
 -- What a row takes, from its two lowest. `early`: the counter is below current*n.
 abbrev pub choose : ℕ → Bool → List ℤ → List ℕ → TwoLowest → Choice
@@ -88,7 +88,7 @@ isEarly n p = ltb (p .looks + 1) ((p .current + 1) * n)
 abbrev pub look : ℕ → (ℕ → ℕ → ℤ) → Passing → Passing
 look n cost x =
     let i = at (x .frees) (x .pass .current) in
-    settle n x i (choose n (isEarly n (x .pass)) (x .prices) (x .pairs .rows) (twoLowest n (reduced cost (price (x .prices)) i)))
+    settle n x i (choose n (isEarly n (x .pass)) (x .prices) (x .pairs .rows) (twoLowest n (reduced cost (signedAt (x .prices)) i)))
 
 -- At most m looks, at the first `count` rows of the list.
 unfoldable pub looks : ℕ → (ℕ → ℕ → ℤ) → ℕ → ℕ → Passing → Passing

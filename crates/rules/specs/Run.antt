@@ -3,19 +3,19 @@ use mathlib.Core.List.{List}
 use Prim.Native.Nat.{ℕ}
 use lib.IntN.{ℤ}
 use Rattle.lists.specs.Permutations.{at, table}
-use Rattle.assignment.specs.Pairings.{square, price, total}
+use Rattle.assignment.specs.Pairings.{square, signedAt, total}
 use Rattle.rules.specs.declared.Counts.{Counts}
 use Rattle.rules.specs.Lowest.{reduced}
 use Rattle.rules.specs.Columns.{Stage, columnReduction}
 use Rattle.rules.specs.Rows.{Passing, rowReduction, passEnd}
-use Rattle.rules.specs.Augmentation.{State, augmentation}
+use Rattle.rules.specs.Augmentation.{Progress, augmentation}
 
 -- The run, stage by stage. "At most two passes, the second only if rows remain": a pass over no rows changes nothing.
 pub record Stages : Type 0 where
   pub columns : Stage
   pub passOne : Passing
   pub passTwo : Passing
-  pub last : State
+  pub last : Progress
 
 -- The stages of a night of side n.
 unfoldable pub stages : ℕ → (ℕ → ℕ → ℤ) → Stages
@@ -37,10 +37,10 @@ countsOf r = record {
 
 -- "Row price is cost minus v at the paired column."
 abbrev pub rowPrices : ℕ → (ℕ → ℕ → ℤ) → List ℕ → List ℤ → List ℤ
-rowPrices n cost cols v = table n (λ i. reduced cost (price v) i (at cols i))
+rowPrices n cost cols v = table n (λ i. reduced cost (signedAt v) i (at cols i))
 
 -- What a night comes to: the column of each row, the row of each column, the prices, the total and the counts.
-pub record Answer : Type 0 where
+pub record Result : Type 0 where
   pub cols : List ℕ
   pub rows : List ℕ
   pub rowPrices : List ℤ
@@ -49,7 +49,7 @@ pub record Answer : Type 0 where
   pub counts : Counts
 
 -- The answer from the stages. "For side 1, [..] v is the cost and the row price 0": there, rule 3 leaves the price where it is.
-abbrev pub answerOf : ℕ → List ℤ → Stages → Answer
+abbrev pub answerOf : ℕ → List ℤ → Stages → Result
 answerOf n costs r =
     let cols = r .last .pairs .cols in
     record {
@@ -62,5 +62,5 @@ answerOf n costs r =
     }
 
 -- The run on a list of n*n costs in row order.
-unfoldable pub run : ℕ → List ℤ → Answer
+unfoldable pub run : ℕ → List ℤ → Result
 run n costs = answerOf n costs (stages n (square n costs .cost))

@@ -8,7 +8,7 @@ use lib.ListN.{set}
 use lib.Dec.{ltb}
 use Rattle.lists.specs.Runs.{upward, Turn, on, left, until}
 use Rattle.lists.specs.Permutations.{at, table, exchange}
-use Rattle.assignment.specs.Pairings.{price}
+use Rattle.assignment.specs.Pairings.{signedAt}
 use Rattle.rules.specs.declared.Cursor.{Cursor}
 use Rattle.rules.specs.declared.LastFree.{LastFree}
 use Rattle.rules.specs.declared.LastFree.the-variants.{NoneYet, At}
@@ -70,13 +70,13 @@ module _ (n : ℕ) (cost : ℕ → ℕ → ℤ) (v : ℕ → ℤ) (row : ℕ →
   scanColumn minimum h i k w =
       let j = at (w .list) k in
       let x = reduced cost v i j -ℤ h in
-      cond (ltZ x (price (w .distances) j)) (afterLowering n row minimum k j x (reachBy w i j x)) (on w)
+      cond (ltZ x (signedAt (w .distances) j)) (afterLowering n row minimum k j x (reachBy w i j x)) (on w)
 
   -- The row of the column at place k sees all columns after the block.
   abbrev pub scanRow : ℕ → Work → Turn Work Hit
   scanRow k w =
       let j = at (w .list) k in
-      let minimum = price (w .distances) j in
+      let minimum = signedAt (w .distances) j in
       until (w .hi) n (scanColumn minimum (reduced cost v (row j) j -ℤ minimum) (row j)) (countOne w)
 
   -- The columns of the block from place lo on, those that join it included.
@@ -134,11 +134,11 @@ module _ (n : ℕ) (cost : ℕ → ℕ → ℤ) (v : ℕ → ℤ) (row : ℕ →
 -- ---- "Then each ready column (those listed before the last block) has its distance minus that block's minimum added to v."
 
 -- A column's price, with its distance minus the minimum added.
-abbrev pub raise : List ℤ → ℤ → ℕ → List ℤ → List ℤ
-raise distances minimum j v = set v j (price v j +ℤ (price distances j -ℤ minimum))
+abbrev pub addDistance : List ℤ → ℤ → ℕ → List ℤ → List ℤ
+addDistance distances minimum j v = set v j (signedAt v j +ℤ (signedAt distances j -ℤ minimum))
 
 -- The prices after a search.
 unfoldable pub newPrices : Found → List ℤ → List ℤ
 newPrices f v =
     let w = f .work in
-    upward 0 (f .ready) (λ k. raise (w .distances) (price (w .distances) (at (w .list) (f .cursor .lo))) (at (w .list) k)) v
+    upward 0 (f .ready) (λ k. addDistance (w .distances) (signedAt (w .distances) (at (w .list) (f .cursor .lo))) (at (w .list) k)) v

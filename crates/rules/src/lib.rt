@@ -13,7 +13,7 @@ pub enum TwoLowest {
 }
 
 // Rule 3: the least reduced cost over the other columns, once there is one.
-pub enum Least {
+pub enum LeastSoFar {
     NoneYet,
     Of(i64),
 }
@@ -44,7 +44,7 @@ pub struct Cursor {
     pub hi: usize,
 }
 
-// Rule 5: how the look of one row at the columns after the block ends: with the block's end, or at a free column.
+// Rule 5: how the scan of one column ends: with the block's end, or at a free column.
 pub enum ScanEnd {
     On(usize),
     Hit(usize),

@@ -1,4 +1,4 @@
--- Document 01's sheet and slip of side 1, byte for byte, and refusals in their order, by computation. Assumes nothing.
+-- Document 01's sheet of side 1 read and paired, and refusals in their order, by computation. Assumes nothing.
 use mathlib.Core.Path.{_≡_, refl}
 use mathlib.Core.List.{List, [], _∷_, _++_, flatMap}
 use Prim.Native.Nat.{ℕ, _+_, _*_}
@@ -7,8 +7,13 @@ use lib.ListN.{replicate}
 use Rattle.lists.specs.Permutations.{table}
 use Rattle.lists.specs.Runs.{turns, upward, downward, until, first}
 use Rattle.lists.specs.Sums.{sum}
+use Rattle.layout.specs.Values.{bytesOf, valueOf}
+use Rattle.layout.specs.Fields.{fields}
+use Rattle.layout.specs.Trailers.{sheetMark, trailer}
+use Rattle.layout.specs.Sheets.{sheetOf}
+use Rattle.layout.specs.Slips.{slipOf}
 use Rattle.matrix.specs.Limits.{K}
-use Rattle.matrix.specs.Refusals.{refuseIf, refuseAt}
+use Rattle.matrix.specs.Verdicts.{_then_, failsIf, failsAt}
 use Rattle.rules.specs.Lowest.{twoLowest, lowest, leastBut}
 use Rattle.rules.specs.Block.{block}
 use Rattle.rules.specs.Columns.{free, claims, transfers, columnReduction}
@@ -16,49 +21,33 @@ use Rattle.rules.specs.Rows.{looks, rowReduction}
 use Rattle.rules.specs.Search.{scan, lastFree, searchBlocks, search, newPrices}
 use Rattle.rules.specs.Augmentation.{flips, augments, augmentation}
 use Rattle.rules.specs.Run.{stages, run}
-use Rattle.sheet.specs.Numbers.{bytesOf, valueOf}
-use Rattle.sheet.specs.Layout.{sheetMark, trailer, sheetOf, slipOf, fields}
-use Rattle.sheet.specs.Reading.{sheetSide, sheetMost, tested, night, read}
+use Rattle.sheet.specs.Reading.{sheetSide, sheetMost, sheetTests, night, read}
 use Rattle.sheet.specs.Settle.{pair}
 
 -- "Side 1, cost 7, no note, is `07 00 00 00 04 00 00 00 01 00 01 00 4D 54 43 48`."
 sheet : List ℕ
 sheet = 0x07 ∷ 0 ∷ 0 ∷ 0 ∷ 0x04 ∷ 0 ∷ 0 ∷ 0 ∷ 0x01 ∷ 0 ∷ 0x01 ∷ 0 ∷ 0x4D ∷ 0x54 ∷ 0x43 ∷ 0x48 ∷ []
 
-sheet-bytes : sheetOf [] 1 (pos 7 ∷ []) ≡ sheet
-unfolding sheet bytesOf flatMap
-sheet-bytes = refl
-
 sheet-read : read 38 sheet ≡ night 1 (pos 7 ∷ [])
-unfolding sheet bytesOf valueOf fields table turns upward first K refuseIf refuseAt sheetSide sheetMost tested read
+unfolding sheet bytesOf valueOf fields table turns upward first K _then_ failsIf failsAt sheetSide sheetMost sheetTests read
 sheet-read = refl
 
--- "Its slip: `00 00`, eight `00`, `07` and seven `00`, `07` and seven `00`, then `1A 00 00 00 01 00 01 00 53 4C 49 50`."
-slip-bytes : slipOf 1 (0 ∷ []) (pos 0 ∷ []) (pos 7 ∷ []) (pos 7)
-    ≡ 0 ∷ 0
-    ∷ 0 ∷ 0 ∷ 0 ∷ 0 ∷ 0 ∷ 0 ∷ 0 ∷ 0
-    ∷ 0x07 ∷ 0 ∷ 0 ∷ 0 ∷ 0 ∷ 0 ∷ 0 ∷ 0
-    ∷ 0x07 ∷ 0 ∷ 0 ∷ 0 ∷ 0 ∷ 0 ∷ 0 ∷ 0
-    ∷ 0x1A ∷ 0 ∷ 0 ∷ 0 ∷ 0x01 ∷ 0 ∷ 0x01 ∷ 0 ∷ 0x53 ∷ 0x4C ∷ 0x49 ∷ 0x50 ∷ []
-unfolding bytesOf flatMap
-slip-bytes = refl
-
 -- The same sheet paired in a room of 40 bytes: the slip, and the last two bytes as they were.
-paired : pair sheet (replicate 40 9) ≡ record { number = 0; slip = slipOf 1 (0 ∷ []) (pos 0 ∷ []) (pos 7 ∷ []) (pos 7) ++ (9 ∷ 9 ∷ []) }
-unfolding sheet bytesOf valueOf flatMap fields table turns upward downward until first sum K refuseIf refuseAt sheetSide sheetMost tested read pair twoLowest lowest leastBut block free claims transfers columnReduction looks rowReduction scan lastFree searchBlocks search newPrices flips augments augmentation stages run
+paired : pair sheet (replicate 40 9) ≡ record { number = 0; slip = slipOf 1 1 (0 ∷ []) (pos 0 ∷ []) (pos 7 ∷ []) (pos 7) ++ (9 ∷ 9 ∷ []) }
+unfolding sheet bytesOf valueOf flatMap fields table turns upward downward until first sum K _then_ failsIf failsAt sheetSide sheetMost sheetTests read pair twoLowest lowest leastBut block free claims transfers columnReduction looks rowReduction scan lastFree searchBlocks search newPrices flips augments augmentation stages run
 paired = refl
 
 -- A room of 37 bytes is too short: 16, and nothing is written.
 short : pair sheet (replicate 37 9) ≡ record { number = 16; slip = replicate 37 9 }
-unfolding sheet bytesOf valueOf flatMap fields table turns upward downward until first sum K refuseIf refuseAt sheetSide sheetMost tested read pair twoLowest lowest leastBut block free claims transfers columnReduction looks rowReduction scan lastFree searchBlocks search newPrices flips augments augmentation stages run
+unfolding sheet bytesOf valueOf flatMap fields table turns upward downward until first sum K _then_ failsIf failsAt sheetSide sheetMost sheetTests read pair twoLowest lowest leastBut block free claims transfers columnReduction looks rowReduction scan lastFree searchBlocks search newPrices flips augments augmentation stages run
 short = refl
 
 -- 14 comes before 15 and 16: distance 8, side 1, no cost at all, no room.
-distance : pair (trailer 8 1 sheetMark) [] ≡ record { number = 14; slip = [] }
-unfolding bytesOf valueOf flatMap fields table turns upward downward until first sum K refuseIf refuseAt sheetSide sheetMost tested read pair twoLowest lowest leastBut block free claims transfers columnReduction looks rowReduction scan lastFree searchBlocks search newPrices flips augments augmentation stages run
+distance : pair (trailer 8 1 1 sheetMark) [] ≡ record { number = 14; slip = [] }
+unfolding bytesOf valueOf flatMap fields table turns upward downward until first sum K _then_ failsIf failsAt sheetSide sheetMost sheetTests read pair twoLowest lowest leastBut block free claims transfers columnReduction looks rowReduction scan lastFree searchBlocks search newPrices flips augments augmentation stages run
 distance = refl
 
 -- 5 has its place: the third cost of side 2 is K + 1.
 outside : pair (sheetOf (1 ∷ 2 ∷ 3 ∷ []) 2 (pos 0 ∷ negsuc 999999999 ∷ pos 1000000001 ∷ pos 0 ∷ [])) (replicate 56 9) ≡ record { number = 5 + 256 * 2; slip = replicate 56 9 }
-unfolding bytesOf valueOf flatMap fields table turns upward downward until first sum K refuseIf refuseAt sheetSide sheetMost tested read pair twoLowest lowest leastBut block free claims transfers columnReduction looks rowReduction scan lastFree searchBlocks search newPrices flips augments augmentation stages run
+unfolding bytesOf valueOf flatMap fields table turns upward downward until first sum K _then_ failsIf failsAt sheetSide sheetMost sheetTests read pair twoLowest lowest leastBut block free claims transfers columnReduction looks rowReduction scan lastFree searchBlocks search newPrices flips augments augmentation stages run
 outside = refl

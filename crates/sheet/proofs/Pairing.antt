@@ -1,55 +1,52 @@
 -- From what is settled of a sheet to what the front desk gets and finds: places are small, a night's slip fits its room, and what stands at the
 -- front of the arrays is the answer. Assumes nothing.
-use mathlib.Core.Path.{_≡_, refl, sym, ap, _∙_}
-use mathlib.Core.Bool.{Bool}
+use mathlib.Core.Path.{_≡_, refl, sym, ap, _∙_, subst}
 use mathlib.Core.List.{List, _++_}
-use Prim.Native.Nat.{ℕ, _*_, _-_, _^_, _≤_, _<_}
+use Prim.Native.Nat.{ℕ, _*_, _≤_, _<_}
 use native.Mathlib.Nat.{mul-le-mul}
 use native.Mathlib.Omega.{arith}
-use borrow.Author.Tests.{ltb-true, ltb-false}
-use lib.Dec.{lit<, ltb}
-use lib.IntN.{ℤ, pos}
+use lib.Dec.{lit<}
+use lib.IntN.{ℤ}
 use lib.ListN.{length, take, drop, length-append, length-drop}
 use lib.Seq.{take-at}
 use Rattle.ints.specs.Parts.{Within}
-use Rattle.lists.specs.Runs.{first}
-use Rattle.lists.proofs.Runs.{first-before}
-use Rattle.assignment.specs.Pairings.{price}
+use Rattle.layout.specs.Trailers.{sideOf}
+use Rattle.layout.specs.Slips.{slipOf, slipLength}
+use Rattle.layout.proofs.Fields.{length-fields}
+use Rattle.assignment.specs.Pairings.{signedAt}
 use Rattle.matrix.specs.Limits.{K}
-use Rattle.matrix.specs.Refusals.{placeOf, codeOf, refuseAt, outside}
+use Rattle.matrix.specs.Refusals.{codeOf}
+use Rattle.matrix.specs.Asked.{Tellable}
+use Rattle.matrix.specs.Verdicts.{Passes}
+use Rattle.matrix.specs.Tests.{costsWithin}
+use Rattle.matrix.specs.declared.Verdict.{Verdict}
+use Rattle.matrix.specs.declared.Verdict.the-variants.{Passed, Fails}
 use Rattle.matrix.specs.declared.Refusal.{Refusal}
-use Rattle.matrix.specs.declared.Refusal.the-variants.{CostOutside}
-use Rattle.matrix.proofs.Bounds.{outside-within}
-use Rattle.matrix.proofs.Refusals.{refuseIf-all}
-use Rattle.rules.specs.Run.{run}
-use Rattle.sheet.specs.declared.Tested.{Tested}
-use Rattle.sheet.specs.declared.Tested.the-variants as tests
+use Rattle.matrix.proofs.Verdicts as verdicts
+use Rattle.matrix.proofs.Verdicts.{then-small, failsIf-small, failsAt-small}
+use Rattle.matrix.proofs.Passed.{costs-within}
+use Rattle.lapjv.specs.Answers.{answer}
 use Rattle.sheet.specs.declared.State.{State}
-use Rattle.sheet.specs.declared.Verdict.the-variants.{Paired, Refused}
+use Rattle.sheet.specs.declared.Reply.the-variants.{Accepted, Refused}
 use Rattle.sheet.specs.declared.Settled.{Settled}
-use Rattle.sheet.specs.Numbers.{signedValue}
-use Rattle.sheet.specs.Layout.{slipOf, slipLength}
-use Rattle.sheet.specs.Reading.{sheetSide, costsOf, tested, Read, refused, night, readAfter, read}
-use Rattle.sheet.specs.Settle.{fresh, settledAs, Outcome, pairedAs}
+use Rattle.sheet.specs.Reading.{sheetSide, costsOf, sheetTests, Read, refused, night, nightIf, readIf, read}
+use Rattle.sheet.specs.Settle.{fresh, settledAs, Delivery, pairedAs}
 use Rattle.sheet.proofs.Limits.{sheetSide-small}
-use Rattle.sheet.proofs.Fields.{length-fields}
-use Rattle.sheet.proofs.Passing.{tested-passed, costs-found}
+use Rattle.sheet.proofs.Passing.{tests-passed, costs-found}
 
 -- ---- what was read
 
--- A refusal of the seven tests has a small place.
-abbrev Small : Tested → Type 0
-Small (tests.Refused refusal) = placeOf refusal < 2 ^ 48
-Small (tests.Side n) = Unit {0}
-
-tested-small : (room : ℕ) (sheet : List ℕ) → Small (tested room sheet)
-unfolding tested
-tested-small room sheet =
-    refuseIf-all Small _ _ _ (λ e. lit< tt)
-    (λ e. refuseIf-all Small _ _ _ (λ e. lit< tt)
-    (λ e. refuseIf-all Small _ _ _ (λ e. lit< tt)
-    (λ e. refuseIf-all Small _ _ _ (λ e. lit< tt)
-    (λ e. refuseIf-all Small _ _ _ (λ e. lit< tt) (λ e. refuseIf-all Small _ _ _ (λ e. lit< tt) (λ e. refuseIf-all Small _ _ _ (λ e. lit< tt) (λ e. tt)))))))
+tests-small : (room : ℕ) (sheet : List ℕ) → verdicts.Small (sheetTests room sheet)
+unfolding sheetTests
+tests-small room sheet =
+    then-small _ _
+    (then-small _ _
+    (then-small _ _
+    (then-small _ _ (then-small _ _ (then-small _ _ (failsIf-small _ _ _ (lit< tt) (λ e. lit< tt)) (λ e. failsIf-small _ _ _ (lit< tt) (λ e. lit< tt))) (λ e. failsIf-small _ _ _ (lit< tt) (λ e. lit< tt)))
+    (λ e. failsIf-small _ _ _ (lit< tt) (λ e. lit< tt)))
+    (λ e. failsIf-small _ _ _ (lit< tt) (λ e. lit< tt)))
+    (λ e. failsIf-small _ _ _ (lit< tt) (λ e. lit< tt)))
+    (λ e. failsIf-small _ _ _ (lit< tt) (λ e. lit< tt))
 
 -- What is known of a night that was read: state and room are large enough, and its costs are a square of costs in -K..K.
 pub record Readable (room n : ℕ) (costs : List ℤ) : Type 0 where
@@ -57,34 +54,31 @@ pub record Readable (room n : ℕ) (costs : List ℤ) : Type 0 where
   pub few : n ≤ 64
   pub roomy : slipLength n ≤ room
   pub squared : length costs ≡ n * n
-  pub within : (k : ℕ) → k < length costs → Within K (price costs k)
+  pub within : (k : ℕ) → k < length costs → Within K (signedAt costs k)
 
--- A refusal's place is small.
+-- A refusal is told by one number.
 abbrev pub Right : ℕ → Read → Type 0
-Right room (refused refusal) = placeOf refusal < 2 ^ 48
+Right room (refused refusal) = Tellable refusal
 Right room (night n costs) = Readable room n costs
 
+night-right : (room n : ℕ) (costs : List ℤ) (verdict : Verdict) → verdicts.Small verdict → (Passes verdict → Readable room n costs) → Right room (nightIf n costs verdict)
+night-right room n costs Passed h f = f refl
+night-right room n costs (Fails refusal) h f = h
+
 pub read-right : (room : ℕ) (sheet : List ℕ) → Right room (read room sheet)
-unfolding read refuseAt
-read-right room sheet = by (tested room sheet) refl (tested-small room sheet)
+unfolding read
+read-right room sheet = by (sheetTests room sheet) refl (tests-small room sheet)
   where
-    by : (t : Tested) → tested room sheet ≡ t → Small t → Right room (readAfter sheet t)
-    by (tests.Refused refusal) e small = small
-    by (tests.Side n) e small =
-        let p = tested-passed room sheet n e in
+    by : (v : Verdict) → sheetTests room sheet ≡ v → verdicts.Small v → Right room (readIf sheet v)
+    by (Fails refusal) e small = small
+    by Passed e small =
+        let p = tests-passed room sheet e in
+        let n = sideOf sheet in
         let few : n ≤ 64 = omega (arith, p .small, sheetSide-small) in
         let costs = costsOf sheet in
-        let far : ℕ → Bool = λ k. outside (pos K) (price costs k) in
-        let size : length costs ≡ n * n = ap length (costs-found room sheet n p) ∙ length-fields (signedValue 4) (length sheet - 12 - 4 * (n * n)) 4 (n * n) sheet in
-        refuseIf-all (Right room) (ltb (first (n * n) far) (n * n)) (refused (CostOutside (first (n * n) far))) (night n costs)
-        (λ t. omega (arith, ltb-true (first (n * n) far) (n * n) t, mul-le-mul few few))
-        (λ t. record {
-          small = p .small;
-          few = few;
-          roomy = p .roomy;
-          squared = size;
-          within = λ k l. outside-within K (price costs k) .0 (first-before far (n * n) k (omega (arith, ltb-false (first (n * n) far) (n * n) t)));
-        })
+        let size : length costs ≡ n * n = ap length (costs-found room sheet p) ∙ length-fields _ _ 4 (n * n) sheet in
+        night-right room n costs (costsWithin costs) (failsAt-small _ _ _ _ (lit< tt) (λ k l. omega (arith, size, mul-le-mul few few)))
+        (λ passes. record { small = p .small; few = few; roomy = p .roomy; squared = size; within = costs-within costs .0 passes })
 
 -- ---- what is settled
 
@@ -100,25 +94,25 @@ front a d n e f h = take-at a (drop n d) n (omega (arith, length-append a (drop 
 
 -- What the front desk gets of a sheet that was read as x and settled as s.
 module _ (room : List ℕ) (s : Settled) where
-  pub refused-outcome : (x : Read) → Right (length room) x → s ≡ settledAs x → (refusal : Refusal) → s .verdict ≡ Refused refusal
-      → (placeOf refusal < 2 ^ 48) × (_≡_ {A = Outcome} (record { number = codeOf refusal; slip = room }) (pairedAs room x))
+  pub refused-outcome : (x : Read) → Right (length room) x → s ≡ settledAs x → (refusal : Refusal) → s .reply ≡ Refused refusal
+      → (Tellable refusal) × (_≡_ {A = Delivery} (record { number = codeOf refusal; slip = room }) (pairedAs room x))
   refused-outcome (refused given) right e refusal v =
-      let same : given ≡ refusal = cc (ap (λ (t : Settled). t .verdict) e) in
-      (omega (arith, right, ap placeOf same), ap (λ (r : Refusal). record { number = codeOf r; slip = room }) (sym same))
-  refused-outcome (night n costs) right e refusal v = let z : _≡_ {A = ℕ} 0 1 = cc (ap (λ (t : Settled). t .verdict) e) in absurd (omega arith)
+      let same : given ≡ refusal = cc (ap (λ (t : Settled). t .reply) e) in
+      (subst Tellable same right, ap (λ (r : Refusal). record { number = codeOf r; slip = room }) (sym same))
+  refused-outcome (night n costs) right e refusal v = let z : _≡_ {A = ℕ} 0 1 = cc (ap (λ (t : Settled). t .reply) e) in absurd (omega arith)
 
   -- The slip that is written from the front of the arrays.
   abbrev written : ℕ → ℤ → State → List ℕ
-  written n total state = slipOf n (take n (state .cols)) (take n (state .«row_prices»)) (take n (state .«col_prices»)) total ++ drop (slipLength n) room
+  written n total state = slipOf 1 n (take n (state .cols)) (take n (state .«row_prices»)) (take n (state .«col_prices»)) total ++ drop (slipLength n) room
 
-  pub paired-outcome : (x : Read) → Right (length room) x → s ≡ settledAs x → (n : ℕ) (total : ℤ) → s .verdict ≡ Paired n total → Sized (s .state)
-      → (n ≤ 64) × (slipLength n ≤ length room) × (_≡_ {A = Outcome} (record { number = 0; slip = written n total (s .state) }) (pairedAs room x))
-  paired-outcome (refused given) right e n total v sized = let z : _≡_ {A = ℕ} 0 1 = cc (ap (λ (t : Settled). t .verdict) e) in absurd (omega arith)
+  pub paired-outcome : (x : Read) → Right (length room) x → s ≡ settledAs x → (n : ℕ) (total : ℤ) → s .reply ≡ Accepted n total → Sized (s .state)
+      → (n ≤ 64) × (slipLength n ≤ length room) × (_≡_ {A = Delivery} (record { number = 0; slip = written n total (s .state) }) (pairedAs room x))
+  paired-outcome (refused given) right e n total v sized = let z : _≡_ {A = ℕ} 0 1 = cc (ap (λ (t : Settled). t .reply) e) in absurd (omega arith)
   paired-outcome (night m costs) right e n total v sized =
-      let a = run m costs in
+      let a = answer m costs in
       let d = ap (λ (t : Settled). t .state) e in
-      let side : n ≡ m = cc (ap (λ (t : Settled). t .verdict) e) in
-      let sum : total ≡ a .total = cc (ap (λ (t : Settled). t .verdict) e) in
+      let side : n ≡ m = cc (ap (λ (t : Settled). t .reply) e) in
+      let sum : total ≡ a .total = cc (ap (λ (t : Settled). t .reply) e) in
       let cols = front (a .cols) (fresh .cols) m refl (sym (ap (λ (t : State). length (t .cols)) d) ∙ sized .cols-size) (right .few) in
       let rows = front (a .rowPrices) (fresh .«row_prices») m refl (sym (ap (λ (t : State). length (t .«row_prices»)) d) ∙ sized .row-prices-size) (right .few) in
       let columns = front (a .columnPrices) (fresh .«col_prices») m refl (sym (ap (λ (t : State). length (t .«col_prices»)) d) ∙ sized .column-prices-size) (right .few) in (

@@ -1,122 +1,76 @@
 -- A sheet made of costs reads as these costs, whatever its note. Assumes nothing.
-use mathlib.Core.Path.{_≡_, refl, sym, ap, ap₂, _∙_}
-use mathlib.Core.Bool.{Bool, not, _||_}
-use mathlib.Core.List.{List, _++_, flatMap, append-assoc}
+use mathlib.Core.Path.{_≡_, sym, ap, ap₂, _∙_}
+use mathlib.Core.Bool.{not, _||_}
+use mathlib.Core.List.{List, []}
 use Prim.Native.Nat.{ℕ, _+_, _*_, _-_, _/_, _^_, _≤_, _<_}
 use native.Mathlib.Nat.{mul-le-mul}
 use native.Mathlib.Omega.{arith}
 use borrow.Author.Tests.{le-ltb, eq-eqb}
 use lib.IntN.{ℤ, pos, negsuc}
-use lib.ListN.{length, take, length-append}
-use lib.Seq.{drop-append-add}
+use lib.ListN.{length}
 use lib.Signed.{mag}
 use Rattle.ints.specs.Parts.{Within}
-use Rattle.lists.specs.Parts.{part}
-use Rattle.lists.specs.Runs.{first}
-use Rattle.lists.proofs.Runs.{first-none}
-use Rattle.assignment.specs.Pairings.{price}
+use Rattle.layout.specs.Values.{valueOf}
+use Rattle.layout.specs.Trailers.{sheetMark, distanceOf, sideOf, editionOf, markOf}
+use Rattle.layout.specs.Sheets.{sheetOf, costsAt}
+use Rattle.layout.specs.Slips.{slipLength}
+use Rattle.layout.proofs.Sheets.{sheet-length, sheet-distance, sheet-side, sheet-edition, sheet-mark, sheet-costs}
+use Rattle.assignment.specs.Pairings.{signedAt}
 use Rattle.matrix.specs.Limits.{K}
-use Rattle.matrix.specs.Refusals.{outside}
-use Rattle.matrix.proofs.Limits.{K-small}
-use Rattle.matrix.proofs.Bounds.{outside-within}
-use Rattle.matrix.proofs.Refusals.{passed, passed-at}
-use Rattle.matrix.specs.declared.Refusal.the-variants.{CostOutside}
-use Rattle.sheet.specs.Numbers.{bytesOf, valueOf, signedBytes, signedValue}
-use Rattle.sheet.specs.Layout.{sheetMark, trailer, sheetOf, slipLength, fields}
-use Rattle.sheet.specs.Reading.{sheetSide, sheetMost, distanceOf, sideOf, editionOf, markOf, costsOf, tested, readAfter, costsTested, refused, night, read}
-use Rattle.sheet.specs.declared.Tested.the-variants.{Side}
-use Rattle.sheet.proofs.Numbers.{value-bytesOf, signedValue-signedBytes}
-use Rattle.sheet.proofs.Fields.{length-flatMap, fields-flatMap}
+use Rattle.matrix.specs.Verdicts.{Passes}
+use Rattle.matrix.proofs.SmallLimits.{K-small}
+use Rattle.matrix.proofs.Verdicts.{then-iff, failsIf-iff}
+use Rattle.matrix.proofs.Passed.{costs-within}
+use Rattle.sheet.specs.Reading.{sheetSide, sheetMost, costsOf, sheetTests, nightIf, readIf, costsTested, night, read, Built}
 use Rattle.sheet.proofs.Limits.{sheetSide-small}
-use Rattle.sheet.proofs.Slips.{length-signedBytes, length-trailer}
 
--- A part of the last 12 bytes, counted from the list's end, is that part of them.
-part-of-end : (p t : List ℕ) (a k w : ℕ) → length t ≡ 12 → a + k ≡ 12 → part (length (p ++ t) - k) w (p ++ t) ≡ part a w t
-part-of-end p t a k w s e =
-    let at : length (p ++ t) - k ≡ length p + a = omega (arith, length-append p t) in
-    ap (λ (m : ℕ). part m w (p ++ t)) at ∙ ap (take w) (drop-append-add p t a)
+-- A cost in -K..K fits four bytes.
+fits-four : (z : ℤ) → Within K z → mag z < 256 ^ 4 / 2
+fits-four (pos m) w = omega (arith, K-small)
+fits-four (negsuc m) w = omega (arith, K-small)
 
--- What makes a sheet good: a side and as many costs as it says, each in -K..K, within the limits.
-pub record Good (note : List ℕ) (n : ℕ) (costs : List ℤ) (room : ℕ) : Type 0 where
-  pub side : n ≤ sheetSide
-  pub squared : length costs ≡ n * n
-  pub inside : (k : ℕ) → k < n * n → Within K (price costs k)
-  pub short : length (sheetOf note n costs) ≤ sheetMost
-  pub roomy : slipLength n ≤ room
-
-module _ (note : List ℕ) (n : ℕ) (costs : List ℤ) where
-  abbrev front : List ℕ
-  front = note ++ flatMap (signedBytes 4) costs
-
-  abbrev end : List ℕ
-  end = trailer (4 * (n * n)) n sheetMark
-
+module _ (note : List ℕ) (n : ℕ) (costs : List ℤ) (room : ℕ) (g : Built note n costs room) where
   abbrev sheet : List ℕ
   sheet = sheetOf note n costs
 
-  in-two : sheet ≡ front ++ end
-  in-two = simp append-assoc
+  few : n ≤ 64
+  few = omega (arith, g .side, sheetSide-small)
 
-  -- A field of the trailer, found at its place.
-  field : (a k w : ℕ) → a + k ≡ 12 → part (length sheet - k) w sheet ≡ part a w end
-  field a k w e = ap (λ (l : List ℕ). part (length l - k) w l) in-two ∙ part-of-end front end a k w (length-trailer (4 * (n * n)) n sheetMark) e
+  squares : n * n ≤ 4096
+  squares = mul-le-mul few few
 
-  module _ (room : ℕ) (g : Good note n costs room) where
-    few : n ≤ 64
-    few = omega (arith, g .side, sheetSide-small)
+  long : length sheet ≡ length note + 4 * (n * n) + 12
+  long = omega (arith, sheet-length 1 note n costs [], g .squared)
 
-    squares : n * n ≤ 4096
-    squares = mul-le-mul few few
+  side-read : sideOf sheet ≡ n
+  side-read = sheet-side 1 note n costs [] (omega (arith, few))
 
-    distance-read : distanceOf sheet ≡ 4 * (n * n)
-    unfolding bytesOf
-    distance-read = ap valueOf (field 0 12 4 refl) ∙ value-bytesOf 4 (4 * (n * n)) (omega (arith, squares))
+  edition-read : editionOf sheet ≡ 1
+  edition-read = sheet-edition 1 note n costs [] (omega arith)
 
-    side-read : sideOf sheet ≡ n
-    unfolding bytesOf
-    side-read = ap valueOf (field 4 8 2 refl) ∙ value-bytesOf 2 n (omega (arith, few))
+  distance-read : distanceOf sheet ≡ 4 * (n * n)
+  distance-read = sheet-distance 1 note n costs [] (omega (arith, squares, g .squared)) ∙ omega (arith, g .squared)
 
-    edition-read : editionOf sheet ≡ 1
-    unfolding bytesOf valueOf
-    edition-read = ap valueOf (field 6 6 2 refl)
+  costs-read : costsOf sheet ≡ costs
+  costs-read =
+      let d : distanceOf sheet ≡ 4 * length costs + 0 = omega (arith, distance-read, g .squared) in
+      let count : sideOf sheet * sideOf sheet ≡ length costs = ap (λ (m : ℕ). m * m) side-read ∙ sym (g .squared) in
+      ap₂ (λ (far many : ℕ). costsAt far many sheet) d count
+      ∙ sheet-costs 1 note n costs [] (λ k l. fits-four (signedAt costs k) (g .inside k (omega (arith, g .squared))))
 
-    mark-read : markOf sheet ≡ valueOf sheetMark
-    unfolding bytesOf
-    mark-read = ap valueOf (field 8 4 4 refl)
+  all-passed : Passes (sheetTests room sheet)
+  unfolding sheetTests
+  all-passed =
+      let t17 = failsIf-iff _ _ _ .1 (le-ltb sheetMost (length sheet) (g .short)) in
+      let t11 = then-iff _ _ .1 (t17, failsIf-iff _ _ _ .1 (ap₂ _||_ (le-ltb (length sheet) 12 (omega (arith, long))) (ap not (eq-eqb (markOf sheet) (valueOf sheetMark) (sheet-mark 1 note n costs []))))) in
+      let t12 = then-iff _ _ .1 (t11, failsIf-iff _ _ _ .1 (ap not (eq-eqb (editionOf sheet) 1 edition-read))) in
+      let t13 = then-iff _ _ .1 (t12, failsIf-iff _ _ _ .1 (le-ltb sheetSide (sideOf sheet) (omega (arith, g .side, side-read)))) in
+      let t14 = then-iff _ _ .1 (t13, failsIf-iff _ _ _ .1 (ap not (eq-eqb (distanceOf sheet) (4 * (sideOf sheet * sideOf sheet)) (distance-read ∙ ap (λ (m : ℕ). 4 * (m * m)) (sym side-read))))) in
+      let t15 = then-iff _ _ .1 (t14, failsIf-iff _ _ _ .1 (le-ltb (length sheet - 12) (distanceOf sheet) (omega (arith, long, distance-read)))) in
+      then-iff _ _ .1 (t15, failsIf-iff _ _ _ .1 (le-ltb room (slipLength (sideOf sheet)) (omega (arith, g .roomy, side-read))))
 
-    long : length sheet ≡ length note + 4 * (n * n) + 12
-    long =
-        omega (arith, length-append note (flatMap (signedBytes 4) costs ++ end), length-append (flatMap (signedBytes 4) costs) end, length-flatMap (signedBytes 4) 4 (length-signedBytes 4) costs, length-trailer (4 * (n * n)) n sheetMark, g .squared)
-
-    costs-read : costsOf sheet ≡ costs
-    costs-read =
-        let start : length sheet - 12 - distanceOf sheet ≡ length note = omega (arith, long, distance-read) in
-        ap₂ (λ (base m : ℕ). fields (signedValue 4) base 4 (m * m) sheet) start side-read
-        ∙ fields-flatMap (signedBytes 4) 4 (length-signedBytes 4) (signedValue 4) note (length note) costs (n * n) end (pos 0) refl (g .squared)
-        (λ k l. signedValue-signedBytes 4 (price costs k) (fits k l))
-      where
-        fits : (k : ℕ) → k < n * n → mag (price costs k) < 256 ^ 4 / 2
-        fits k l = by (price costs k) (g .inside k l)
-          where
-            by : (z : ℤ) → Within K z → mag z < 256 ^ 4 / 2
-            by (pos m) w = omega (arith, K-small)
-            by (negsuc m) w = omega (arith, K-small)
-
-    passes : Side n ≡ tested room sheet
-    unfolding tested
-    passes =
-        passed _ _ _ (le-ltb sheetMost (length sheet) (g .short))
-        (passed _ _ _ (ap₂ _||_ (le-ltb (length sheet) 12 (omega (arith, long))) (ap not (eq-eqb (markOf sheet) (valueOf sheetMark) mark-read)))
-        (passed _ _ _ (ap not (eq-eqb (editionOf sheet) 1 edition-read))
-        (passed _ _ _ (le-ltb sheetSide (sideOf sheet) (omega (arith, g .side, side-read)))
-        (passed _ _ _ (ap not (eq-eqb (distanceOf sheet) (4 * (sideOf sheet * sideOf sheet)) (distance-read ∙ ap (λ (m : ℕ). 4 * (m * m)) (sym side-read))))
-        (passed _ _ _ (le-ltb (length sheet - 12) (distanceOf sheet) (omega (arith, long, distance-read)))
-        (passed _ _ _ (le-ltb room (slipLength (sideOf sheet)) (omega (arith, g .roomy, side-read)))
-        (ap Side (sym side-read))))))))
-
-    pub read-sheet : read room sheet ≡ night n costs
-    unfolding read
-    read-sheet =
-        let test : ℕ → Bool = λ k. outside (pos K) (price costs k) in
-        let clear : n * n ≤ first (n * n) test = omega (arith, first-none test (n * n) (λ k l. outside-within K (price costs k) .1 (g .inside k l))) in
-        ap (readAfter sheet) (sym passes) ∙ ap (costsTested n) costs-read ∙ sym (passed-at (n * n) test (λ k. refused (CostOutside k)) (night n costs) refl clear refl)
+  pub read-sheet : read room sheet ≡ night n costs
+  unfolding read
+  read-sheet =
+      ap (readIf sheet) all-passed ∙ ap₂ costsTested side-read costs-read
+      ∙ ap (nightIf n costs) (costs-within costs .1 (λ k l. g .inside k (omega (arith, g .squared))))

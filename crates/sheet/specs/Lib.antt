@@ -1,4 +1,5 @@
-pub mod Numbers
-pub mod Layout
 pub mod Reading
 pub mod Settle
+pub mod Values
+pub mod Asked
+pub mod Steps

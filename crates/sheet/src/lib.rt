@@ -1,29 +1,24 @@
-// Sheets and slips in bytes: a sheet is read, its night is solved, and the slip is written. What is promised is said in specs/.
+// Sheets and slips: a sheet is read, its night is solved, and the slip is written. What is promised is said in specs/.
 ghost use mathlib.Core.Path.{_≡_};
 ghost use mathlib.Core.List.{_++_};
-ghost use Prim.Native.Nat.{_+_, _*_, _-_, _≤_};
+ghost use Prim.Native.Nat.{_+_, _*_, _≤_};
 ghost use lib.ListN.{length, take, drop};
-ghost use Rattle.sheet.specs.Numbers.{signedValue};
-ghost use Rattle.sheet.specs.Layout.{slipOf, slipLength, fields};
-ghost use Rattle.sheet.specs.Reading.{sheetSide, refused, costsTested};
+ghost use lib.Seq.{sets};
+ghost use Rattle.layout.specs.Sheets.{costsAt};
+ghost use Rattle.layout.specs.Slips.{slipOf, slipLength};
 ghost use Rattle.lapjv.specs.Solve.{lentOf, outcomeOf, solve};
-ghost use Rattle.sheet.specs.Settle.{fresh, settledAs, settled, Outcome, pair};
+ghost use Rattle.sheet.specs.Reading.{sheetSide, refused, costsTested};
+ghost use Rattle.sheet.specs.Settle.{fresh, settledAs, settled, Delivery, pair};
+ghost use Rattle.sheet.specs.Values.{settledValues};
+ghost use Rattle.sheet.specs.Asked.{Inside};
+ghost use Rattle.sheet.specs.Steps.{readInto, solvedIn};
 
 mod reading;
-mod values;
-mod writing;
 
 use lapjv::Solved;
 use matrix::Refusal;
-use reading::read_costs;
+use matrix::Verdict;
 use reading::tests;
-use writing::write_slip;
-
-// What the tests on a sheet's bytes come to: its side, or a refusal.
-pub enum Tested {
-    Side(usize),
-    Refused(Refusal),
-}
 
 // The arrays of a night of side up to 64, by value.
 pub struct State {
@@ -36,15 +31,15 @@ pub struct State {
     pub numbers: [i64; 64],
 }
 
-// What a sheet comes to: side and total, or a refusal.
-pub enum Verdict {
-    Paired(usize, i64),
+// What the front desk is told of a sheet: side and total, or a refusal.
+pub enum Reply {
+    Accepted(usize, i64),
     Refused(Refusal),
 }
 
 // A sheet settled.
 pub struct Settled {
-    pub verdict: Verdict,
+    pub reply: Reply,
     pub state: State,
 }
 
@@ -59,6 +54,40 @@ fn fresh() -> State
     let col_prices = [0i64; 64];
     let indices = [0u32; 256];
     let numbers = [0i64; 64];
+    State {
+        costs,
+        cols,
+        rows,
+        row_prices,
+        col_prices,
+        indices,
+        numbers,
+    }
+}
+
+// So many costs of a sheet, the first at a distance before the trailer, are read over the front of an array.
+fn read_array(costs: &mut [i32; 4096], sheet: &[u8], distance: usize, count: usize)
+    requires { ⌜ Inside distance count (now sheet) ⌝ }
+    ensures { λ _. ⌜ now (costs .exit) ≡ sets (now (costs .entry)) 0 (costsAt distance count (now (sheet .entry))) ⌝ }
+{
+    let first = sheet.len() - 12 - distance;
+    let all: &mut [i32] = costs;
+    layout::sheet::read_costs(sheet, first, count, all);
+}
+
+// They are read into the state.
+fn read_night(state: State, sheet: &[u8], distance: usize, count: usize) -> State
+    requires { ⌜ Inside distance count (now sheet) ⌝ }
+    ensures { λ r. ⌜ r ≡ readInto distance count (now (sheet .entry)) state ⌝ }
+{
+    let mut costs = state.costs;
+    let cols = state.cols;
+    let rows = state.rows;
+    let row_prices = state.row_prices;
+    let col_prices = state.col_prices;
+    let indices = state.indices;
+    let numbers = state.numbers;
+    read_array(&mut costs, sheet, distance, count);
     State {
         costs,
         cols,
@@ -104,25 +133,23 @@ fn refused(refusal: Refusal) -> Settled
 {
     let state = fresh();
     Settled {
-        verdict: Verdict::Refused(refusal),
+        reply: Reply::Refused(refusal),
         state,
     }
 }
 
-// The costs of a sheet of side n are read into the state's arrays, and the night is solved in them.
-fn solved(sheet: &[u8], n: usize) -> Settled
-    requires { ⌜ (n ≤ sheetSide) × (4 * (n * n) + 12 ≤ length (now sheet)) ⌝ }
-    ensures { λ r. ⌜ r ≡ settledAs (costsTested n (fields (signedValue 4) (length (now (sheet .entry)) - 12 - 4 * (n * n)) 4 (n * n) (now (sheet .entry)))) ⌝ }
+// The night of side n whose costs stand in the state is solved in it.
+fn solve_night(state: State, n: usize) -> Settled
+    requires { ⌜ n ≤ 64 ⌝ }
+    ensures { λ r. ⌜ r ≡ solvedIn n state ⌝ }
 {
-    let count = n * n;
-    let mut costs = [0i32; 4096];
-    read_costs(sheet, sheet.len() - 12 - 4 * count, count, &mut costs);
-    let mut cols = [0u32; 64];
-    let mut rows = [0u32; 64];
-    let mut row_prices = [0i64; 64];
-    let mut col_prices = [0i64; 64];
-    let mut indices = [0u32; 256];
-    let mut numbers = [0i64; 64];
+    let costs = state.costs;
+    let mut cols = state.cols;
+    let mut rows = state.rows;
+    let mut row_prices = state.row_prices;
+    let mut col_prices = state.col_prices;
+    let mut indices = state.indices;
+    let mut numbers = state.numbers;
     match solve_arrays(
         n,
         &costs,
@@ -145,20 +172,30 @@ fn solved(sheet: &[u8], n: usize) -> Settled
                 numbers,
             };
             Settled {
-                verdict: Verdict::Paired(n, night.total),
+                reply: Reply::Accepted(n, night.total),
                 state,
             }
         }
     }
 }
 
+// A sheet of side n that has passed its tests: its costs are read, and the night is solved.
+fn settle_night(sheet: &[u8], n: usize) -> Settled
+    requires { ⌜ (n ≤ sheetSide) × (4 * (n * n) + 12 ≤ length (now sheet)) ⌝ }
+    ensures { λ r. ⌜ r ≡ settledAs (costsTested n (costsAt (4 * (n * n)) (n * n) (now (sheet .entry)))) ⌝ }
+{
+    let count = n * n;
+    let read = read_night(fresh(), sheet, 4 * count, count);
+    solve_night(read, n)
+}
+
 // A sheet is read and its night solved, for a slip room of so many bytes.
 pub fn settle(sheet: &[u8], room: usize) -> Settled
-    ensures { λ r. ⌜ r ≡ settled room (now (sheet .entry)) ⌝ }
+    ensures { λ r. ⌜ settledValues r ≡ settledValues (settled room (now (sheet .entry))) ⌝ }
 {
     match tests(sheet, room) {
-        Tested::Refused(refusal) => refused(refusal),
-        Tested::Side(n) => solved(sheet, n),
+        Verdict::Fails(refusal) => refused(refusal),
+        Verdict::Passed => settle_night(sheet, layout::trailer::side_of(sheet)),
     }
 }
 
@@ -172,13 +209,14 @@ fn write_arrays(
     total: i64,
 )
     requires { ⌜ (n ≤ 64) × (slipLength n ≤ length (now slip)) ⌝ }
-    ensures { λ _. ⌜ now (slip .exit) ≡ slipOf n (take n (now (cols .entry))) (take n (now («row_prices» .entry))) (take n (now («col_prices» .entry))) total ++ drop (slipLength n) (now (slip .entry)) ⌝ }
+    ensures { λ _. ⌜ now (slip .exit) ≡ slipOf 1 n (take n (now (cols .entry))) (take n (now («row_prices» .entry))) (take n (now («col_prices» .entry))) total ++ drop (slipLength n) (now (slip .entry)) ⌝ }
 {
     let all_cols: &[u32] = cols;
     let all_row_prices: &[i64] = row_prices;
     let all_col_prices: &[i64] = col_prices;
-    write_slip(
+    layout::slip::write_slip(
         slip,
+        1,
         &all_cols[0..n],
         &all_row_prices[0..n],
         &all_col_prices[0..n],
@@ -189,7 +227,7 @@ fn write_arrays(
 // The slip of a solved state is written over the front of its room.
 fn write_state(slip: &mut [u8], state: State, n: usize, total: i64)
     requires { ⌜ (n ≤ 64) × (slipLength n ≤ length (now slip)) ⌝ }
-    ensures { λ _. ⌜ now (slip .exit) ≡ slipOf n (take n (state .cols)) (take n (state .«row_prices»)) (take n (state .«col_prices»)) total ++ drop (slipLength n) (now (slip .entry)) ⌝ }
+    ensures { λ _. ⌜ now (slip .exit) ≡ slipOf 1 n (take n (state .cols)) (take n (state .«row_prices»)) (take n (state .«col_prices»)) total ++ drop (slipLength n) (now (slip .entry)) ⌝ }
 {
     let cols = state.cols;
     let row_prices = state.row_prices;
@@ -199,13 +237,13 @@ fn write_state(slip: &mut [u8], state: State, n: usize, total: i64)
 
 // The entry: a sheet's slip is written over the front of its room; 0, or the refusal as number + 256*place.
 pub fn pair(sheet: &[u8], slip: &mut [u8]) -> u64
-    ensures { λ r. ⌜ _≡_ {A = Outcome} (record { number = r; slip = now (slip .exit) }) (pair (now (sheet .entry)) (now (slip .entry))) ⌝ }
+    ensures { λ r. ⌜ _≡_ {A = Delivery} (record { number = r; slip = now (slip .exit) }) (pair (now (sheet .entry)) (now (slip .entry))) ⌝ }
 {
     let settled = settle(sheet, slip.len());
-    let verdict = settled.verdict;
-    match verdict {
-        Verdict::Refused(refusal) => matrix::code(refusal),
-        Verdict::Paired(n, total) => {
+    let reply = settled.reply;
+    match reply {
+        Reply::Refused(refusal) => matrix::refusals::code(refusal),
+        Reply::Accepted(n, total) => {
             let state = settled.state;
             write_state(slip, state, n, total);
             0

@@ -57,9 +57,9 @@ impl std::error::Error for Doubt {}
 /// let dearer = Slip { total: 4, ..slip.clone() };
 /// assert_eq!(audit(&night, &dearer), Err(Doubt::Total(3)));
 /// let shared = Slip { columns: vec![0, 0], ..slip.clone() };
-/// assert_eq!(audit(&night, &shared), Err(Doubt::Refused(Refusal::NotNamedBack { row: 1 })));
+/// assert_eq!(audit(&night, &shared), Err(Doubt::Refused(Refusal::RowNotNamed { row: 1 })));
 /// let crossed = Slip { columns: vec![1, 0], ..slip };
-/// assert_eq!(audit(&night, &crossed), Err(Doubt::Refused(Refusal::PricesUnderCost { row: 0 })));
+/// assert_eq!(audit(&night, &crossed), Err(Doubt::Refused(Refusal::PricesNotCost { row: 0 })));
 /// # Ok::<(), Box<dyn std::error::Error>>(())
 /// ```
 pub fn audit(night: &Sheet, slip: &Slip) -> Result<(), Doubt> {

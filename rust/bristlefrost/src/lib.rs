@@ -23,7 +23,7 @@
 //!
 //! // One that costs more is refused.
 //! let refused = bristlefrost::check(3, &costs, &[0, 1, 2], &[0, 1, 2], u, v);
-//! assert_eq!(refused, Err(bristlefrost::Refusal::PricesUnderCost { row: 0 }));
+//! assert_eq!(refused, Err(bristlefrost::Refusal::PricesNotCost { row: 0 }));
 //! # Ok::<(), bristlefrost::Refusal>(())
 //! ```
 //!
@@ -107,7 +107,7 @@ pub struct Lent<'a> {
 /// assert_eq!((night.columns, night.paired.total), (vec![1, 0], 3));
 /// assert_eq!(solve(0, &[])?.paired.total, 0);
 ///
-/// assert_eq!(solve(2, &[1, 2, 3]), Err(Refusal::CostsNotSquare));
+/// assert_eq!(solve(2, &[1, 2, 3]), Err(Refusal::CostsLength));
 /// assert_eq!(solve(1, &[1_000_000_001]), Err(Refusal::CostOutside { place: 0 }));
 /// # Ok::<(), Refusal>(())
 /// ```
@@ -176,7 +176,7 @@ pub fn solve_into(side: usize, costs: &[i32], lent: Lent<'_>) -> Result<Paired, 
 ///
 /// let costs = [1, 5, 6, 2];
 /// assert_eq!(check(2, &costs, &[0, 1], &[0, 1], &[1, 2], &[0, 0]), Ok(3));
-/// assert_eq!(check(2, &costs, &[0, 1], &[1, 0], &[1, 2], &[0, 0]), Err(Refusal::NotNamedBack { row: 0 }));
+/// assert_eq!(check(2, &costs, &[0, 1], &[1, 0], &[1, 2], &[0, 0]), Err(Refusal::RowNotNamed { row: 0 }));
 /// assert_eq!(check(2, &costs, &[0, 1], &[0, 1], &[1, 7], &[0, 0]), Err(Refusal::PricesOverCost { place: 2 }));
 /// ```
 pub fn check(
@@ -200,7 +200,7 @@ pub fn check(
 ///
 /// assert_eq!(cost(2, &[1, 2, 3, 4], &[1, 1]), Ok(6));
 /// assert_eq!(cost(2, &[1, 2, 3, 4], &[]), Ok(0));
-/// assert_eq!(cost(2, &[1, 2, 3, 4], &[0, 2]), Err(Refusal::ColumnNotBelowSide { row: 1 }));
+/// assert_eq!(cost(2, &[1, 2, 3, 4], &[0, 2]), Err(Refusal::ColumnOutside { row: 1 }));
 /// assert_eq!(cost(1, &[1], &[0, 0]), Err(Refusal::ListLength(List::Columns)));
 /// ```
 pub fn cost(side: usize, costs: &[i32], listed: &[u32]) -> Result<i64, Refusal> {
@@ -224,7 +224,7 @@ pub const fn slip_length(side: usize) -> usize {
 /// assert_eq!(slip[18..26], 7i64.to_le_bytes());
 /// assert_eq!(slip[26..], [0x1A, 0, 0, 0, 1, 0, 1, 0, 0x53, 0x4C, 0x49, 0x50]);
 ///
-/// assert_eq!(bristlefrost::sheet(&[]), Err(bristlefrost::Refusal::SheetMark));
+/// assert_eq!(bristlefrost::sheet(&[]), Err(bristlefrost::Refusal::NoMark));
 /// # Ok::<(), bristlefrost::Refusal>(())
 /// ```
 pub fn sheet(sheet: &[u8]) -> Result<Vec<u8>, Refusal> {
@@ -242,7 +242,7 @@ pub fn sheet(sheet: &[u8]) -> Result<Vec<u8>, Refusal> {
 /// ```
 /// let sheet = [7, 0, 0, 0, 4, 0, 0, 0, 1, 0, 1, 0, 0x4D, 0x54, 0x43, 0x48];
 /// let mut slip = [9; 40];
-/// assert_eq!(bristlefrost::sheet_into(&sheet, &mut slip[..37]), Err(bristlefrost::Refusal::SlipRoom));
+/// assert_eq!(bristlefrost::sheet_into(&sheet, &mut slip[..37]), Err(bristlefrost::Refusal::SlipRoomShort));
 /// assert_eq!(slip, [9; 40]);
 /// assert_eq!(bristlefrost::sheet_into(&sheet, &mut slip), Ok(()));
 /// assert_eq!(slip[34..], [0x53, 0x4C, 0x49, 0x50, 9, 9]);

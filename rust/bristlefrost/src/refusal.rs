@@ -1,4 +1,4 @@
-//! The refusals by meaning, with their numbers and places.
+//! The refusals by name, with their numbers and places. Each has the same name in the proved crates and in the C header.
 
 use std::fmt;
 
@@ -29,25 +29,25 @@ pub enum Room {
 #[non_exhaustive]
 pub enum Refusal {
     /// 1: the side is over 1,024.
-    SideOverLimit,
+    SideOver,
     /// 2: there are not exactly side * side costs.
-    CostsNotSquare,
+    CostsLength,
     /// 3: an output or list is shorter than the side, or [`cost`](crate::cost)'s is longer; the first such.
     ListLength(List),
     /// 4: a work room is too short; the first such.
-    RoomTooShort(Room),
+    RoomShort(Room),
     /// 5: a cost lies outside -1,000,000,000..1,000,000,000.
     CostOutside {
         /// The first such cost.
         place: u64,
     },
     /// 6: a listed column is not below the side.
-    ColumnNotBelowSide {
+    ColumnOutside {
         /// The first such row.
         row: u64,
     },
     /// 7: the column of a row does not name that row back.
-    NotNamedBack {
+    RowNotNamed {
         /// The first such row.
         row: u64,
     },
@@ -62,24 +62,24 @@ pub enum Refusal {
         place: u64,
     },
     /// 10: on a pair that sum is not the cost.
-    PricesUnderCost {
+    PricesNotCost {
         /// The first such row.
         row: u64,
     },
     /// 11: the sheet has under 12 bytes, or a wrong mark.
-    SheetMark,
+    NoMark,
     /// 12: the sheet's edition is not 1.
-    SheetEdition,
+    EditionUnknown,
     /// 13: the sheet's side is over 64.
-    SheetSide,
+    SheetSideOver,
     /// 14: the sheet's distance is not 4 * side * side.
-    SheetDistance,
+    DistanceWrong,
     /// 15: the sheet's distance exceeds the bytes before the trailer.
-    SheetCutOff,
+    DistancePastBytes,
     /// 16: the slip's room is under 18 * side + 20 bytes.
-    SlipRoom,
+    SlipRoomShort,
     /// 17: the sheet is over 65,536 bytes.
-    SheetTooLong,
+    SheetOver,
     /// A number without a meaning, which the archive never answers.
     Other {
         /// The number.
@@ -95,27 +95,27 @@ impl Refusal {
         let (number, place) = ((code % 256) as u8, code / 256);
         let refusal = match (number, place) {
             (0, 0) => return Ok(()),
-            (1, 0) => Refusal::SideOverLimit,
-            (2, 0) => Refusal::CostsNotSquare,
+            (1, 0) => Refusal::SideOver,
+            (2, 0) => Refusal::CostsLength,
             (3, 1) => Refusal::ListLength(List::Columns),
             (3, 2) => Refusal::ListLength(List::Rows),
             (3, 3) => Refusal::ListLength(List::RowPrices),
             (3, 4) => Refusal::ListLength(List::ColumnPrices),
-            (4, 1) => Refusal::RoomTooShort(Room::Indices),
-            (4, 2) => Refusal::RoomTooShort(Room::Numbers),
+            (4, 1) => Refusal::RoomShort(Room::Indices),
+            (4, 2) => Refusal::RoomShort(Room::Numbers),
             (5, _) => Refusal::CostOutside { place },
-            (6, _) => Refusal::ColumnNotBelowSide { row: place },
-            (7, _) => Refusal::NotNamedBack { row: place },
+            (6, _) => Refusal::ColumnOutside { row: place },
+            (7, _) => Refusal::RowNotNamed { row: place },
             (8, _) => Refusal::PriceOutside { place },
             (9, _) => Refusal::PricesOverCost { place },
-            (10, _) => Refusal::PricesUnderCost { row: place },
-            (11, 0) => Refusal::SheetMark,
-            (12, 0) => Refusal::SheetEdition,
-            (13, 0) => Refusal::SheetSide,
-            (14, 0) => Refusal::SheetDistance,
-            (15, 0) => Refusal::SheetCutOff,
-            (16, 0) => Refusal::SlipRoom,
-            (17, 0) => Refusal::SheetTooLong,
+            (10, _) => Refusal::PricesNotCost { row: place },
+            (11, 0) => Refusal::NoMark,
+            (12, 0) => Refusal::EditionUnknown,
+            (13, 0) => Refusal::SheetSideOver,
+            (14, 0) => Refusal::DistanceWrong,
+            (15, 0) => Refusal::DistancePastBytes,
+            (16, 0) => Refusal::SlipRoomShort,
+            (17, 0) => Refusal::SheetOver,
             _ => Refusal::Other { number, place },
         };
         Err(refusal)
@@ -124,23 +124,23 @@ impl Refusal {
     /// The refusal's number, 1 to 17.
     pub fn number(&self) -> u8 {
         match *self {
-            Refusal::SideOverLimit => 1,
-            Refusal::CostsNotSquare => 2,
+            Refusal::SideOver => 1,
+            Refusal::CostsLength => 2,
             Refusal::ListLength(_) => 3,
-            Refusal::RoomTooShort(_) => 4,
+            Refusal::RoomShort(_) => 4,
             Refusal::CostOutside { .. } => 5,
-            Refusal::ColumnNotBelowSide { .. } => 6,
-            Refusal::NotNamedBack { .. } => 7,
+            Refusal::ColumnOutside { .. } => 6,
+            Refusal::RowNotNamed { .. } => 7,
             Refusal::PriceOutside { .. } => 8,
             Refusal::PricesOverCost { .. } => 9,
-            Refusal::PricesUnderCost { .. } => 10,
-            Refusal::SheetMark => 11,
-            Refusal::SheetEdition => 12,
-            Refusal::SheetSide => 13,
-            Refusal::SheetDistance => 14,
-            Refusal::SheetCutOff => 15,
-            Refusal::SlipRoom => 16,
-            Refusal::SheetTooLong => 17,
+            Refusal::PricesNotCost { .. } => 10,
+            Refusal::NoMark => 11,
+            Refusal::EditionUnknown => 12,
+            Refusal::SheetSideOver => 13,
+            Refusal::DistanceWrong => 14,
+            Refusal::DistancePastBytes => 15,
+            Refusal::SlipRoomShort => 16,
+            Refusal::SheetOver => 17,
             Refusal::Other { number, .. } => number,
         }
     }
@@ -149,14 +149,12 @@ impl Refusal {
     pub fn place(&self) -> u64 {
         match *self {
             Refusal::ListLength(list) => list as u64 + 1,
-            Refusal::RoomTooShort(room) => room as u64 + 1,
+            Refusal::RoomShort(room) => room as u64 + 1,
             Refusal::CostOutside { place }
             | Refusal::PriceOutside { place }
             | Refusal::PricesOverCost { place }
             | Refusal::Other { place, .. } => place,
-            Refusal::ColumnNotBelowSide { row }
-            | Refusal::NotNamedBack { row }
-            | Refusal::PricesUnderCost { row } => row,
+            Refusal::ColumnOutside { row } | Refusal::RowNotNamed { row } | Refusal::PricesNotCost { row } => row,
             _ => 0,
         }
     }
@@ -165,23 +163,23 @@ impl Refusal {
 impl fmt::Display for Refusal {
     fn fmt(&self, out: &mut fmt::Formatter<'_>) -> fmt::Result {
         let meaning = match self {
-            Refusal::SideOverLimit => "the side is over 1,024",
-            Refusal::CostsNotSquare => "there are not exactly side * side costs",
+            Refusal::SideOver => "the side is over 1,024",
+            Refusal::CostsLength => "there are not exactly side * side costs",
             Refusal::ListLength(_) => "a list's length does not fit the side",
-            Refusal::RoomTooShort(_) => "a work room is too short",
+            Refusal::RoomShort(_) => "a work room is too short",
             Refusal::CostOutside { .. } => "a cost lies outside -1,000,000,000..1,000,000,000",
-            Refusal::ColumnNotBelowSide { .. } => "a listed column is not below the side",
-            Refusal::NotNamedBack { .. } => "the column of a row does not name that row back",
+            Refusal::ColumnOutside { .. } => "a listed column is not below the side",
+            Refusal::RowNotNamed { .. } => "the column of a row does not name that row back",
             Refusal::PriceOutside { .. } => "a price lies outside -10,000,000,000..10,000,000,000",
             Refusal::PricesOverCost { .. } => "row price + column price is over the cost",
-            Refusal::PricesUnderCost { .. } => "on a pair row price + column price is under the cost",
-            Refusal::SheetMark => "the sheet is under 12 bytes or its mark is wrong",
-            Refusal::SheetEdition => "the sheet's edition is not 1",
-            Refusal::SheetSide => "the sheet's side is over 64",
-            Refusal::SheetDistance => "the sheet's distance is not 4 * side * side",
-            Refusal::SheetCutOff => "the sheet's distance exceeds the bytes before the trailer",
-            Refusal::SlipRoom => "the slip's room is under 18 * side + 20 bytes",
-            Refusal::SheetTooLong => "the sheet is over 65,536 bytes",
+            Refusal::PricesNotCost { .. } => "on a pair row price + column price is not the cost",
+            Refusal::NoMark => "the sheet is under 12 bytes or its mark is wrong",
+            Refusal::EditionUnknown => "the sheet's edition is not 1",
+            Refusal::SheetSideOver => "the sheet's side is over 64",
+            Refusal::DistanceWrong => "the sheet's distance is not 4 * side * side",
+            Refusal::DistancePastBytes => "the sheet's distance exceeds the bytes before the trailer",
+            Refusal::SlipRoomShort => "the slip's room is under 18 * side + 20 bytes",
+            Refusal::SheetOver => "the sheet is over 65,536 bytes",
             Refusal::Other { .. } => "a number without a meaning",
         };
         write!(out, "refused {} place {}: {meaning}", self.number(), self.place())

@@ -21,17 +21,17 @@ int main(void) {
     if (checked.refusal != 0 || checked.total != 1) return 8;
     const uint32_t other[3] = {0, 1, 2};
     checked = bristlefrost_check(3, costs, 9, other, 3, other, 3, row_prices, 3, col_prices, 3);
-    if (checked.refusal != 10 || checked.total != 0) return 9;
+    if (checked.refusal != BRISTLEFROST_PRICES_NOT_COST || checked.total != 0) return 9;
 
     bristlefrost_total summed = bristlefrost_cost(3, costs, 9, other, 2);
     if (summed.refusal != 0 || summed.total != 3) return 10;
     summed = bristlefrost_cost(2, costs, 4, other, 3);
-    if (summed.refusal != 3 + 256 * 1) return 11;
+    if (summed.refusal != BRISTLEFROST_LIST_LENGTH + 256 * 1) return 11;
 
     const uint8_t sheet[16] = {7, 0, 0, 0, 4, 0, 0, 0, 1, 0, 1, 0, 0x4D, 0x54, 0x43, 0x48};
     uint8_t slip[38];
     if (bristlefrost_sheet(sheet, 16, slip, 38) != 0) return 12;
     if (slip[10] != 7 || slip[18] != 7 || slip[26] != 0x1A || slip[37] != 0x50) return 13;
-    if (bristlefrost_sheet(sheet, 16, slip, 37) != 16) return 14;
+    if (bristlefrost_sheet(sheet, 16, slip, 37) != BRISTLEFROST_SLIP_ROOM_SHORT) return 14;
     return 0;
 }

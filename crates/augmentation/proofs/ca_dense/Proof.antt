@@ -4,7 +4,7 @@ use Prim.Native.Nat.{_-_}
 use native.Mathlib.Omega.{arith}
 use borrow.Author.Needs.{needs}
 use lib.ListN.{length}
-use Rattle.matrix.proofs.Limits.{side-small}
+use Rattle.matrix.proofs.SmallLimits.{side-small}
 use Rattle.augmentation.proofs.Augmentation.{Augmenting, first-turn, augmented, turn, can-search, found-few, way-back, next-turn}
 use Rattle.augmentation.proofs.ca_dense.Statement.{statement}
 use Rattle.augmentation.proofs.ca_dense.Tie as tie

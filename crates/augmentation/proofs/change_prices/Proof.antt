@@ -9,8 +9,8 @@ use mir.Syntax.{w64}
 use mir.Val.{toZ}
 use Rattle.ints.proofs.Bits.{read-back}
 use Rattle.lists.specs.Permutations.{at}
-use Rattle.assignment.specs.Pairings.{price}
-use Rattle.matrix.proofs.Limits.{side-small}
+use Rattle.assignment.specs.Pairings.{signedAt}
+use Rattle.matrix.proofs.SmallLimits.{side-small}
 use Rattle.augmentation.proofs.Prices.{Changing, first-change, size, changed, column-below, sub-fits, add-fits, next}
 use Rattle.augmentation.proofs.change_prices.Statement.{statement}
 use Rattle.augmentation.proofs.change_prices.Tie as tie
@@ -42,7 +42,7 @@ shared-slice-copy-out-minimum c = omega (arith, first-below c, c .before .pre .d
 loop-holds : tie.Need-loop-holds Inv-loop μ-loop
 loop-holds c =
     let s = c .before .before in
-    first-change _ _ _ _ _ _ (s .pre) refl (read-back w64 (price (s .args .d .now) (at (s .args .list .now) (s .args .lo))) (c .minimum .given))
+    first-change _ _ _ _ _ _ (s .pre) refl (read-back w64 (signedAt (s .args .d .now) (at (s .args .list .now) (s .args .lo))) (c .minimum .given))
 
 -- what every index need asks of a turn
 record Facts (n j d v : ℕ) : Type 0 where
@@ -114,7 +114,7 @@ returns : tie.Need-returns Inv-loop μ-loop
 returns c =
     let s = c .before .before .before .before in
     changed (c .before .loop .inv) (omega (arith, c .loop-test .left))
-    (read-back w64 (price (s .args .d .now) (at (s .args .list .now) (s .args .lo))) (c .before .before .minimum .given))
+    (read-back w64 (signedAt (s .args .d .now) (at (s .args .list .now) (s .args .lo))) (c .before .before .minimum .given))
 
 pub change-prices-spec : {M : Type 1} → statement M
 change-prices-spec =

@@ -10,7 +10,7 @@ use mir.Syntax.{w64}
 use mir.Val.{toZ, ofZ}
 use Rattle.ints.proofs.Bits.{read-back}
 use Rattle.lists.specs.Permutations.{exchange, at}
-use Rattle.assignment.specs.Pairings.{price}
+use Rattle.assignment.specs.Pairings.{signedAt}
 use Rattle.rules.specs.Block.{Block}
 use Rattle.augmentation.proofs.Block.{blocked-at, Blocked, first-block, whole-block, here-below, restart, join, pass-by}
 use Rattle.augmentation.proofs.find_dense.Statement.{statement}
@@ -46,7 +46,7 @@ add-k c = search needs
 loop-holds : tie.Need-loop-holds Inv-loop μ-loop
 loop-holds c =
     let s = c .before .before .before in
-    first-block _ _ _ _ _ (s .pre .2) (s .pre .0) (read-back w64 (price (s .args .d .now) (at (s .args .list .now) (s .args .lo))) (c .minimum .given))
+    first-block _ _ _ _ _ (s .pre .2) (s .pre .0) (read-back w64 (signedAt (s .args .d .now) (at (s .args .list .now) (s .args .lo))) (c .minimum .given))
 
 mul-j : tie.Need-mul-j Inv-loop μ-loop
 mul-j c = search needs
@@ -89,7 +89,7 @@ loop-again c =
     let d = l .before .before .before .before .args .d .now in
     let B = l .loop .inv in
     let t = c .before .before .before .loop-test .taken in
-    let z = price d (at (l .loop .list) (l .loop .k)) in
+    let z = signedAt d (at (l .loop .list) (l .loop .k)) in
     let hz : toZ w64 (ofZ w64 z) ≡ z = read-back w64 z (c .before .h .given) in
     ⊎-elim
     (λ a.

@@ -12,13 +12,13 @@ use Rattle.ints.specs.Parts.{Within}
 use Rattle.ints.proofs.Bits.{read-back}
 use Rattle.lists.specs.Permutations.{table}
 use Rattle.lists.proofs.Tables.{filled-none, filled-more, filled-length, filled-all}
-use Rattle.assignment.specs.Pairings.{price}
+use Rattle.assignment.specs.Pairings.{signedAt}
 use Rattle.matrix.specs.Limits.{near}
 use Rattle.augmentation.proofs.first_distances.Statement.{statement}
 use Rattle.augmentation.proofs.first_distances.Tie as tie
 
 abbrev Inv-loop : tie.InvT-loop
-Inv-loop n row v d₀ j₀ d j = (j ≤ n) × (d ≡ table j (λ i. price row i -ℤ price v i) ++ drop j d₀)
+Inv-loop n row v d₀ j₀ d j = (j ≤ n) × (d ≡ table j (λ i. signedAt row i -ℤ signedAt v i) ++ drop j d₀)
 
 abbrev μ-loop : tie.MeasureT-loop
 μ-loop n row v d₀ j₀ d j = n - j
@@ -50,7 +50,7 @@ reduced-cost-requires : tie.Need-reduced-cost-requires Inv-loop μ-loop
 reduced-cost-requires c κs =
     let s = c .before .before .before .before in
     let l = c .before .before .before .loop in
-    subst (Within near) (sym (read-back w64 (price (s .args .v .now) (l .j)) (c .reduced-cost-arg2 .given))) (s .pre .3 (l .j))
+    subst (Within near) (sym (read-back w64 (signedAt (s .args .v .now) (l .j)) (c .reduced-cost-arg2 .given))) (s .pre .3 (l .j))
 
 mul-t14 : tie.Need-mul-t14 Inv-loop μ-loop
 mul-t14 c = search needs
@@ -69,11 +69,11 @@ loop-again c =
     let s = c .before .before .before .before .before in
     let l = c .before .before .before .before .loop in
     let h : l .j < length (s .args .d .now) = omega arith in
-    let x : toZ w64 (ofZ w64 (c .reduced-cost .result)) ≡ price (s .args .row .now) (l .j) -ℤ price (s .args .v .now) (l .j) =
+    let x : toZ w64 (ofZ w64 (c .reduced-cost .result)) ≡ signedAt (s .args .row .now) (l .j) -ℤ signedAt (s .args .v .now) (l .j) =
     read-back w64 (c .reduced-cost .result) (c .reduced-cost .ok) ∙ c .reduced-cost .ensures
-    ∙ ap₂ _-ℤ_ (read-back w32 (price (s .args .row .now) (l .j)) (c .before .before .reduced-cost-arg .given))
-    (read-back w64 (price (s .args .v .now) (l .j)) (c .before .reduced-cost-arg2 .given)) in
-    (omega arith, rw (x, l .inv .1) (filled-more (l .j) (λ i. price (s .args .row .now) i -ℤ price (s .args .v .now) i) (s .args .d .now) h))
+    ∙ ap₂ _-ℤ_ (read-back w32 (signedAt (s .args .row .now) (l .j)) (c .before .before .reduced-cost-arg .given))
+    (read-back w64 (signedAt (s .args .v .now) (l .j)) (c .before .reduced-cost-arg2 .given)) in
+    (omega arith, rw (x, l .inv .1) (filled-more (l .j) (λ i. signedAt (s .args .row .now) i -ℤ signedAt (s .args .v .now) i) (s .args .d .now) h))
 
 same-length : tie.Need-same-length Inv-loop μ-loop
 same-length c = size (c .before) ∙ sym (c .before .before .pre .2)
@@ -83,7 +83,7 @@ returns c =
     let s = c .before .before in
     let l = c .before .loop in
     let e : l .j ≡ length (s .args .d .now) = omega (arith, l .inv .0) in
-    l .inv .1 ∙ filled-all (l .j) _ (s .args .d .now) e ∙ ap (λ (m : ℕ). table m (λ i. price (s .args .row .now) i -ℤ price (s .args .v .now) i)) (s .pre .2)
+    l .inv .1 ∙ filled-all (l .j) _ (s .args .d .now) e ∙ ap (λ (m : ℕ). table m (λ i. signedAt (s .args .row .now) i -ℤ signedAt (s .args .v .now) i)) (s .pre .2)
 
 pub first-distances-spec : {M : Type 1} → statement M
 first-distances-spec =

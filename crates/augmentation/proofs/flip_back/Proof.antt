@@ -4,7 +4,7 @@ use Prim.Native.Nat.{ℕ, _^_, _<_}
 use native.Mathlib.Omega.{arith}
 use lib.ListN.{length, length-set}
 use Rattle.lists.specs.Permutations.{at}
-use Rattle.matrix.proofs.Limits.{side-small}
+use Rattle.matrix.proofs.SmallLimits.{side-small}
 use Rattle.augmentation.specs.Augmentation.{openAt}
 use Rattle.augmentation.proofs.Flips.{togo, Flipping, first-flip, row-below, last-flip, next-flip, fewer}
 use Rattle.augmentation.proofs.flip_back.Statement.{statement}

@@ -1,13 +1,11 @@
 -- `last_free` answers the last free column of a fresh block. Assumes nothing.
 use mathlib.Core.Path.{_≡_, ap, _∙_}
-use mathlib.Core.Logic.{⊎-elim}
-use Prim.Native.Nat.{_+_, _-_, _≤_, _<_}
-use native.Mathlib.Decide.{decLe}
+use Prim.Native.Nat.{_-_, _≤_, _<_}
 use native.Mathlib.Omega.{arith}
 use borrow.Author.Needs.{needs}
 use Rattle.lists.specs.Permutations.{at}
 use Rattle.rules.specs.Search.{lastFree}
-use Rattle.augmentation.proofs.Block.{last-none, last-free, last-taken}
+use Rattle.augmentation.proofs.Block.{last-none, last-more}
 use Rattle.augmentation.proofs.last_free.Statement.{statement}
 use Rattle.augmentation.proofs.last_free.Tie as tie
 
@@ -18,30 +16,38 @@ abbrev μ-loop : tie.MeasureT-loop
 μ-loop n lo hi list rows last₀ k₀ last k = hi - k
 
 loop-holds : tie.Need-loop-holds Inv-loop μ-loop
-loop-holds c = (omega arith, c .pre .0, last-none _ _ _ _)
+loop-holds c = (omega arith, c .before .before .pre .0, last-none _ _ _ _)
 
 mul-j : tie.Need-mul-j Inv-loop μ-loop
 mul-j c = search needs
 
 shared-slice-read-j : tie.Need-shared-slice-read-j Inv-loop μ-loop
-shared-slice-read-j c = omega (arith, c .before .before .before .pre .3 .size, c .before .before .before .pre .1)
+shared-slice-read-j c =
+    let s = c .before .before .before .before .before in
+    omega (arith, s .pre .3 .size, s .pre .1)
 
-here-below : (c : tie.In-loop Inv-loop μ-loop) → at (c .before .before .args .list .now) (c .before .loop .k) < c .before .before .args .n
-here-below c = c .before .before .pre .3 .injective .below (c .before .loop .k) (omega (arith, c .before .before .pre .1))
+here-below : (c : tie.In-loop Inv-loop μ-loop)
+    → at (c .before .before .before .before .args .list .now) (c .before .loop .k) < c .before .before .before .before .args .n
+here-below c =
+    let s = c .before .before .before .before in
+    s .pre .3 .injective .below (c .before .loop .k) (omega (arith, s .pre .1))
 
 cast-j : tie.Need-cast-j Inv-loop μ-loop
-cast-j c = omega (arith, c .shared-slice-known .given (c .before .before .loop .k))
+cast-j c = omega (arith, c .shared-slice-known3 .given (c .before .before .loop .k))
 
-mul-if1 : tie.Need-mul-if1 Inv-loop μ-loop
-mul-if1 c = omega (arith, here-below (c .before))
+mul-later : tie.Need-mul-later Inv-loop μ-loop
+mul-later c = omega (arith, here-below (c .before))
 
-shared-slice-read-if1 : tie.Need-shared-slice-read-if1 Inv-loop μ-loop
-shared-slice-read-if1 c = omega (arith, here-below (c .before .before))
+shared-slice-read-later : tie.Need-shared-slice-read-later Inv-loop μ-loop
+shared-slice-read-later c = omega (arith, here-below (c .before .before))
 
-cast-if1 : tie.Need-cast-if1 Inv-loop μ-loop
-cast-if1 c =
+cast-later : tie.Need-cast-later Inv-loop μ-loop
+cast-later c =
     let l = c .before .before .before in
-    omega (arith, c .shared-slice-known2 .given (at (l .before .args .list .now) (l .loop .k)))
+    omega (arith, c .shared-slice-known4 .given (at (l .before .before .before .args .list .now) (l .loop .k)))
+
+later-requires : tie.Need-later-requires Inv-loop μ-loop
+later-requires c = search needs
 
 add-k : tie.Need-add-k Inv-loop μ-loop
 add-k c = search needs
@@ -49,26 +55,16 @@ add-k c = search needs
 loop-less : tie.Need-loop-less Inv-loop μ-loop
 loop-less c = search needs
 
--- with one place more
-found : (c : tie.Joined1 Inv-loop μ-loop)
-    → let u = c .before .before .before .before .before .args in
-    c .if1 .last ≡ lastFree (u .n) (at (u .rows .now)) (u .list .now) (u .lo) (c .before .before .before .before .loop .k + 1)
-found c =
-    let u = c .before .before .before .before .before .args in
-    let l = c .before .before .before .before .loop in
-    elim (decLe (u .n) (at (u .rows .now) (at (u .list .now) (l .k)))) [
-      | yes h ↦ let e = last-free (u .n) (at (u .rows .now)) (u .list .now) (u .lo) (l .k) (l .inv .0) h in
-          ⊎-elim (λ a. cc) (λ a. absurd (omega arith)) (c .if1 .came)
-      | no h ↦ let e = last-taken (u .n) (at (u .rows .now)) (u .list .now) (u .lo) (l .k) (l .inv .0) (omega arith) in
-          ⊎-elim (λ a. absurd (omega arith)) (λ a. cc) (c .if1 .came)
-    ]
-
 loop-again : tie.Need-loop-again Inv-loop μ-loop
-loop-again c = (omega arith, omega arith, found c)
+loop-again c =
+    let l = c .before .before .before .before in
+    let s = l .before .before .before .args in
+    let more = last-more (s .n) (at (s .rows .now)) (s .list .now) (s .lo) (l .loop .k) (l .loop .last) (l .loop .inv .0) (l .loop .inv .2) in
+    (omega arith, omega arith, c .later .ensures ∙ more)
 
 returns : tie.Need-returns Inv-loop μ-loop
 returns c =
-    let s = c .before .before .args in
+    let s = c .before .before .before .before .args in
     let e : c .before .loop .k ≡ s .hi = omega arith in
     c .before .loop .inv .2 ∙ ap (lastFree (s .n) (at (s .rows .now)) (s .list .now) (s .lo)) e
 
@@ -82,9 +78,10 @@ last-free-spec =
     mul-j
     shared-slice-read-j
     cast-j
-    mul-if1
-    shared-slice-read-if1
-    cast-if1
+    mul-later
+    shared-slice-read-later
+    cast-later
+    later-requires
     add-k
     loop-less
     loop-again

@@ -1,4 +1,4 @@
--- `lower_columns` is the look of one row at the columns after the block: the loop is the definition's, a place a turn. Assumes nothing.
+-- `lower_columns` is one row that sees the columns after the block: the loop is the definition's, a place a turn. Assumes nothing.
 use mathlib.Core.Path.{_≡_, sym, ap, ap₂, _∙_, subst}
 use mathlib.Core.Logic.{⊎-elim}
 use mathlib.Core.List.{List}
@@ -13,25 +13,25 @@ use mir.Facts.{toZ-ofZ}
 use Rattle.ints.specs.Parts.{Within}
 use Rattle.ints.proofs.Bits.{read-back}
 use Rattle.lists.specs.Permutations.{at}
-use Rattle.assignment.specs.Pairings.{price}
+use Rattle.assignment.specs.Pairings.{signedAt}
 use Rattle.matrix.specs.Limits.{near}
-use Rattle.matrix.proofs.Limits.{side-small}
+use Rattle.matrix.proofs.SmallLimits.{side-small}
 use Rattle.rules.specs.declared.ScanEnd.{ScanEnd}
-use Rattle.augmentation.specs.Scan.{Looked}
-use Rattle.augmentation.proofs.Look.{Looking, first-look, room-long, looked, column-below, pass-by, lower, swap-in, hit, looking-at, same-equal, same-other}
+use Rattle.augmentation.specs.Scan.{ColumnsLowered}
+use Rattle.augmentation.proofs.Lowering.{Lowering, first-lowering, room-long, columns-lowered, column-below, pass-by, lower, swap-in, hit, lowering-at, same-equal, same-other}
 use Rattle.augmentation.proofs.lower_columns.Statement.{statement}
 use Rattle.augmentation.proofs.lower_columns.Tie as tie
 
 abbrev Inv-loop : tie.InvT-loop
 Inv-loop n i row v rows h minimum from d₀ room₀ n2 hi₀ k₀ d room hi k =
-    Looking n i row v rows (toZ w64 h) (toZ w64 minimum) from d₀ room₀ d room hi k
+    Lowering n i row v rows (toZ w64 h) (toZ w64 minimum) from d₀ room₀ d room hi k
 
 abbrev μ-loop : tie.MeasureT-loop
 μ-loop n i row v rows h minimum from d₀ room₀ n2 hi₀ k₀ d room hi k = n - k
 
 -- the answer, in the words of the contract: h and the minimum as they are, not their bits
 told : {n i : ℕ} {row v : List ℤ} {rows : List ℕ} {h h′ minimum minimum′ : ℤ} {hi : ℕ} {d₀ : List ℤ} {room₀ : List ℕ} {r : ScanEnd} {d : List ℤ} {room : List ℕ}
-    → h ≡ h′ → minimum ≡ minimum′ → Looked n i row v rows h minimum hi d₀ room₀ r d room → Looked n i row v rows h′ minimum′ hi d₀ room₀ r d room
+    → h ≡ h′ → minimum ≡ minimum′ → ColumnsLowered n i row v rows h minimum hi d₀ room₀ r d room → ColumnsLowered n i row v rows h′ minimum′ hi d₀ room₀ r d room
 told e f L = rw (sym e, sym f) L
 
 -- what the code reads as the lowered distance
@@ -39,14 +39,14 @@ distance : (c : tie.After-lowered Inv-loop μ-loop)
     → let l = c .before .before .before .before .before in
     let s = l .before .before .before in
     let j = getD (l .loop .room) (s .args .n + l .loop .k) 0 in
-    toZ w64 (ofZ w64 (c .lowered .result)) ≡ (price (s .args .row .now) j -ℤ price (s .args .v .now) j) -ℤ toZ w64 (ofZ w64 (s .args .h))
+    toZ w64 (ofZ w64 (c .lowered .result)) ≡ (signedAt (s .args .row .now) j -ℤ signedAt (s .args .v .now) j) -ℤ toZ w64 (ofZ w64 (s .args .h))
 distance c =
     let l = c .before .before .before .before .before in
     let s = l .before .before .before in
     let j = getD (l .loop .room) (s .args .n + l .loop .k) 0 in
     read-back w64 (c .lowered .result) (c .lowered .ok) ∙ c .lowered .ensures
-    ∙ ap₂ (λ (a b : ℤ). (a -ℤ b) -ℤ toZ w64 (ofZ w64 (s .args .h))) (read-back w32 (price (s .args .row .now) j) (c .before .before .lowered-arg .given))
-    (read-back w64 (price (s .args .v .now) j) (c .before .lowered-arg2 .given))
+    ∙ ap₂ (λ (a b : ℤ). (a -ℤ b) -ℤ toZ w64 (ofZ w64 (s .args .h))) (read-back w32 (signedAt (s .args .row .now) j) (c .before .before .lowered-arg .given))
+    (read-back w64 (signedAt (s .args .v .now) j) (c .before .lowered-arg2 .given))
 
 add-n2 : tie.Need-add-n2 Inv-loop μ-loop
 add-n2 c = omega (arith, side-small, c .before .before .pre .0 .small)
@@ -54,7 +54,7 @@ add-n2 c = omega (arith, side-small, c .before .before .pre .0 .small)
 loop-holds : tie.Need-loop-holds Inv-loop μ-loop
 loop-holds c =
     let p = c .before .before .pre in
-    first-look _ _ _ _ _ _ _ _ _ _ (p .0 .room-size) (p .2) (p .0 .distances-size) (p .0 .listed)
+    first-lowering _ _ _ _ _ _ _ _ _ _ (p .0 .room-size) (p .2) (p .0 .distances-size) (p .0 .listed)
 
 -- what every index need asks of a turn
 record Facts (n k hi j row v rows d room : ℕ) : Type 0 where
@@ -106,7 +106,7 @@ lowered-requires : tie.Need-lowered-requires Inv-loop μ-loop
 lowered-requires c κs =
     let s = c .before .before .before .before .before .before .before in
     let j = getD (c .before .before .before .before .loop .room) (s .args .n + c .before .before .before .before .loop .k) 0 in (
-      subst (Within near) (sym (read-back w64 (price (s .args .v .now) j) (c .lowered-arg2 .given))) (s .pre .0 .prices-near j),
+      subst (Within near) (sym (read-back w64 (signedAt (s .args .v .now) j) (c .lowered-arg2 .given))) (s .pre .0 .prices-near j),
       subst (Within (4 * near)) (sym (toZ-ofZ (s .fits .h))) (s .pre .3),
     )
 
@@ -174,7 +174,7 @@ returns c =
     let l = w .before .before .before .before .before in
     let s = l .before .before .before in
     let j = getD (l .loop .room) (s .args .n + l .loop .k) 0 in
-    let old : toZ w64 (ofZ w64 (price (l .loop .d) j)) ≡ price (l .loop .d) j = read-back w64 (price (l .loop .d) j) (c .before .before .before .before .if12 .given) in
+    let old : toZ w64 (ofZ w64 (signedAt (l .loop .d) j)) ≡ signedAt (l .loop .d) j = read-back w64 (signedAt (l .loop .d) j) (c .before .before .before .before .if12 .given) in
     told (toZ-ofZ (s .fits .h)) (toZ-ofZ (s .fits .minimum))
     (hit _ _ _ _ _ _ _ _ _ _ (l .loop .inv) (w .before .before .before .before .loop-test .taken) _ (distance w)
     (rw old at (c .before .before .before .if1 .taken)) (same-equal _ _ (ap (toZ w64) (c .before .before .if2 .taken))) (le-ltb _ _ (c .if3 .left)))
@@ -192,18 +192,18 @@ loop-again c =
     let s = l .before .before .before in
     let t = w .before .before .before .before .loop-test .taken in
     let j = getD (l .loop .room) (s .args .n + l .loop .k) 0 in
-    let old : toZ w64 (ofZ w64 (price (l .loop .d) j)) ≡ price (l .loop .d) j = read-back w64 (price (l .loop .d) j) (c .before .if12 .given) in
+    let old : toZ w64 (ofZ w64 (signedAt (l .loop .d) j)) ≡ signedAt (l .loop .d) j = read-back w64 (signedAt (l .loop .d) j) (c .before .if12 .given) in
     let x = toZ w64 (ofZ w64 (w .lowered .result)) in
     let xr : x ≡ w .lowered .result = read-back w64 (w .lowered .result) (w .lowered .ok) in
     ⊎-elim
-    (λ a. looking-at
+    (λ a. lowering-at
     (swap-in _ _ _ _ _ _ _ _ _ _ (l .loop .inv) t x (distance w) (rw old at (a .0 .taken)) (same-equal _ _ (ap (toZ w64) (a .1 .taken)))
     (lt-ltb _ _ (a .3 .taken))) (a .8) (a .9 ∙ a .5 .ensures) (a .10))
     (⊎-elim
-    (λ a. looking-at
+    (λ a. lowering-at
     (lower _ _ _ _ _ _ _ _ _ _ (l .loop .inv) t x (distance w) (rw old at (a .0 .taken))
     (same-other _ _ (λ e. a .1 .left (ap (ofZ w64) (sym xr ∙ e ∙ toZ-ofZ (s .fits .minimum)))))) (a .2) (a .3) (a .4))
-    (λ a. looking-at (pass-by _ _ _ _ _ _ _ _ _ _ (l .loop .inv) t x (distance w) (rw old at (a .0 .left))) (a .1) (a .2) (a .3)))
+    (λ a. lowering-at (pass-by _ _ _ _ _ _ _ _ _ _ (l .loop .inv) t x (distance w) (rw old at (a .0 .left))) (a .1) (a .2) (a .3)))
     (c .if1 .came)
 
 same-length-3 : tie.Need-same-length-3 Inv-loop μ-loop
@@ -216,7 +216,7 @@ returns-2 : tie.Need-returns-2 Inv-loop μ-loop
 returns-2 c =
     let l = c .before in
     let s = l .before .before .before in
-    told (toZ-ofZ (s .fits .h)) (toZ-ofZ (s .fits .minimum)) (looked _ _ _ _ _ _ _ _ _ _ (l .loop .inv) (omega (arith, c .loop-test .left)))
+    told (toZ-ofZ (s .fits .h)) (toZ-ofZ (s .fits .minimum)) (columns-lowered _ _ _ _ _ _ _ _ _ _ (l .loop .inv) (omega (arith, c .loop-test .left)))
 
 pub lower-columns-spec : {M : Type 1} → statement M
 lower-columns-spec =

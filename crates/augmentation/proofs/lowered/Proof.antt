@@ -13,9 +13,9 @@ use Rattle.matrix.specs.Limits.{near}
 use Rattle.augmentation.proofs.lowered.Statement.{statement}
 use Rattle.augmentation.proofs.lowered.Tie as tie
 
-module _ (cost price h r : ℤ) (f : SFits w32 cost) (fp : SFits w64 price) (g : SFits w64 h) (within : Within near price × Within (4 * near) h)
-    (small : mag r < 2 ^ 63) (got : r ≡ toZ w32 (ofZ w32 cost) -ℤ toZ w64 (ofZ w64 price)) where
-  is : r ≡ cost -ℤ price
+module _ (cost signedAt h r : ℤ) (f : SFits w32 cost) (fp : SFits w64 signedAt) (g : SFits w64 h) (within : Within near signedAt × Within (4 * near) h)
+    (small : mag r < 2 ^ 63) (got : r ≡ toZ w32 (ofZ w32 cost) -ℤ toZ w64 (ofZ w64 signedAt)) where
+  is : r ≡ cost -ℤ signedAt
   is = got ∙ ap₂ _-ℤ_ (toZ-ofZ f) (toZ-ofZ fp)
 
   read : SFits w64 r
@@ -27,7 +27,7 @@ module _ (cost price h r : ℤ) (f : SFits w32 cost) (fp : SFits w64 price) (g :
   difference-fits : SFits w64 (toZ w64 (ofZ w64 r) -ℤ toZ w64 (ofZ w64 h))
   difference-fits = rw (toZ-ofZ read, toZ-ofZ g) difference
 
-  difference-is : toZ w64 (ofZ w64 (toZ w64 (ofZ w64 r) -ℤ toZ w64 (ofZ w64 h))) ≡ (cost -ℤ price) -ℤ h
+  difference-is : toZ w64 (ofZ w64 (toZ w64 (ofZ w64 r) -ℤ toZ w64 (ofZ w64 h))) ≡ (cost -ℤ signedAt) -ℤ h
   difference-is = rw (toZ-ofZ read, toZ-ofZ g, toZ-ofZ difference) (ap (λ (x : ℤ). x -ℤ h) is)
 
 reduced-cost-requires : tie.Need-reduced-cost-requires

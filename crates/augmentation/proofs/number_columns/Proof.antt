@@ -7,7 +7,7 @@ use borrow.Author.Needs.{needs}
 use lib.ListN.{length, drop}
 use Rattle.lists.specs.Permutations.{table}
 use Rattle.lists.proofs.Tables.{filled-none, filled-more, filled-length, filled-all}
-use Rattle.matrix.proofs.Limits.{side-small}
+use Rattle.matrix.proofs.SmallLimits.{side-small}
 use Rattle.augmentation.proofs.number_columns.Statement.{statement}
 use Rattle.augmentation.proofs.number_columns.Tie as tie
 

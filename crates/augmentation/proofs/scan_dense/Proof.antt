@@ -11,9 +11,9 @@ use Rattle.ints.specs.Parts.{Within}
 use Rattle.ints.proofs.Bits.{read-back}
 use Rattle.ints.proofs.Ranges.{within-mono}
 use Rattle.lists.specs.Permutations.{at}
-use Rattle.assignment.specs.Pairings.{price}
+use Rattle.assignment.specs.Pairings.{signedAt}
 use Rattle.matrix.specs.Limits.{near}
-use Rattle.matrix.proofs.Limits.{side-small}
+use Rattle.matrix.proofs.SmallLimits.{side-small}
 use Rattle.augmentation.proofs.Scan.{row-length, spare-near, column-at, scanned}
 use Rattle.augmentation.proofs.scan_dense.Statement.{statement}
 use Rattle.augmentation.proofs.scan_dense.Tie as tie
@@ -80,23 +80,23 @@ row-size c =
     ap length (c .row .ensures) ∙ row-length _ _ _ (f .row) (f .sizes .4)
 
 -- the block's minimum, at the column as code reads it
-minimum-near : (s : tie.Start) → let u = s .args in Within (2 * near) (price (u .d .now) (getD (u .room .now) (u .n + u .cursor .lo) 0))
+minimum-near : (s : tie.Start) → let u = s .args in Within (2 * near) (signedAt (u .d .now) (getD (u .room .now) (u .n + u .cursor .lo) 0))
 minimum-near s =
-    subst (λ (j : ℕ). Within (2 * near) (price (s .args .d .now) j))
+    subst (λ (j : ℕ). Within (2 * near) (signedAt (s .args .d .now) j))
     (sym (column-at (s .args .n) (s .args .room .now) (s .args .cursor .lo) (s .pre .place .0))) (s .pre .minimum-near)
 
 -- what the row has to spare, as the definition has it
 spare : (c : tie.After-lowered)
     → let s = c .before .before .before .before .before .before .before .before .before in
     let j = getD (s .args .room .now) (s .args .n + s .args .cursor .lo) 0 in
-    toZ w64 (ofZ w64 (c .lowered .result)) ≡ (price (c .before .before .before .row .result .now) j -ℤ price (s .args .v .now) j) -ℤ toZ w64 (ofZ w64 (price (s .args .d .now) j))
+    toZ w64 (ofZ w64 (c .lowered .result)) ≡ (signedAt (c .before .before .before .row .result .now) j -ℤ signedAt (s .args .v .now) j) -ℤ toZ w64 (ofZ w64 (signedAt (s .args .d .now) j))
 spare c =
     let s = c .before .before .before .before .before .before .before .before .before in
     let j = getD (s .args .room .now) (s .args .n + s .args .cursor .lo) 0 in
     read-back w64 (c .lowered .result) (c .lowered .ok) ∙ c .lowered .ensures
-    ∙ ap₂ (λ (a b : ℤ). (a -ℤ b) -ℤ toZ w64 (ofZ w64 (price (s .args .d .now) j)))
-    (read-back w32 (price (c .before .before .before .row .result .now) j) (c .before .before .lowered-arg .given))
-    (read-back w64 (price (s .args .v .now) j) (c .before .lowered-arg2 .given))
+    ∙ ap₂ (λ (a b : ℤ). (a -ℤ b) -ℤ toZ w64 (ofZ w64 (signedAt (s .args .d .now) j)))
+    (read-back w32 (signedAt (c .before .before .before .row .result .now) j) (c .before .before .lowered-arg .given))
+    (read-back w64 (signedAt (s .args .v .now) j) (c .before .lowered-arg2 .given))
 
 shared-slice-copy-out-lowered : tie.Need-shared-slice-copy-out-lowered
 shared-slice-copy-out-lowered c = omega (arith, facts (c .before .before .before .before .before .before), row-size c)
@@ -111,8 +111,8 @@ lowered-requires : tie.Need-lowered-requires
 lowered-requires c κs =
     let s = c .before .before .before .before .before .before .before .before in
     let j = getD (s .args .room .now) (s .args .n + s .args .cursor .lo) 0 in (
-      subst (Within near) (sym (read-back w64 (price (s .args .v .now) j) (c .lowered-arg2 .given))) (s .pre .lent .prices-near j),
-      subst (Within (4 * near)) (sym (read-back w64 (price (s .args .d .now) j) (c .before .before .before .minimum .given)))
+      subst (Within near) (sym (read-back w64 (signedAt (s .args .v .now) j) (c .lowered-arg2 .given))) (s .pre .lent .prices-near j),
+      subst (Within (4 * near)) (sym (read-back w64 (signedAt (s .args .d .now) j) (c .before .before .before .minimum .given)))
           (within-mono (omega arith) (minimum-near s)),
     )
 
@@ -121,12 +121,12 @@ lower-columns-requires c κs =
     let w = c .before .before in
     let s = w .before .before .before .before .before .before .before .before .before in
     let j = getD (s .args .room .now) (s .args .n + s .args .cursor .lo) 0 in
-    let m : toZ w64 (ofZ w64 (price (s .args .d .now) j)) ≡ price (s .args .d .now) j = read-back w64 (price (s .args .d .now) j) (w .before .before .before .before .minimum .given) in (
+    let m : toZ w64 (ofZ w64 (signedAt (s .args .d .now) j)) ≡ signedAt (s .args .d .now) j = read-back w64 (signedAt (s .args .d .now) j) (w .before .before .before .before .minimum .given) in (
       s .pre .lent,
       row-size (w .before .before .before),
       s .pre .place .1,
       subst (Within (4 * near)) (sym (spare w))
-          (spare-near (price (w .before .before .before .row .result .now) j) (price (s .args .v .now) j) (toZ w64 (ofZ w64 (price (s .args .d .now) j)))
+          (spare-near (signedAt (w .before .before .before .row .result .now) j) (signedAt (s .args .v .now) j) (toZ w64 (ofZ w64 (signedAt (s .args .d .now) j)))
           (record { sfits = w .before .before .lowered-arg .given }) (s .pre .lent .prices-near j) (subst (Within (2 * near)) (sym m) (minimum-near s))),
     )
 
@@ -142,7 +142,7 @@ returns c =
     let s = w .before .before .before .before .before .before .before .before .before in
     let j = getD (s .args .room .now) (s .args .n + s .args .cursor .lo) 0 in
     scanned _ _ _ _ _ _ _ _ j _ _ _ _ (column-at (s .args .n) (s .args .room .now) (s .args .cursor .lo) (s .pre .place .0)) (facts s .column) refl
-    (w .before .before .before .row .ensures) (read-back w64 (price (s .args .d .now) j) (w .before .before .before .before .minimum .given)) (spare w)
+    (w .before .before .before .row .ensures) (read-back w64 (signedAt (s .args .d .now) j) (w .before .before .before .before .minimum .given)) (spare w)
     (c .before .before .before .lower-columns .ensures)
 
 pub scan-dense-spec : {M : Type 1} → statement M

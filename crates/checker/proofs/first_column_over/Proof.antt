@@ -11,7 +11,7 @@ use mir.Val.{toZ, ofZ}
 use mir.Facts.{toZ-ofZ}
 use Rattle.ints.proofs.Bits.{read-back}
 use Rattle.lists.specs.Runs.{first}
-use Rattle.assignment.specs.Pairings.{price}
+use Rattle.assignment.specs.Pairings.{signedAt}
 use Rattle.matrix.proofs.First.{Clear, clear-start, clear-more, found, ended}
 use Rattle.checker.proofs.Places.{overAt}
 use Rattle.checker.proofs.first_column_over.Statement.{statement}
@@ -51,7 +51,7 @@ over-cost-requires c κs =
     let s = c .before .before .before .before in
     let j = c .before .before .before .loop .j in (
       rw (toZ-ofZ (s .fits .u)) (s .pre .0),
-      rw (read-back w64 (price (s .args .vs .now) j) (c .over-cost-arg2 .given)) (s .pre .1 .within j (omega arith)),
+      rw (read-back w64 (signedAt (s .args .vs .now) j) (c .over-cost-arg2 .given)) (s .pre .1 .within j (omega arith)),
     )
 
 -- what the call answers is the test at j
@@ -61,8 +61,8 @@ tested c =
     let s = c .before .before .before .before .before in
     let j = c .before .before .before .before .loop .j in
     c .over-cost .ensures
-    ∙ ap₂ ltZ (read-back w32 (price (s .args .row .now) j) (c .before .before .over-cost-arg .given))
-    (ap (λ (z : ℤ). held s +ℤ z) (read-back w64 (price (s .args .vs .now) j) (c .before .over-cost-arg2 .given)))
+    ∙ ap₂ ltZ (read-back w32 (signedAt (s .args .row .now) j) (c .before .before .over-cost-arg .given))
+    (ap (λ (z : ℤ). held s +ℤ z) (read-back w64 (signedAt (s .args .vs .now) j) (c .before .over-cost-arg2 .given)))
 
 returns : tie.Need-returns Inv-loop μ-loop
 returns c =

@@ -10,16 +10,16 @@ use lib.ListN.{length}
 use mir.Syntax.{w32, w64}
 use Rattle.ints.proofs.Bits.{read-back}
 use Rattle.lists.specs.Permutations.{at}
-use Rattle.assignment.specs.Pairings.{price}
-use Rattle.matrix.proofs.Limits.{side-small}
+use Rattle.assignment.specs.Pairings.{signedAt, square}
+use Rattle.matrix.proofs.SmallLimits.{side-small}
 use Rattle.matrix.proofs.First.{Clear, clear-start, clear-more, found, ended}
-use Rattle.checker.specs.Check.{differ, loose}
+use Rattle.checker.specs.Tests.{differ, loose}
 use Rattle.checker.proofs.first_row_loose.Statement.{statement}
 use Rattle.checker.proofs.first_row_loose.Tie as tie
 
 abbrev Inv-loop : tie.InvT-loop
 Inv-loop n costs cols us vs start₀ i₀ start i =
-    (i ≤ n) × (start ≡ i * n) × Clear (loose n costs cols us vs) i
+    (i ≤ n) × (start ≡ i * n) × Clear (loose (square n costs) cols us vs) i
 
 abbrev μ-loop : tie.MeasureT-loop
 μ-loop n costs cols us vs start₀ i₀ start i = n - i
@@ -73,26 +73,26 @@ not-cost-requires c κs =
     let s = c .before .before .before .before .before .before .before in
     let i = c .before .before .before .before .before .loop .i in
     let j = at (s .args .cols .now) i in (
-      rw (read-back w64 (price (s .args .us .now) i) (c .before .not-cost-arg2 .given)) (s .pre .1 .within i (omega arith)),
-      rw (read-back w64 (price (s .args .vs .now) j) (c .not-cost-arg3 .given)) (s .pre .2 .within j (reached (c .before .before .before .before) .0)),
+      rw (read-back w64 (signedAt (s .args .us .now) i) (c .before .not-cost-arg2 .given)) (s .pre .1 .within i (omega arith)),
+      rw (read-back w64 (signedAt (s .args .vs .now) j) (c .not-cost-arg3 .given)) (s .pre .2 .within j (reached (c .before .before .before .before) .0)),
     )
 
 -- what the call answers is the test at i
 tested : (c : tie.After-not-cost Inv-loop μ-loop)
-    → c .not-cost .result ≡ loose (c .before .before .before .before .before .before .before .before .args .n) (c .before .before .before .before .before .before .before .before .args .costs .now) (c .before .before .before .before .before .before .before .before .args .cols .now) (c .before .before .before .before .before .before .before .before .args .us .now) (c .before .before .before .before .before .before .before .before .args .vs .now) (c .before .before .before .before .before .before .loop .i)
+    → c .not-cost .result ≡ loose (square (c .before .before .before .before .before .before .before .before .args .n) (c .before .before .before .before .before .before .before .before .args .costs .now)) (c .before .before .before .before .before .before .before .before .args .cols .now) (c .before .before .before .before .before .before .before .before .args .us .now) (c .before .before .before .before .before .before .before .before .args .vs .now) (c .before .before .before .before .before .before .loop .i)
 tested c =
     let u = c .before .before .before .before .before .before .before .before .args in
     let l = c .before .before .before .before .before .before .loop in
     let j = at (u .cols .now) (l .i) in
     c .not-cost .ensures
-    ∙ ap₂ differ (ap₂ _+ℤ_ (read-back w64 (price (u .us .now) (l .i)) (c .before .before .not-cost-arg2 .given)) (read-back w64 (price (u .vs .now) j) (c .before .not-cost-arg3 .given)))
-    (read-back w32 (price (u .costs .now) (l .start + j)) (c .before .before .before .not-cost-arg .given) ∙ ap (λ (start : ℕ). price (u .costs .now) (start + j)) (l .inv .1))
+    ∙ ap₂ differ (ap₂ _+ℤ_ (read-back w64 (signedAt (u .us .now) (l .i)) (c .before .before .not-cost-arg2 .given)) (read-back w64 (signedAt (u .vs .now) j) (c .before .not-cost-arg3 .given)))
+    (read-back w32 (signedAt (u .costs .now) (l .start + j)) (c .before .before .before .not-cost-arg .given) ∙ ap (λ (start : ℕ). signedAt (u .costs .now) (start + j)) (l .inv .1))
 
 returns : tie.Need-returns Inv-loop μ-loop
 returns c =
     let u = c .before .before .before .before .before .before .before .before .before .args in
     let l = c .before .before .before .before .before .before .before .loop in
-    found (loose (u .n) (u .costs .now) (u .cols .now) (u .us .now) (u .vs .now)) (u .n) (l .i) (omega arith) (l .inv .2) (sym (tested (c .before)) ∙ c .if1 .taken)
+    found (loose (square (u .n) (u .costs .now)) (u .cols .now) (u .us .now) (u .vs .now)) (u .n) (l .i) (omega arith) (l .inv .2) (sym (tested (c .before)) ∙ c .if1 .taken)
 
 add-start : tie.Need-add-start Inv-loop μ-loop
 add-start c = omega (arith, reached (c .before .before .before .before .before .before) .1, c .before .before .before .before .before .before .before .before .before .pre .0 .small, side-small)
@@ -109,14 +109,14 @@ loop-again c =
     let l = c .before .before .before .before .before .before .before .loop in (
       omega arith,
       omega arith,
-      clear-more (loose (u .n) (u .costs .now) (u .cols .now) (u .us .now) (u .vs .now)) (l .i) (l .inv .2) (sym (tested (c .before)) ∙ c .if1 .left),
+      clear-more (loose (square (u .n) (u .costs .now)) (u .cols .now) (u .us .now) (u .vs .now)) (l .i) (l .inv .2) (sym (tested (c .before)) ∙ c .if1 .left),
     )
 
 returns-2 : tie.Need-returns-2 Inv-loop μ-loop
 returns-2 c =
     let u = c .before .before .before .args in
     let l = c .before .loop in
-    ended (loose (u .n) (u .costs .now) (u .cols .now) (u .us .now) (u .vs .now)) (u .n) (l .i) (omega arith) (l .inv .2)
+    ended (loose (square (u .n) (u .costs .now)) (u .cols .now) (u .us .now) (u .vs .now)) (u .n) (l .i) (omega arith) (l .inv .2)
 
 pub first-row-loose-spec : {M : Type 1} → statement M
 first-row-loose-spec =

@@ -9,16 +9,16 @@ use lib.ListN.{length}
 use mir.Syntax.{w64}
 use Rattle.ints.proofs.Bits.{read-back}
 use Rattle.lists.specs.Runs.{first}
-use Rattle.assignment.specs.Pairings.{price}
+use Rattle.assignment.specs.Pairings.{signedAt, square}
 use Rattle.matrix.proofs.First.{Clear, clear-start, clear-more, found, ended}
-use Rattle.matrix.proofs.Rows.{row-length}
-use Rattle.checker.specs.Check.{over, overIn}
+use Rattle.matrix.proofs.RowParts.{row-length}
+use Rattle.checker.specs.Tests.{over, overIn}
 use Rattle.checker.proofs.Places.{row-first}
 use Rattle.checker.proofs.first_row_over.Statement.{statement}
 use Rattle.checker.proofs.first_row_over.Tie as tie
 
 abbrev Inv-loop : tie.InvT-loop
-Inv-loop n costs us vs i₀ i = (i ≤ n) × Clear (overIn n costs us vs) i
+Inv-loop n costs us vs i₀ i = (i ≤ n) × Clear (overIn (square n costs) us vs) i
 
 abbrev μ-loop : tie.MeasureT-loop
 μ-loop n costs us vs i₀ i = n - i
@@ -45,26 +45,26 @@ first-column-over-requires c κs =
     let s = c .before .before .before .before in
     let i = c .before .before .before .loop .i in
     let size = row-size (c .before) in (
-      rw (read-back w64 (price (s .args .us .now) i) (c .first-column-over-arg .given)) (s .pre .1 .within i (omega arith)),
+      rw (read-back w64 (signedAt (s .args .us .now) i) (c .first-column-over-arg .given)) (s .pre .1 .within i (omega arith)),
       record { enough = omega (arith, s .pre .2 .enough); within = λ j l. s .pre .2 .within j (omega arith) },
     )
 
 -- what the call answers is the first such column of row i
 tested : (c : tie.After-first-column-over Inv-loop μ-loop)
-    → c .first-column-over .result ≡ first (c .before .before .before .before .before .args .n) (over (c .before .before .before .before .before .args .n) (c .before .before .before .before .before .args .costs .now) (c .before .before .before .before .before .args .us .now) (c .before .before .before .before .before .args .vs .now) (c .before .before .before .before .loop .i))
+    → c .first-column-over .result ≡ first (c .before .before .before .before .before .args .n) (over (square (c .before .before .before .before .before .args .n) (c .before .before .before .before .before .args .costs .now)) (c .before .before .before .before .before .args .us .now) (c .before .before .before .before .before .args .vs .now) (c .before .before .before .before .loop .i))
 tested c =
     let s = c .before .before .before .before .before in
     let u = s .args in
     let i = c .before .before .before .before .loop .i in
     let part = c .before .before .row in
     c .first-column-over .ensures
-    ∙ row-first (u .n) (u .costs .now) (u .us .now) (u .vs .now) i (omega arith) (s .pre .0) (part .result .now) (part .ensures) _ (read-back w64 (price (u .us .now) i) (c .before .first-column-over-arg .given))
+    ∙ row-first (u .n) (u .costs .now) (u .us .now) (u .vs .now) i (omega arith) (s .pre .0) (part .result .now) (part .ensures) _ (read-back w64 (signedAt (u .us .now) i) (c .before .first-column-over-arg .given))
 
 returns : tie.Need-returns Inv-loop μ-loop
 returns c =
     let u = c .before .before .before .before .before .before .args in
     let l = c .before .before .before .before .before .loop in
-    found (overIn (u .n) (u .costs .now) (u .us .now) (u .vs .now)) (u .n) (l .i) (omega arith) (l .inv .1) (lt-ltb _ _ (subst (λ (k : ℕ). k < u .n) (tested (c .before)) (c .if1 .taken)))
+    found (overIn (square (u .n) (u .costs .now)) (u .us .now) (u .vs .now)) (u .n) (l .i) (omega arith) (l .inv .1) (lt-ltb _ _ (subst (λ (k : ℕ). k < u .n) (tested (c .before)) (c .if1 .taken)))
 
 add-i : tie.Need-add-i Inv-loop μ-loop
 add-i c = search needs
@@ -76,13 +76,13 @@ loop-again : tie.Need-loop-again Inv-loop μ-loop
 loop-again c =
     let u = c .before .before .before .before .before .before .args in
     let l = c .before .before .before .before .before .loop in
-    (omega arith, clear-more (overIn (u .n) (u .costs .now) (u .us .now) (u .vs .now)) (l .i) (l .inv .1) (le-ltb _ _ (subst (λ (k : ℕ). u .n ≤ k) (tested (c .before)) (c .if1 .left))))
+    (omega arith, clear-more (overIn (square (u .n) (u .costs .now)) (u .us .now) (u .vs .now)) (l .i) (l .inv .1) (le-ltb _ _ (subst (λ (k : ℕ). u .n ≤ k) (tested (c .before)) (c .if1 .left))))
 
 returns-2 : tie.Need-returns-2 Inv-loop μ-loop
 returns-2 c =
     let u = c .before .before .args in
     let l = c .before .loop in
-    ended (overIn (u .n) (u .costs .now) (u .us .now) (u .vs .now)) (u .n) (l .i) (omega arith) (l .inv .1)
+    ended (overIn (square (u .n) (u .costs .now)) (u .us .now) (u .vs .now)) (u .n) (l .i) (omega arith) (l .inv .1)
 
 pub first-row-over-spec : {M : Type 1} → statement M
 first-row-over-spec =

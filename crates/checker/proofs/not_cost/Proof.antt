@@ -3,7 +3,7 @@ use mathlib.Core.Path.{ap₂, _∙_}
 use mir.Syntax.{w64}
 use mir.Facts.{toZ-ofZ}
 use Rattle.ints.proofs.Bits.{wide-fits}
-use Rattle.checker.specs.Check.{differ}
+use Rattle.checker.specs.Tests.{differ}
 use Rattle.checker.proofs.Places.{sum-read, read-fits, differ-bits}
 use Rattle.checker.proofs.not_cost.Statement.{statement}
 use Rattle.checker.proofs.not_cost.Tie as tie

@@ -1,7 +1,9 @@
 -- `bristlefrost_check` answers what the entry answers, told. Assumes nothing.
 use mathlib.Core.Path.{sym, ap, _∙_, subst}
 use borrow.Author.Needs.{needs}
-use Rattle.matrix.proofs.Codes.{PlaceSmall}
+use Rattle.matrix.specs.Asked.{TellableIn}
+use Rattle.matrix.proofs.Determined.{values-determine}
+use Rattle.checker.specs.Check.{check}
 use Rattle.checker.proofs.Codes.{check-places}
 use Rattle.face.specs.Face.{totalled}
 use Rattle.face.proofs.bristlefrost_check.Statement.{statement}
@@ -13,7 +15,9 @@ check-requires c κs = search needs
 told-requires : tie.Need-told-requires
 told-requires c κs =
     let u = c .before .before .before .args in
-    subst PlaceSmall (sym (c .check .ensures)) (check-places (u .n) (u .costs .now) (u .cols .now) (u .rows .now) (u .row-prices .now) (u .col-prices .now))
+    subst TellableIn
+    (sym (values-determine (c .check .result) (check (u .n) (u .costs .now) (u .cols .now) (u .rows .now) (u .row-prices .now) (u .col-prices .now)) (c .check .ensures)))
+    (check-places (u .n) (u .costs .now) (u .cols .now) (u .rows .now) (u .row-prices .now) (u .col-prices .now))
 
 returns : tie.Need-returns
 returns c = c .told .ensures ∙ ap totalled (c .before .check .ensures)

@@ -3,6 +3,8 @@ use mathlib.Core.Path.{sym, ap, _∙_}
 use native.Mathlib.Numerals.{add-one}
 use native.Mathlib.Omega.{arith}
 use lib.IntN.{natAbs}
+use Rattle.ints.proofs.Shapes.{zlin}
+use Rattle.ints.proofs.Bits.{told-fits}
 use Rattle.ints.proofs.Signs.{Negative, negative, Positive, positive}
 use Rattle.ints.proofs.magnitude.Statement.{statement}
 use Rattle.ints.proofs.magnitude.Tie as tie
@@ -14,7 +16,7 @@ above : (c : tie.Else1) → Positive (c .before .args .z)
 above c = positive (c .before .args .z) (c .before .fits .z) (c .if1 .left)
 
 sub-result : tie.Need-sub-result
-sub-result c = below c .fits
+sub-result c = omega (zlin, told-fits (c .before .fits .z))
 
 cast-result : tie.Need-cast-result
 cast-result c = rw (below c .read) (tt, record { fits = omega (arith, below c .small) })

@@ -18,6 +18,10 @@ columns c = c .before .before .before .before .before .before .before .before .b
 abbrev pass-one : tie.After-carr-dense2 → tie.After-carr-dense
 pass-one c = c .before .before .before .before .before .before .before .before .before .before .before .before
 
+-- the second pass, from the end
+abbrev pass-two : tie.After-slice-known12 → tie.After-carr-dense2
+pass-two c = c .before .before .before .before .before .before .before
+
 -- what the second pass leaves: lists of the night's side
 sizes : (c : tie.After-carr-dense2)
     → let left = c .carr-dense2 .last .1 .1 in
@@ -28,8 +32,8 @@ sizes c =
     let a = columns (pass-one c) .ccrrt-dense in
     let b = pass-one c .carr-dense in
     let d = c .carr-dense2 in
-    reducing.sizes-two (s .args .n) (s .args .costs .now) (s .pre .0) _ _ _ (a .last .1 .1 .1 .1 .1 .0) (a .result) (a .ensures .0) _ _ _ _ (b .result) (b .ensures)
-    _ _ _ _ (d .result) (d .ensures)
+    reducing.sizes-two (s .args .n) (s .args .costs .now) (s .pre .0) _ _ _ (a .last .1 .1 .1 .1 .1 .0) (a .result) (a .ensures .0) _ _ _ _ _ (b .result) (b .ensures)
+    _ _ _ _ _ (d .result) (d .ensures)
 
 ccrrt-dense-requires : tie.Need-ccrrt-dense-requires
 ccrrt-dense-requires c κs =
@@ -51,7 +55,7 @@ carr-dense-requires c κs =
     let x = c .before .before .before .before .before .before .before .before .before .before .before in
     let s = start x in
     let a = x .ccrrt-dense in
-    reducing.first-pass (s .args .n) (s .args .costs .now) (s .pre .0) _ _ _ (a .last .1 .1 .1 .1 .1 .0) (a .result) (a .ensures .0)
+    reducing.first-pass (s .args .n) (s .args .costs .now) (s .pre .0) _ _ _ (a .last .1 .1 .1 .1 .1 .0) (a .result) (a .ensures .0) _ (λ h. omega arith)
 
 sub-carr-dense-2 : tie.Need-sub-carr-dense-2
 sub-carr-dense-2 c = search needs
@@ -69,11 +73,7 @@ carr-dense-requires-2 c κs =
     let a = columns x .ccrrt-dense in
     let b = x .carr-dense in
     reducing.second-pass (s .args .n) (s .args .costs .now) (s .pre .0) _ _ _ (a .last .1 .1 .1 .1 .1 .0) (a .result) (a .ensures .0)
-    _ _ _ _ (b .result) (b .ensures)
-
--- the second pass, from the end
-abbrev pass-two : tie.After-slice-known12 → tie.After-carr-dense2
-pass-two c = c .before .before .before .before .before .before .before
+    _ _ _ _ _ (b .result) (b .ensures) _ (λ h. (omega arith, omega arith))
 
 same-length : tie.Need-same-length
 same-length c = sizes (pass-two c) .0 ∙ sym (start (columns (pass-one (pass-two c))) .pre .1 .cols-size)
@@ -91,10 +91,11 @@ same-length-4 c =
     let a = columns (pass-one x) .ccrrt-dense in
     let b = pass-one x .carr-dense in
     let d = x .carr-dense2 in
-    reducing.room-two (s .args .n) (s .args .costs .now) (s .pre .0) _ _ _ (a .last .1 .1 .1 .1 .1 .0) (a .result) (a .ensures .0) _ _ _ _ (b .result) (b .ensures)
-    _ _ _ _ (d .result) (d .ensures) (omega (arith, a .kept, s .pre .1 .room-size))
+    reducing.room-two (s .args .n) (s .args .costs .now) (s .pre .0) _ _ _ (a .last .1 .1 .1 .1 .1 .0) (a .result) (a .ensures .0) _ _ _ _ _ (b .result) (b .ensures)
+    _ _ _ _ _ (d .result) (d .ensures) (omega (arith, a .kept, s .pre .1 .room-size))
     ∙ omega (arith, a .kept)
 
+-- the stage and the counts are those of the rules
 returns : tie.Need-returns
 returns c =
     let x = pass-two c in
@@ -102,8 +103,8 @@ returns c =
     let a = columns (pass-one x) .ccrrt-dense in
     let b = pass-one x .carr-dense in
     let d = x .carr-dense2 in
-    reducing.reduced-by (s .args .n) (s .args .costs .now) (s .pre .0) _ _ _ (a .last .1 .1 .1 .1 .1 .0) (a .result) (a .ensures .0) _ _ _ _ (b .result) (b .ensures)
-    _ _ _ _ (d .result) (d .ensures) (omega (arith, a .kept, s .pre .1 .room-size))
+    reducing.reduced-by (s .args .n) (s .args .costs .now) (s .pre .0) _ _ _ (a .last .1 .1 .1 .1 .1 .0) (a .result) (a .ensures .0) _ _ _ _ _ (b .result) (b .ensures)
+    _ _ _ _ _ (d .result) (d .ensures) (omega arith) (omega arith) (omega (arith, a .kept, s .pre .1 .room-size))
 
 pub reduce-spec : {M : Type 1} → statement M
 reduce-spec =

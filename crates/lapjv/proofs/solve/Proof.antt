@@ -3,12 +3,13 @@
 use mathlib.Core.Path.{sym, ap, _∙_}
 use native.Mathlib.Omega.{arith}
 use borrow.Author.Needs.{needs}
-use Rattle.matrix.proofs.Limits.{side-small}
-use Rattle.lapjv.specs.declared.Night.{Night}
+use Rattle.matrix.proofs.SmallLimits.{side-small}
+use Rattle.lapjv.specs.declared.Sums.{Sums}
 use Rattle.lapjv.specs.declared.Solved.the-variants.{Paired}
 use Rattle.lapjv.specs.Solve.{lentOf, outcomeOf, tested}
+use Rattle.lapjv.specs.Values.{toldOf}
 use Rattle.lapjv.specs.Passes.{Passes}
-use Rattle.lapjv.proofs.Tests.{outcome, solve-outcome, passed-passes}
+use Rattle.lapjv.proofs.Tests.{tested-iff, fails-refused}
 use Rattle.lapjv.proofs.Solving as solving
 use Rattle.lapjv.proofs.solve.Statement.{statement}
 use Rattle.lapjv.proofs.solve.Tie as tie
@@ -40,8 +41,7 @@ same-length-6 c = search needs
 returns : tie.Need-returns
 returns c =
     let u = c .before .before .before .before .before .before .before .before .before .before .before .before .before .args in
-    sym (ap (outcome (u .n) (u .costs .now) (lentOf (u .cols .now) (u .rows .now) (u .row-prices .now) (u .col-prices .now) (u .indices .now) (u .numbers .now))) (sym (c .before .before .before .tested .ensures) ∙ c .before .refusal .given .1))
-    ∙ solve-outcome (u .n) (u .costs .now) (lentOf (u .cols .now) (u .rows .now) (u .row-prices .now) (u .col-prices .now) (u .indices .now) (u .numbers .now))
+    ap toldOf (sym (fails-refused (u .n) (u .costs .now) (lentOf (u .cols .now) (u .rows .now) (u .row-prices .now) (u .col-prices .now) (u .indices .now) (u .numbers .now)) _ (sym (c .before .before .before .tested .ensures) ∙ c .before .refusal .given .1)))
 
 enum-told : tie.Need-enum-told
 enum-told c = search needs
@@ -50,7 +50,7 @@ enum-told c = search needs
 passes : (c : tie.After-enum-told) → let u = c .before .before .before .before .before .before .before .before .before .before .before .before .args in Passes (u .n) (u .costs .now) (lentOf (u .cols .now) (u .rows .now) (u .row-prices .now) (u .col-prices .now) (u .indices .now) (u .numbers .now))
 passes c =
     let u = c .before .before .before .before .before .before .before .before .before .before .before .before .args in
-    passed-passes (u .n) (u .costs .now) (lentOf (u .cols .now) (u .rows .now) (u .row-prices .now) (u .col-prices .now) (u .indices .now) (u .numbers .now)) (sym (c .before .before .tested .ensures) ∙ c .enum-told .given .1)
+    tested-iff (u .n) (u .costs .now) (lentOf (u .cols .now) (u .rows .now) (u .row-prices .now) (u .col-prices .now) (u .indices .now) (u .numbers .now)) .0 (sym (c .before .before .tested .ensures) ∙ c .enum-told .given .1)
 
 nothing-requires : tie.Need-nothing-requires
 nothing-requires c κs = search needs
@@ -76,8 +76,9 @@ same-length-12 c = search needs
 returns-2 : tie.Need-returns-2
 returns-2 c =
     let u = c .before .before .before .before .before .before .before .before .before .before .before .before .before .before .args in
-    ap (λ (night : Night). outcomeOf (Paired night) (lentOf (u .cols .now) (u .rows .now) (u .row-prices .now) (u .col-prices .now) (u .indices .now) (u .numbers .now))) (c .nothing .ensures)
-    ∙ solving.solved-nothing (u .n) (u .costs .now) (u .cols .now) (u .rows .now) (u .row-prices .now) (u .col-prices .now) (u .indices .now) (u .numbers .now) (passes (c .before .before)) (c .before .if1 .taken)
+    ap toldOf
+    (ap (λ (night : Sums). outcomeOf (Paired night) (lentOf (u .cols .now) (u .rows .now) (u .row-prices .now) (u .col-prices .now) (u .indices .now) (u .numbers .now))) (c .nothing .ensures)
+    ∙ solving.solved-nothing (u .n) (u .costs .now) (u .cols .now) (u .rows .now) (u .row-prices .now) (u .col-prices .now) (u .indices .now) (u .numbers .now) (passes (c .before .before)) (c .before .if1 .taken))
 
 mul-n4 : tie.Need-mul-n4
 mul-n4 c = omega (arith, side-small, passes (c .before) .small)
@@ -164,7 +165,7 @@ same-length-18 c = search needs
 returns-3 : tie.Need-returns-3
 returns-3 c =
     let u = c .before .before .before .before .before .before .before .before .before .before .before .before .before .before .before .before .before .before .before .before .before .before .before .before .before .before .before .before .before .args in
-    solving.solved-by (u .n) (u .costs .now) (u .cols .now) (u .rows .now) (u .row-prices .now) (u .col-prices .now) (u .indices .now) (u .numbers .now) (passes (c .before .before .before .before .before .before .before .before .before .before .before .before .before .before .before .before .before)) _ _ _ _ _ _ (c .before .before .before .before .before .before .before .before .before .pair .result) (c .before .before .before .before .before .before .before .before .before .pair .ensures)
+    ap toldOf (solving.solved-by (u .n) (u .costs .now) (u .cols .now) (u .rows .now) (u .row-prices .now) (u .col-prices .now) (u .indices .now) (u .numbers .now) (passes (c .before .before .before .before .before .before .before .before .before .before .before .before .before .before .before .before .before)) _ _ _ _ _ _ (c .before .before .before .before .before .before .before .before .before .pair .result) (c .before .before .before .before .before .before .before .before .before .pair .ensures))
 
 pub solve-spec : {M : Type 1} → statement M
 solve-spec =

@@ -12,8 +12,8 @@ use mir.Val.{toZ, ofZ}
 use Rattle.ints.proofs.Bits.{read-back}
 use Rattle.lists.specs.Permutations.{at, table}
 use Rattle.lists.proofs.Tables.{filled-none, filled-more, filled-length, filled-all}
-use Rattle.assignment.specs.Pairings.{price, square}
-use Rattle.matrix.proofs.Limits.{side-small}
+use Rattle.assignment.specs.Pairings.{signedAt, square}
+use Rattle.matrix.proofs.SmallLimits.{side-small}
 use Rattle.matrix.proofs.Places.{place-below}
 use Rattle.rules.specs.Lowest.{reduced}
 use Rattle.lapjv.proofs.write_row_prices.Statement.{statement}
@@ -21,7 +21,7 @@ use Rattle.lapjv.proofs.write_row_prices.Tie as tie
 
 -- The price of row i.
 abbrev rowPrice : ℕ → List ℤ → List ℕ → List ℤ → ℕ → ℤ
-rowPrice n costs cols v i = reduced (square n costs .cost) (price v) i (at cols i)
+rowPrice n costs cols v i = reduced (square n costs .cost) (signedAt v) i (at cols i)
 
 -- The list with the first i row prices written.
 abbrev written : ℕ → List ℤ → List ℕ → List ℤ → List ℤ → ℕ → List ℤ
@@ -35,14 +35,14 @@ abbrev μ-loop : tie.MeasureT-loop
 
 -- A turn, over plain variables: what is stored is the price of row i.
 turn : (n : ℕ) (costs : List ℤ) (cols : List ℕ) (v us₀ us : List ℤ) (start i : ℕ) (r : ℤ) → i < length us₀ → start ≡ i * n → us ≡ written n costs cols v us₀ i
-    → mag (price costs (start + at cols i)) < 2 ^ 31 → mag (price v (at cols i)) < 2 ^ 63
-    → r ≡ toZ w32 (ofZ w32 (price costs (start + at cols i))) -ℤ toZ w64 (ofZ w64 (price v (at cols i))) → mag r < 2 ^ 63
+    → mag (signedAt costs (start + at cols i)) < 2 ^ 31 → mag (signedAt v (at cols i)) < 2 ^ 63
+    → r ≡ toZ w32 (ofZ w32 (signedAt costs (start + at cols i))) -ℤ toZ w64 (ofZ w64 (signedAt v (at cols i))) → mag r < 2 ^ 63
     → set us i (toZ w64 (ofZ w64 r)) ≡ written n costs cols v us₀ (i + 1)
 turn n costs cols v us₀ us start i r l e f small small₂ is fits =
     let x : toZ w64 (ofZ w64 r) ≡ rowPrice n costs cols v i =
     read-back w64 r fits ∙ is
-    ∙ ap₂ _-ℤ_ (read-back w32 (price costs (start + at cols i)) small ∙ ap (λ (s : ℕ). price costs (s + at cols i)) e)
-    (read-back w64 (price v (at cols i)) small₂)
+    ∙ ap₂ _-ℤ_ (read-back w32 (signedAt costs (start + at cols i)) small ∙ ap (λ (s : ℕ). signedAt costs (s + at cols i)) e)
+    (read-back w64 (signedAt v (at cols i)) small₂)
     in ap₂ (λ (t : List ℤ) (z : ℤ). set t i z) f x ∙ filled-more i (rowPrice n costs cols v) us₀ l
 
 loop-holds : tie.Need-loop-holds Inv-loop μ-loop
@@ -104,7 +104,7 @@ reduced-cost-requires : tie.Need-reduced-cost-requires Inv-loop μ-loop
 reduced-cost-requires c κs =
     let s = c .before .before .before .before .before .before in
     let j = at (s .args .cols .now) (c .before .before .before .before .loop .i) in
-    rw (read-back w64 (price (s .args .v .now) j) (c .reduced-cost-arg2 .given)) (s .pre .prices-near j (facts (c .before .before .before) .column))
+    rw (read-back w64 (signedAt (s .args .v .now) j) (c .reduced-cost-arg2 .given)) (s .pre .prices-near j (facts (c .before .before .before) .column))
 
 mul-t20 : tie.Need-mul-t20 Inv-loop μ-loop
 mul-t20 c = omega (arith, facts (c .before .before .before .before))

@@ -9,9 +9,10 @@ use lib.IntN.{ℤ}
 use lib.ListN.{length, take}
 use mir.Syntax.{w64}
 use Rattle.ints.proofs.Bits.{read-back}
+use Rattle.layout.proofs.Stores.{sets-front}
 use Rattle.sheet.specs.Reading.{sheetSide, Read, read}
 use Rattle.sheet.specs.Settle.{settledAs, settled}
-use Rattle.sheet.proofs.Stores.{sets-front}
+use Rattle.sheet.proofs.Determined.{settled-values-determine}
 use Rattle.sheet.proofs.Pairing.{read-right}
 use Rattle.lines.specs.Put.{Put}
 use Rattle.lines.specs.Lines.{acceptedLine, rowLines, linesAs, output, Printed, printed}
@@ -38,26 +39,26 @@ output-as sheet = refl
 
 settled-as : (c : tie.After-settle) → c .settle .result ≡ settledAs (reading (c .before .before .before .args .sheet .now))
 unfolding settled
-settled-as c = c .settle .ensures
+settled-as c = settled-values-determine _ _ (c .settle .ensures)
 
-ready : (c : tie.After-verdict2) → Ready 1172 (c .before .before .settle .result) (c .verdict2 .given .0 .0) (c .verdict2 .given .0 .1 .0) (c .before .before .before .before .before .args .out .now) (linesAs (reading (c .before .before .before .before .before .args .sheet .now)))
+ready : (c : tie.After-reply2) → Ready 1172 (c .before .before .settle .result) (c .reply2 .given .0 .0) (c .reply2 .given .0 .1 .0) (c .before .before .before .before .before .args .out .now) (linesAs (reading (c .before .before .before .before .before .args .sheet .now)))
 ready c =
     let s = c .before .before in
     let u = s .before .before .before .args in
-    let v = c .verdict2 .given in
+    let v = c .reply2 .given in
     night-lines 1172 (s .settle .result) (reading (u .sheet .now)) (read-right 1172 (u .sheet .now)) (settled-as s) (v .0 .0) (v .0 .1 .0) (v .1) (u .out .now) (omega (arith, s .before .room .given .0))
 
 settle-requires : tie.Need-settle-requires
 settle-requires c κs = search needs
 
-enum-known-verdict : tie.Need-enum-known-verdict
-enum-known-verdict c = search needs
+enum-known-reply : tie.Need-enum-known-reply
+enum-known-reply c = search needs
 
 put-refused-requires : tie.Need-put-refused-requires
 put-refused-requires c κs = search needs
 
-enum-known-verdict-2 : tie.Need-enum-known-verdict-2
-enum-known-verdict-2 c = search needs
+enum-known-reply-2 : tie.Need-enum-known-reply-2
+enum-known-reply-2 c = search needs
 
 put-night-requires : tie.Need-put-night-requires
 put-night-requires c κs = (ready (c .before .before) .few, ready (c .before .before) .rows)
@@ -66,14 +67,14 @@ returns : tie.Need-returns
 returns c =
     let s = c .before .before .before .before in
     let u = s .before .before .before .args in
-    let v = c .before .before .verdict .given in
+    let v = c .before .before .reply .given in
     let lines = refused-lines 1172 (s .settle .result) (reading (u .sheet .now)) (settled-as s) (v .0 .0) (v .1) in
     printed-as (u .sheet .now) (u .out .now) (put-as (lines ∙ output-as (u .sheet .now)) (c .put-refused .ensures .0)) (omega (arith, c .put-refused .ensures .1, s .before .room .given .0))
 
 returns-2 : tie.Need-returns-2
 returns-2 c =
     let k = c .before .before in
-    let v = k .before .verdict2 .given in
+    let v = k .before .reply2 .given in
     let s = k .before .before .before in
     let u = s .before .before .before .args in
     let r = ready (k .before) in
@@ -86,4 +87,4 @@ returns-2 c =
 pub print-spec : {M : Type 1} → statement M
 print-spec =
     tie.close
-    (tie.spec settle-requires enum-known-verdict put-refused-requires enum-known-verdict-2 put-night-requires returns returns-2)
+    (tie.spec settle-requires enum-known-reply put-refused-requires enum-known-reply-2 put-night-requires returns returns-2)

@@ -13,7 +13,7 @@ use Rattle.ints.proofs.Bits.{read-back, read-wide, wide-fits}
 use Rattle.lines.specs.Decimal.{decimal, signedDecimal}
 use Rattle.lines.specs.Lines.{blank, feed, barredText, isBarred, barredMark, rowLine}
 use Rattle.lines.proofs.Decimal.{length-decimal, length-signedDecimal}
-use Rattle.lines.proofs.Put.{put-then, put-as, Near, near-fits, near-then}
+use Rattle.lines.proofs.Put.{put-as, Line, line-start, line-fits, line-then}
 use Rattle.lines.proofs.put_row.Statement.{statement}
 use Rattle.lines.proofs.put_row.Tie as tie
 
@@ -44,10 +44,7 @@ from-cost c = from-second-blank (c .before .before .before .before)
 abbrev from-mark : tie.After-put-barred → tie.Start
 from-mark c = from-cost (c .before .before .before .before)
 
--- ---- how far each write has come
-
-start : (c : tie.Start) → Near (c .args .place) 0 (c .args .place) (c .args .out .now)
-start c = record { reach = omega arith; long = c .pre }
+-- ---- the line, write by write
 
 row-short : (c : tie.Start) → length (decimal (c .args .row)) ≤ 20
 row-short c = length-decimal (c .args .row) (c .fits .row .fits)
@@ -55,45 +52,68 @@ row-short c = length-decimal (c .args .row) (c .fits .row .fits)
 column-short : (c : tie.Start) → length (decimal (c .args .column)) ≤ 20
 column-short c = length-decimal (c .args .column) (omega (arith, c .fits .column))
 
-cost-read : (c : tie.Start) → toZ w64 (ofZ w64 (toZ w32 (ofZ w32 (c .args .cost)))) ≡ c .args .cost
+-- the cost as the code hands it on, to the mark and to the decimal
+abbrev near : tie.Start → ℤ
+near c = toZ w32 (ofZ w32 (c .args .cost))
+
+abbrev wide : tie.Start → ℤ
+wide c = toZ w64 (ofZ w64 (near c))
+
+cost-read : (c : tie.Start) → wide c ≡ c .args .cost
 cost-read c = read-wide (c .args .cost) (c .fits .cost .sfits)
 
-cost-short : (c : tie.Start) → length (signedDecimal (toZ w64 (ofZ w64 (toZ w32 (ofZ w32 (c .args .cost)))))) ≤ 20
+cost-short : (c : tie.Start) → length (signedDecimal (wide c)) ≤ 20
 cost-short c = rw (cost-read c) (length-signedDecimal (c .args .cost) (omega (arith, c .fits .cost .sfits)))
 
-after-row : (c : tie.After-put-decimal) → Near (from-row c .args .place) 20 (c .put-decimal .result) (c .put-decimal .last .0)
-after-row c = near-then 20 (start (from-row c)) (c .put-decimal .ensures) (c .put-decimal .kept .0) (row-short (from-row c))
+after-row : (c : tie.After-put-decimal) → let u = from-row c .args in
+    Line (u .place) 20 (u .out .now) (λ q. decimal (u .row) ++ q) (c .put-decimal .last .0) (c .put-decimal .result)
+after-row c =
+    let s = from-row c in
+    line-then (decimal (s .args .row)) 20 (line-start (s .args .place) (s .args .out .now) (s .pre)) (c .put-decimal .ensures) (c .put-decimal .kept .0) (row-short s)
 
-after-blank : (c : tie.After-put-byte) → Near (from-blank c .args .place) 21 (c .put-byte .result) (c .put-byte .last .0)
-after-blank c = near-then 1 (after-row (c .before .before .before .before)) (c .put-byte .ensures) (c .put-byte .kept .0) (omega arith)
+after-blank : (c : tie.After-put-byte) → let u = from-blank c .args in
+    Line (u .place) 21 (u .out .now) (λ q. decimal (u .row) ++ (blank ++ q)) (c .put-byte .last .0) (c .put-byte .result)
+after-blank c = line-then blank 1 (after-row (c .before .before .before .before)) (c .put-byte .ensures) (c .put-byte .kept .0) (omega arith)
 
-after-column : (c : tie.After-put-decimal2) → Near (from-column c .args .place) 41 (c .put-decimal2 .result) (c .put-decimal2 .last .0)
-after-column c = near-then 20 (after-blank (c .before .before .before .before)) (c .put-decimal2 .ensures) (c .put-decimal2 .kept .0) (column-short (from-column c))
+after-column : (c : tie.After-put-decimal2) → let u = from-column c .args in
+    Line (u .place) 41 (u .out .now) (λ q. decimal (u .row) ++ (blank ++ (decimal (u .column) ++ q))) (c .put-decimal2 .last .0) (c .put-decimal2 .result)
+after-column c =
+    let s = from-column c in
+    line-then (decimal (s .args .column)) 20 (after-blank (c .before .before .before .before)) (c .put-decimal2 .ensures) (c .put-decimal2 .kept .0) (column-short s)
 
-after-second-blank : (c : tie.After-put-byte2) → Near (from-second-blank c .args .place) 42 (c .put-byte2 .result) (c .put-byte2 .last .0)
-after-second-blank c = near-then 1 (after-column (c .before .before .before .before)) (c .put-byte2 .ensures) (c .put-byte2 .kept .0) (omega arith)
+after-second-blank : (c : tie.After-put-byte2) → let u = from-second-blank c .args in
+    Line (u .place) 42 (u .out .now) (λ q. decimal (u .row) ++ (blank ++ (decimal (u .column) ++ (blank ++ q)))) (c .put-byte2 .last .0) (c .put-byte2 .result)
+after-second-blank c = line-then blank 1 (after-column (c .before .before .before .before)) (c .put-byte2 .ensures) (c .put-byte2 .kept .0) (omega arith)
 
-after-cost : (c : tie.After-put-signed) → Near (from-cost c .args .place) 62 (c .put-signed .result) (c .put-signed .last .0)
-after-cost c = near-then 20 (after-second-blank (c .before .before .before .before)) (c .put-signed .ensures) (c .put-signed .kept .0) (cost-short (from-cost c))
+after-cost : (c : tie.After-put-signed) → let s = from-cost c in let u = s .args in
+    Line (u .place) 62 (u .out .now) (λ q. decimal (u .row) ++ (blank ++ (decimal (u .column) ++ (blank ++ (signedDecimal (wide s) ++ q))))) (c .put-signed .last .0)
+    (c .put-signed .result)
+after-cost c =
+    let s = from-cost c in
+    line-then (signedDecimal (wide s)) 20 (after-second-blank (c .before .before .before .before)) (c .put-signed .ensures) (c .put-signed .kept .0) (cost-short s)
 
-after-mark : (c : tie.After-put-barred) → Near (from-mark c .args .place) 69 (c .put-barred .result) (c .put-barred .last .0)
-after-mark c = near-then 7 (after-cost (c .before .before .before .before)) (c .put-barred .ensures) (c .put-barred .kept .0) (barred-short (toZ w32 (ofZ w32 (from-mark c .args .cost))))
+after-mark : (c : tie.After-put-barred) → let s = from-mark c in let u = s .args in
+    Line (u .place) 69 (u .out .now) (λ q. decimal (u .row) ++ (blank ++ (decimal (u .column) ++ (blank ++ (signedDecimal (wide s) ++ (barredMark (near s) ++ q))))))
+    (c .put-barred .last .0) (c .put-barred .result)
+after-mark c =
+    let s = from-mark c in
+    line-then (barredMark (near s)) 7 (after-cost (c .before .before .before .before)) (c .put-barred .ensures) (c .put-barred .kept .0) (barred-short (near s))
 
 put-decimal-requires : tie.Need-put-decimal-requires
 put-decimal-requires c κs =
     let s = c .before .before in
-    omega (arith, near-fits 20 (start s) (omega arith), row-short s)
+    omega (arith, line-fits 20 (line-start (s .args .place) (s .args .out .now) (s .pre)) (omega arith), row-short s)
 
 put-byte-requires : tie.Need-put-byte-requires
-put-byte-requires c κs = omega (arith, near-fits 1 (after-row (c .before .before .before)) (omega arith))
+put-byte-requires c κs = omega (arith, line-fits 1 (after-row (c .before .before .before)) (omega arith))
 
 put-decimal-requires-2 : tie.Need-put-decimal-requires-2
 put-decimal-requires-2 c κs =
     let s = from-blank (c .before .before .before) in
-    omega (arith, near-fits 20 (after-blank (c .before .before .before)) (omega arith), column-short s)
+    omega (arith, line-fits 20 (after-blank (c .before .before .before)) (omega arith), column-short s)
 
 put-byte-requires-2 : tie.Need-put-byte-requires-2
-put-byte-requires-2 c κs = omega (arith, near-fits 1 (after-column (c .before .before .before)) (omega arith))
+put-byte-requires-2 c κs = omega (arith, line-fits 1 (after-column (c .before .before .before)) (omega arith))
 
 cast-put-signed : tie.Need-cast-put-signed
 cast-put-signed c = let s = from-second-blank (c .before .before .before) in wide-fits (s .args .cost) (s .fits .cost .sfits)
@@ -101,13 +121,13 @@ cast-put-signed c = let s = from-second-blank (c .before .before .before) in wid
 put-signed-requires : tie.Need-put-signed-requires
 put-signed-requires c κs =
     let s = from-second-blank (c .before .before .before) in
-    omega (arith, near-fits 20 (after-second-blank (c .before .before .before)) (omega arith), cost-short s)
+    omega (arith, line-fits 20 (after-second-blank (c .before .before .before)) (omega arith), cost-short s)
 
 put-barred-requires : tie.Need-put-barred-requires
-put-barred-requires c κs = near-fits 7 (after-cost (c .before .before .before)) (omega arith)
+put-barred-requires c κs = line-fits 7 (after-cost (c .before .before .before)) (omega arith)
 
 put-byte-requires-3 : tie.Need-put-byte-requires-3
-put-byte-requires-3 c κs = omega (arith, near-fits 1 (after-mark (c .before .before .before)) (omega arith))
+put-byte-requires-3 c κs = omega (arith, line-fits 1 (after-mark (c .before .before .before)) (omega arith))
 
 same-length : tie.Need-same-length
 same-length c = search needs
@@ -117,25 +137,12 @@ unfolding rowLine
 returns c =
     let last = c .before .before in
     let mark = last .before .before .before .before in
-    let cost = mark .before .before .before .before in
-    let second = cost .before .before .before .before in
-    let column = second .before .before .before .before in
-    let first = column .before .before .before .before in
-    let row = first .before .before .before .before in
-    let s = from-row row in
+    let s = from-mark mark in
     let u = s .args in
-    let wide = toZ w64 (ofZ w64 (toZ w32 (ofZ w32 (u .cost)))) in
-    let near = toZ w32 (ofZ w32 (u .cost)) in
-    let line : ℤ → ℤ → List ℕ = λ z w. decimal (u .row) ++ (blank ++ (decimal (u .column) ++ (blank ++ (signedDecimal z ++ (barredMark w ++ feed))))) in
-    let all =
-    put-as (ap₂ line (cost-read s) (read-back w32 (u .cost) (s .fits .cost .sfits)))
-    (put-then (decimal (u .row)) (blank ++ (decimal (u .column) ++ (blank ++ (signedDecimal wide ++ (barredMark near ++ feed))))) (row .put-decimal .ensures)
-    (put-then blank (decimal (u .column) ++ (blank ++ (signedDecimal wide ++ (barredMark near ++ feed)))) (first .put-byte .ensures)
-    (put-then (decimal (u .column)) (blank ++ (signedDecimal wide ++ (barredMark near ++ feed))) (column .put-decimal2 .ensures)
-    (put-then blank (signedDecimal wide ++ (barredMark near ++ feed)) (second .put-byte2 .ensures)
-    (put-then (signedDecimal wide) (barredMark near ++ feed) (cost .put-signed .ensures)
-    (put-then (barredMark near) feed (mark .put-barred .ensures) (last .put-byte3 .ensures))))))) in
-    (all, omega (arith, after-mark mark .reach, last .put-byte3 .ensures .past))
+    let line : ℤ → ℤ → List ℕ = λ z w. decimal (u .row) ++ (blank ++ (decimal (u .column) ++ (blank ++ (signedDecimal z ++ (barredMark w ++ feed))))) in (
+      put-as (ap₂ line (cost-read s) (read-back w32 (u .cost) (s .fits .cost .sfits))) (after-mark mark .ends feed (last .put-byte3 .ensures)),
+      omega (arith, after-mark mark .reach, last .put-byte3 .ensures .past),
+    )
 
 pub put-row-spec : {M : Type 1} → statement M
 put-row-spec =

@@ -11,7 +11,7 @@ use lib.ListN.{length}
 use mir.Syntax.{w32}
 use Rattle.ints.proofs.Bits.{read-back}
 use Rattle.lists.specs.Permutations.{at}
-use Rattle.assignment.specs.Pairings.{price}
+use Rattle.assignment.specs.Pairings.{signedAt}
 use Rattle.lines.specs.Put.{Put}
 use Rattle.lines.specs.Lines.{rowLine, rowLines}
 use Rattle.lines.proofs.Put.{put-then, put-as}
@@ -31,13 +31,13 @@ none n costs cols out place = record { stored = refl; past = omega arith }
 
 -- a turn writes the next line
 turn : (n : ℕ) (costs : List ℤ) (cols : List ℕ) (i start : ℕ) (z : ℤ) {out₀ out out′ : List ℕ} {place next next′ : ℕ} → start ≡ i * n
-    → z ≡ price costs (start + at cols i) → Put out₀ place (rowLines n costs cols i) out next → Put out next (rowLine i (at cols i) z) out′ next′
+    → z ≡ signedAt costs (start + at cols i) → Put out₀ place (rowLines n costs cols i) out next → Put out next (rowLine i (at cols i) z) out′ next′
     → Put out₀ place (rowLines n costs cols (i + 1)) out′ next′
 unfolding rowLines
 turn n costs cols i start z s e so-far new =
-    let cost : z ≡ price costs (i * n + at cols i) = e ∙ ap (λ (k : ℕ). price costs (k + at cols i)) s in
+    let cost : z ≡ signedAt costs (i * n + at cols i) = e ∙ ap (λ (k : ℕ). signedAt costs (k + at cols i)) s in
     let line = rowLine i (at cols i) z in
-    rw add-one (put-then (rowLines n costs cols i) (rowLine i (at cols i) (price costs (i * n + at cols i))) so-far (put-as (ap (rowLine i (at cols i)) cost) new))
+    rw add-one (put-then (rowLines n costs cols i) (rowLine i (at cols i) (signedAt costs (i * n + at cols i))) so-far (put-as (ap (rowLine i (at cols i)) cost) new))
 
 -- each row and its column make a place of the costs
 place-below : (n i j : ℕ) → i < n → j < n → i * n + j < n * n
@@ -99,7 +99,7 @@ loop-again c =
     let l = c .before .before .before .before .before .before .before .before .loop in
     let u = c .before .before .before .before .before .before .before .before .before .before .before .args in
     let i = l .i in
-    let z = price (u .costs .now) (l .start + at (u .cols .now) i) in (
+    let z = signedAt (u .costs .now) (l .start + at (u .cols .now) i) in (
       omega arith,
       omega arith,
       omega (arith, put .ensures .1),

@@ -14,24 +14,24 @@ use Rattle.ints.proofs.Bits.{told, read-back}
 use Rattle.ints.proofs.Shapes.{zlin}
 use Rattle.lists.specs.Permutations.{at}
 use Rattle.lists.proofs.Sums.{sum-none, sum-last}
-use Rattle.assignment.specs.Pairings.{price}
+use Rattle.assignment.specs.Pairings.{signedAt}
 use Rattle.matrix.specs.Cost.{totalOf}
-use Rattle.matrix.proofs.Limits.{side-small}
+use Rattle.matrix.proofs.SmallLimits.{side-small}
 use Rattle.matrix.proofs.Places.{place-below}
 use borrow.Author.Needs.{needs}
 use Rattle.matrix.proofs.total.Statement.{statement}
 use Rattle.matrix.proofs.total.Tie as tie
 
 -- a turn, over plain variables: t has the bits of the total so far, r is the new one
-module _ (n : ℕ) (costs : List ℤ) (cols : List ℕ) (i start t : ℕ) (r : ℤ) (small : mag (price costs (start + at cols i)) < 2 ^ 31)
-    (added : r ≡ toZ w64 t +ℤ toZ w32 (ofZ w32 (price costs (start + at cols i)))) (fits : mag r < 2 ^ 63) where
+module _ (n : ℕ) (costs : List ℤ) (cols : List ℕ) (i start t : ℕ) (r : ℤ) (small : mag (signedAt costs (start + at cols i)) < 2 ^ 31)
+    (added : r ≡ toZ w64 t +ℤ toZ w32 (ofZ w32 (signedAt costs (start + at cols i)))) (fits : mag r < 2 ^ 63) where
   turn : start ≡ i * n → toZ w64 t ≡ totalOf n costs i cols → toZ w64 (ofZ w64 r) ≡ totalOf n costs (i + 1) cols
   turn e so-far =
       rw (add-one, sum-last)
-      (read-back w64 r fits ∙ added ∙ ap₂ _+ℤ_ so-far (read-back w32 (price costs (start + at cols i)) small ∙ ap (λ (s : ℕ). price costs (s + at cols i)) e))
+      (read-back w64 r fits ∙ added ∙ ap₂ _+ℤ_ so-far (read-back w32 (signedAt costs (start + at cols i)) small ∙ ap (λ (s : ℕ). signedAt costs (s + at cols i)) e))
 
   turn-within : Within (i * 2 ^ 31) (toZ w64 t) → Within ((i + 1) * 2 ^ 31) (toZ w64 (ofZ w64 r))
-  turn-within w = omega (zlin, told w64 r fits, told w32 (price costs (start + at cols i)) small)
+  turn-within w = omega (zlin, told w64 r fits, told w32 (signedAt costs (start + at cols i)) small)
 
 abbrev Inv-loop : tie.InvT-loop
 Inv-loop n costs count cols total₀ start₀ i₀ total start i =

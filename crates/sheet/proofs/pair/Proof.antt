@@ -7,9 +7,10 @@ use lib.IntN.{ℤ}
 use lib.ListN.{length, take, drop, length-map}
 use mir.Syntax.{w64}
 use Rattle.ints.proofs.Bits.{read-back}
-use Rattle.sheet.specs.Layout.{slipOf, slipLength}
+use Rattle.layout.specs.Slips.{slipOf, slipLength}
 use Rattle.sheet.specs.Reading.{Read, read}
 use Rattle.sheet.specs.Settle.{settledAs, settled, pair}
+use Rattle.sheet.proofs.Determined.{settled-values-determine}
 use Rattle.sheet.proofs.Pairing.{Right, read-right, Sized, refused-outcome, paired-outcome}
 use Rattle.sheet.proofs.pair.Statement.{statement}
 use Rattle.sheet.proofs.pair.Tie as tie
@@ -33,27 +34,27 @@ right c = read-right (length (c .before .before .before .args .slip .now)) (c .b
 
 settled-as : (c : tie.After-settle) → c .settle .result ≡ settledAs (reading c)
 unfolding settled
-settled-as c = c .settle .ensures
+settled-as c = settled-values-determine _ _ (c .settle .ensures)
 
 settle-requires : tie.Need-settle-requires
 settle-requires c κs = search needs
 
-enum-known-verdict : tie.Need-enum-known-verdict
-enum-known-verdict c = search needs
+enum-known-reply : tie.Need-enum-known-reply
+enum-known-reply c = search needs
 
 code-requires : tie.Need-code-requires
 code-requires c κs =
     let s = c .before .before .before in
-    let v = c .before .verdict .given in
+    let v = c .before .reply .given in
     refused-outcome (s .before .before .before .args .slip .now) (s .settle .result) (reading s) (right s) (settled-as s) (v .0 .0) (v .1) .0
 
-enum-known-verdict-2 : tie.Need-enum-known-verdict-2
-enum-known-verdict-2 c = search needs
+enum-known-reply-2 : tie.Need-enum-known-reply-2
+enum-known-reply-2 c = search needs
 
 write-state-requires : tie.Need-write-state-requires
 write-state-requires c κs =
     let s = c .before .before .before .before .before in
-    let v = c .before .before .before .verdict2 .given in
+    let v = c .before .before .before .reply2 .given in
     let o = paired-outcome (s .before .before .before .args .slip .now) (s .settle .result) (reading s) (right s) (settled-as s) (v .0 .0) (v .0 .1 .0) (v .1) (sized s) in
     (o .0, o .1)
 
@@ -61,7 +62,7 @@ returns : tie.Need-returns
 unfolding pair
 returns c =
     let s = c .before .before .before .before in
-    let v = c .before .before .verdict .given in
+    let v = c .before .before .reply .given in
     let slip = s .before .before .before .args .slip .now in
     ap (λ (m : ℕ). record { number = m; slip = slip }) (c .code .ensures)
     ∙ refused-outcome slip (s .settle .result) (reading s) (right s) (settled-as s) (v .0 .0) (v .1) .1
@@ -74,13 +75,13 @@ unfolding pair
 returns-2 c =
     let k = c .before .before .before .before .before in
     let s = k .before .before .before in
-    let v = k .before .verdict2 .given in
+    let v = k .before .reply2 .given in
     let u = s .before .before .before .args in
     let state = s .settle .result .state in
     let n = v .0 .0 in
     let total = read-back w64 (v .0 .1 .0) (k .known-told2 .given .1 .0 .1) in
     ap (λ (l : List ℕ). record { number = 0; slip = l }) (c .before .before .write-state .ensures
-    ∙ ap (λ (t : ℤ). slipOf n (take n (state .cols)) (take n (state .«row_prices»)) (take n (state .«col_prices»)) t ++ drop (slipLength n) (u .slip .now)) total)
+    ∙ ap (λ (t : ℤ). slipOf 1 n (take n (state .cols)) (take n (state .«row_prices»)) (take n (state .«col_prices»)) t ++ drop (slipLength n) (u .slip .now)) total)
     ∙ paired-outcome (u .slip .now) (s .settle .result) (reading s) (right s) (settled-as s) n (v .0 .1 .0) (v .1) (sized s) .2
 
 pub pair-spec : {M : Type 1} → statement M
@@ -88,9 +89,9 @@ pair-spec =
     tie.close
     (tie.spec
     settle-requires
-    enum-known-verdict
+    enum-known-reply
     code-requires
-    enum-known-verdict-2
+    enum-known-reply-2
     write-state-requires
     returns
     same-length

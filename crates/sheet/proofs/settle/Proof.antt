@@ -1,19 +1,16 @@
 -- `settle` answers what is settled of a sheet: a refusal of the tests, or what the solver makes of the costs. Assumes nothing.
-use mathlib.Core.Path.{_≡_, sym, ap, _∙_}
+use mathlib.Core.Path.{sym, ap, _∙_}
+use Prim.Native.Nat.{ℕ, _*_}
 use borrow.Author.Needs.{needs}
-use Rattle.sheet.specs.declared.Tested.{Tested}
-use Rattle.sheet.specs.declared.Tested.the-variants.{Side}
-use Rattle.sheet.specs.Reading.{tested, readAfter, read}
-use Rattle.sheet.specs.Settle.{settledAs, settled}
-use Rattle.sheet.proofs.Passing.{tested-passed}
-use Rattle.sheet.proofs.Solving.{settled-as}
+use Rattle.layout.specs.Sheets.{costsAt}
+use Rattle.matrix.specs.Verdicts.{Passes}
+use Rattle.sheet.specs.Reading.{sheetTests, costsTested}
+use Rattle.sheet.specs.Settle.{settledAs}
+use Rattle.sheet.specs.Values.{settledValues}
+use Rattle.sheet.proofs.Passing.{SheetPassed, tests-passed}
+use Rattle.sheet.proofs.Solver.{passed-settles, fails-settles}
 use Rattle.sheet.proofs.settle.Statement.{statement}
 use Rattle.sheet.proofs.settle.Tie as tie
-
--- the sheet has passed the tests with this side
-side-passed : (c : tie.After-known-told2)
-    → let u = c .before .before .before .before .before .args in tested (u .room) (u .sheet .now) ≡ Side (c .before .n .given .0 .0)
-side-passed c = sym (c .before .before .before .tests .ensures) ∙ c .before .n .given .1
 
 tests-requires : tie.Need-tests-requires
 tests-requires c κs = search needs
@@ -24,29 +21,41 @@ enum-known-refusal c = search needs
 refused-requires : tie.Need-refused-requires
 refused-requires c κs = search needs
 
-enum-known-n : tie.Need-enum-known-n
-enum-known-n c = search needs
+enum-told : tie.Need-enum-told
+enum-told c = search needs
 
-solved-requires : tie.Need-solved-requires
-solved-requires c κs =
-    let u = c .before .before .before .before .before .args in
-    let p = tested-passed (u .room) (u .sheet .now) (c .before .n .given .0 .0) (side-passed c) in
-    (p .small, p .inside)
+-- the sheet has passed the tests
+all-passed : (c : tie.After-enum-told) → let u = c .before .before .before .before .args in Passes (sheetTests (u .room) (u .sheet .now))
+all-passed c = sym (c .before .before .tests .ensures) ∙ c .enum-told .given .1
+
+passed : (c : tie.After-enum-told) → let u = c .before .before .before .before .args in SheetPassed (u .room) (u .sheet .now)
+passed c =
+    let u = c .before .before .before .before .args in
+    tests-passed (u .room) (u .sheet .now) (all-passed c)
+
+side-of-requires : tie.Need-side-of-requires
+side-of-requires c κs = passed c .ended
+
+settle-night-requires : tie.Need-settle-night-requires
+settle-night-requires c κs =
+    let p = passed (c .before) in
+    rw (c .side-of .ensures .0) (p .small, p .inside)
 
 returns : tie.Need-returns
-unfolding settled read
 returns c =
-    let t = c .before .before .before .before .tests in
-    let u = c .before .before .before .before .before .before .args in
-    c .refused .ensures ∙ ap (λ (x : Tested). settledAs (readAfter (u .sheet .now) x)) (sym (c .before .before .refusal .given .1) ∙ t .ensures)
+    let t = c .before .before .before .before in
+    let u = t .before .before .args in
+    ap settledValues (c .refused .ensures ∙ fails-settles (u .room) (u .sheet .now) (sym (t .tests .ensures) ∙ c .before .before .refusal .given .1))
 
 returns-2 : tie.Need-returns-2
 returns-2 c =
-    let k = c .before in
-    let u = k .before .before .before .before .before .args in
-    c .solved .ensures ∙ settled-as (u .room) (u .sheet .now) (k .before .n .given .0 .0) (side-passed k)
+    let e = c .before .before in
+    let u = e .before .before .before .before .args in
+    ap settledValues (c .settle-night .ensures
+    ∙ ap (λ (m : ℕ). settledAs (costsTested m (costsAt (4 * (m * m)) (m * m) (u .sheet .now)))) (c .before .side-of .ensures .0)
+    ∙ passed-settles (u .room) (u .sheet .now) (all-passed e))
 
 pub settle-spec : {M : Type 1} → statement M
 settle-spec =
     tie.close
-    (tie.spec tests-requires enum-known-refusal refused-requires enum-known-n solved-requires returns returns-2)
+    (tie.spec tests-requires enum-known-refusal refused-requires enum-told side-of-requires settle-night-requires returns returns-2)

@@ -6,6 +6,7 @@ use native.Mathlib.Omega.{arith}
 use borrow.Author.Needs.{needs}
 use lib.ListN.{take}
 use Rattle.lapjv.specs.Solve.{lentOf, solve}
+use Rattle.lapjv.proofs.Determined.{told-determines}
 use Rattle.sheet.proofs.solve_arrays.Statement.{statement}
 use Rattle.sheet.proofs.solve_arrays.Tie as tie
 
@@ -27,7 +28,7 @@ solve-requires c κs = search needs
 returns : tie.Need-returns
 returns c =
     let u = c .before .before .before .before .before .before .before .before .before .args in
-    c .solve .ensures
+    told-determines _ _ (c .solve .ensures)
     ∙ ap (λ (m : ℕ). solve (u .n) (take m (u .costs .now)) (lentOf (u .cols .now) (u .rows .now) (u .row-prices .now) (u .col-prices .now) (u .indices .now) (u .numbers .now))) (sub-zero (u .n * u .n))
 
 pub solve-arrays-spec : {M : Type 1} → statement M

@@ -9,17 +9,17 @@ use lib.IntN.{ℤ}
 use lib.ListN.{length, take, drop}
 use lib.Seq.{length-take-le}
 use mir.Facts.{toZ-ofZ}
-use Rattle.sheet.specs.Layout.{slipOf, slipLength}
+use Rattle.layout.specs.Slips.{slipOf, slipLength}
 use Rattle.sheet.proofs.write_arrays.Statement.{statement}
 use Rattle.sheet.proofs.write_arrays.Tie as tie
 
 -- the parts that are lent are the first n entries
 fronts : (slip : List ℕ) (n : ℕ) (cols : List ℕ) (rowPrices columnPrices : List ℤ) {read total : ℤ} → read ≡ total → n ≤ length cols
-    → slipOf (length (take (n - 0) cols)) (take (n - 0) cols) (take (n - 0) rowPrices) (take (n - 0) columnPrices) read ++ drop (slipLength (length (take (n - 0) cols))) slip
-    ≡ slipOf n (take n cols) (take n rowPrices) (take n columnPrices) total ++ drop (slipLength n) slip
+    → slipOf 1 (length (take (n - 0) cols)) (take (n - 0) cols) (take (n - 0) rowPrices) (take (n - 0) columnPrices) read ++ drop (slipLength (length (take (n - 0) cols))) slip
+    ≡ slipOf 1 n (take n cols) (take n rowPrices) (take n columnPrices) total ++ drop (slipLength n) slip
 fronts slip n cols rowPrices columnPrices {total} e h =
     rw (sub-zero, e)
-    (ap (λ (m : ℕ). slipOf m (take n cols) (take n rowPrices) (take n columnPrices) total ++ drop (slipLength m) slip) (length-take-le n cols h))
+    (ap (λ (m : ℕ). slipOf 1 m (take n cols) (take n rowPrices) (take n columnPrices) total ++ drop (slipLength m) slip) (length-take-le n cols h))
 
 sub-write-slip : tie.Need-sub-write-slip
 sub-write-slip c = search needs

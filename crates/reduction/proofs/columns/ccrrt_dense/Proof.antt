@@ -5,7 +5,7 @@ use borrow.Author.Needs.{needs}
 use lib.ListN.{length}
 use Rattle.assignment.specs.Pairings.{square}
 use Rattle.rules.specs.Columns.{Claims, claims}
-use Rattle.matrix.proofs.Limits.{side-small}
+use Rattle.matrix.proofs.SmallLimits.{side-small}
 use Rattle.reduction.specs.Columns.{claimsOf}
 use Rattle.reduction.proofs.Stages.{roomLent, frontLent, Cleared, ready, claims-are, cleared, claims-claimable, ready-to-transfer, stage-ends, room-ends, after-length}
 use Rattle.reduction.proofs.columns.ccrrt_dense.Statement.{statement}

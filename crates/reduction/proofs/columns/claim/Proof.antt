@@ -3,7 +3,7 @@ use Prim.Native.Nat.{_<_}
 use native.Mathlib.Omega.{arith}
 use borrow.Author.Needs.{needs}
 use Rattle.lists.specs.Permutations.{at}
-use Rattle.matrix.proofs.Limits.{side-small}
+use Rattle.matrix.proofs.SmallLimits.{side-small}
 use Rattle.reduction.specs.Columns.{claimsOf}
 use Rattle.reduction.proofs.Claims.{claim-wins, claim-loses}
 use Rattle.reduction.proofs.columns.claim.Statement.{statement}

@@ -4,7 +4,7 @@ use borrow.Author.Needs.{needs}
 use mir.Syntax.{w64}
 use mir.Val.{SFits}
 use mir.Facts.{toZ-ofZ}
-use Rattle.rules.specs.declared.Least.the-variants.{Of}
+use Rattle.rules.specs.declared.LeastSoFar.the-variants.{Of}
 use Rattle.reduction.proofs.columns.least.Statement.{statement}
 use Rattle.reduction.proofs.columns.least.Tie as tie
 

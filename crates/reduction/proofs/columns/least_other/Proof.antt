@@ -9,7 +9,7 @@ use lib.IntN.{ℤ, _-ℤ_}
 use lib.ListN.{length}
 use mir.Syntax.{w64}
 use Rattle.ints.proofs.Bits.{read-back}
-use Rattle.assignment.specs.Pairings.{price}
+use Rattle.assignment.specs.Pairings.{signedAt}
 use Rattle.rules.specs.Lowest.{least, leastBut}
 use Rattle.reduction.proofs.Bits.{reduced-back}
 use Rattle.reduction.proofs.Turns.{leastBut-none, leastBut-same, leastBut-other, leastBut-pass}
@@ -18,7 +18,7 @@ use Rattle.reduction.proofs.columns.least_other.Tie as tie
 
 -- the reduced cost at column k
 abbrev at : List ℤ → List ℤ → ℕ → ℤ
-at row v k = price row k -ℤ price v k
+at row v k = signedAt row k -ℤ signedAt v k
 
 abbrev Inv-loop : tie.InvT-loop
 Inv-loop row v j found₀ k₀ found k = (k ≤ length row) × (found ≡ leastBut k (at row v) j)
@@ -45,7 +45,7 @@ reduced-cost-requires : tie.Need-reduced-cost-requires Inv-loop μ-loop
 reduced-cost-requires c κs =
     let s = c .before .before .before .before .before in
     let k = c .before .before .before .before .loop .k in
-    rw (read-back w64 (price (s .args .v .now) k) (c .reduced-cost-arg2 .given)) (s .pre .1 k (c .before .before .before .loop-test .taken))
+    rw (read-back w64 (signedAt (s .args .v .now) k) (c .reduced-cost-arg2 .given)) (s .pre .1 k (c .before .before .before .loop-test .taken))
 
 least-requires : tie.Need-least-requires Inv-loop μ-loop
 least-requires c κs = search needs
@@ -71,7 +71,7 @@ loop-again c =
       leastBut-pass f (d .if1 .found) (u .j) (k + 1) (c .next-least .result) (m .on)
           (⊎-elim
           (λ w. w .5 ∙ w .4 .ensures ∙ ap₂ least (l .inv .1)
-          (reduced-back (price (u .row .now) k) (price (u .v .now) k) (w .3 .result) (w .1 .given) (w .2 .given) (w .3 .ok) (w .3 .ensures)) ∙ sym
+          (reduced-back (signedAt (u .row .now) k) (signedAt (u .v .now) k) (w .3 .result) (w .1 .given) (w .2 .given) (w .3 .ok) (w .3 .ensures)) ∙ sym
           (leastBut-other f (u .j) k (w .0 .taken)))
           (λ w. w .1 ∙ l .inv .1 ∙ sym (leastBut-same f (u .j) k (w .0 .left)))
           (d .if1 .came)) (m .passed),

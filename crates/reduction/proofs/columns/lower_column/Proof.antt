@@ -5,7 +5,7 @@ use borrow.Author.Needs.{needs}
 use lib.ListN.{set}
 use mir.Syntax.{w64}
 use Rattle.ints.proofs.Bits.{read-back}
-use Rattle.assignment.specs.Pairings.{square, price}
+use Rattle.assignment.specs.Pairings.{square, signedAt}
 use Rattle.rules.specs.Lowest.{reduced, leastBut}
 use Rattle.rules.specs.Columns.{lessLeast}
 use Rattle.reduction.specs.Columns.{NearLeast}
@@ -25,7 +25,7 @@ least-other-requires c κs =
 
 least-is : (c : tie.After-least-other)
     → let u = c .before .before .before .args in
-    c .least-other .result ≡ leastBut (u .n) (reduced (square (u .n) (u .costs .now) .cost) (price (u .v .now)) (u .i)) (u .j)
+    c .least-other .result ≡ leastBut (u .n) (reduced (square (u .n) (u .costs .now) .cost) (signedAt (u .v .now)) (u .i)) (u .j)
 least-is c =
     let s = c .before .before .before in
     let u = s .args in
@@ -41,7 +41,7 @@ less-least-requires : tie.Need-less-least-requires
 less-least-requires c κs =
     let s = c .before .before .before .before in
     let u = s .args in (
-      rw (read-back w64 (price (u .v .now) (u .j)) (c .less-least-arg .given)) (s .pre .4 (u .j) (s .pre .2)),
+      rw (read-back w64 (signedAt (u .v .now) (u .j)) (c .less-least-arg .given)) (s .pre .4 (u .j) (s .pre .2)),
       subst NearLeast (sym (least-is (c .before)))
           (leastBut-near (u .n) (u .costs .now) (u .v .now) (s .pre .0) (s .pre .4) (u .i) (s .pre .1) (u .j)),
     )
@@ -60,7 +60,7 @@ returns c =
     let u = c .before .before .before .before .before .args in
     let r = c .less-least in
     ap (set (u .v .now) (u .j))
-    (read-back w64 (r .result) (r .ok) ∙ r .ensures ∙ ap₂ lessLeast (read-back w64 (price (u .v .now) (u .j)) (c .before .less-least-arg .given))
+    (read-back w64 (r .result) (r .ok) ∙ r .ensures ∙ ap₂ lessLeast (read-back w64 (signedAt (u .v .now) (u .j)) (c .before .less-least-arg .given))
     (least-is (c .before .before)))
 
 pub lower-column-spec : {M : Type 1} → statement M

@@ -13,10 +13,10 @@ use mir.Syntax.{w64}
 use Rattle.ints.proofs.Bits.{read-back, read-wide, wide-fits}
 use Rattle.lists.specs.Permutations.{at, table}
 use Rattle.lists.proofs.Tables.{filled-none, filled-more, filled-length, filled-all, filled-next, filled-kept}
-use Rattle.assignment.specs.Pairings.{price}
+use Rattle.assignment.specs.Pairings.{signedAt}
 use Rattle.rules.specs.declared.Low.{Low}
 use Rattle.rules.specs.Lowest.{low}
-use Rattle.matrix.proofs.Limits.{side-small}
+use Rattle.matrix.proofs.SmallLimits.{side-small}
 use Rattle.reduction.specs.Columns.{lowAt}
 use Rattle.reduction.proofs.columns.lower_minima.Statement.{statement}
 use Rattle.reduction.proofs.columns.lower_minima.Tie as tie
@@ -27,23 +27,23 @@ Filled i j row v₀ v rows₀ rows =
     (rows ≡ table j (λ k. lowAt i row v₀ rows₀ k .place) ++ drop j rows₀) × (v ≡ table j (λ k. lowAt i row v₀ rows₀ k .value) ++ drop j v₀)
 
 same-price : (i j : ℕ) (row v₀ v : List ℤ) (rows₀ : List ℕ) → j < length v₀ → v ≡ table j (λ k. lowAt i row v₀ rows₀ k .value) ++ drop j v₀
-    → price v j ≡ price v₀ j
-same-price i j row v₀ v rows₀ h e = ap (λ (x : List ℤ). price x j) e ∙ filled-next (λ k. lowAt i row v₀ rows₀ k .value) v₀ j (pos 0) h
+    → signedAt v j ≡ signedAt v₀ j
+same-price i j row v₀ v rows₀ h e = ap (λ (x : List ℤ). signedAt x j) e ∙ filled-next (λ k. lowAt i row v₀ rows₀ k .value) v₀ j (pos 0) h
 
 module _ (i j : ℕ) (row v₀ v v′ : List ℤ) (rows₀ rows rows′ : List ℕ) (here : j < length v₀) (there : j < length rows₀)
     (er : rows ≡ table j (λ k. lowAt i row v₀ rows₀ k .place) ++ drop j rows₀) (ev : v ≡ table j (λ k. lowAt i row v₀ rows₀ k .value) ++ drop j v₀) where
   -- a column that row i lowers
-  lowered : ltZ (price row j) (price v₀ j) ≡ true → rows′ ≡ set rows j i → v′ ≡ set v j (price row j) → Filled i (j + 1) row v₀ v′ rows₀ rows′
+  lowered : ltZ (signedAt row j) (signedAt v₀ j) ≡ true → rows′ ≡ set rows j i → v′ ≡ set v j (signedAt row j) → Filled i (j + 1) row v₀ v′ rows₀ rows′
   lowered t r p =
-      let q : low (price row j) i ≡ lowAt i row v₀ rows₀ j = ap (λ (b : Bool). cond b (low (price row j) i) (low (price v₀ j) (at rows₀ j))) (sym t) in (
+      let q : low (signedAt row j) i ≡ lowAt i row v₀ rows₀ j = ap (λ (b : Bool). cond b (low (signedAt row j) i) (low (signedAt v₀ j) (at rows₀ j))) (sym t) in (
         r ∙ ap₂ (λ (x : List ℕ) (y : Low). set x j (y .place)) er q ∙ filled-more j (λ k. lowAt i row v₀ rows₀ k .place) rows₀ there,
         p ∙ ap₂ (λ (x : List ℤ) (y : Low). set x j (y .value)) ev q ∙ filled-more j (λ k. lowAt i row v₀ rows₀ k .value) v₀ here,
       )
 
   -- a column that it leaves
-  kept : ltZ (price row j) (price v₀ j) ≡ false → rows′ ≡ rows → v′ ≡ v → Filled i (j + 1) row v₀ v′ rows₀ rows′
+  kept : ltZ (signedAt row j) (signedAt v₀ j) ≡ false → rows′ ≡ rows → v′ ≡ v → Filled i (j + 1) row v₀ v′ rows₀ rows′
   kept t r p =
-      let q : lowAt i row v₀ rows₀ j ≡ low (price v₀ j) (at rows₀ j) = ap (λ (b : Bool). cond b (low (price row j) i) (low (price v₀ j) (at rows₀ j))) t in (
+      let q : lowAt i row v₀ rows₀ j ≡ low (signedAt v₀ j) (at rows₀ j) = ap (λ (b : Bool). cond b (low (signedAt row j) i) (low (signedAt v₀ j) (at rows₀ j))) t in (
         r ∙ er ∙ filled-kept (λ k. lowAt i row v₀ rows₀ k .place) rows₀ j 0 there (ap (λ (y : Low). y .place) q),
         p ∙ ev ∙ filled-kept (λ k. lowAt i row v₀ rows₀ k .value) v₀ j (pos 0) here (ap (λ (y : Low). y .value) q),
       )
@@ -64,7 +64,7 @@ shared-slice-copy-out-cost : tie.Need-shared-slice-copy-out-cost Inv-loop μ-loo
 shared-slice-copy-out-cost c = search needs
 
 cast-cost : tie.Need-cast-cost Inv-loop μ-loop
-cast-cost c = wide-fits (price (c .before .before .before .args .row .now) (c .before .before .loop .j)) (c .cost .given)
+cast-cost c = wide-fits (signedAt (c .before .before .before .args .row .now) (c .before .before .loop .j)) (c .cost .given)
 
 mul-if1 : tie.Need-mul-if1 Inv-loop μ-loop
 mul-if1 c = search needs
@@ -105,8 +105,8 @@ loop-again c =
     let more = d .before .before .loop-test .taken in
     let here : j < length (u .v .now) = omega (arith, s .pre .2, more) in
     let there : j < length (u .rows .now) = omega (arith, s .pre .1, more) in
-    let wide = read-wide (price (u .row .now) j) (d .before .cost .given) in
-    let tested = ap₂ ltZ wide (read-back w64 (price (l .v) j) (d .if12 .given) ∙ same-price (u .i) j (u .row .now) (u .v .now) (l .v) (u .rows .now) here (l .inv .3 .1)) in
+    let wide = read-wide (signedAt (u .row .now) j) (d .before .cost .given) in
+    let tested = ap₂ ltZ wide (read-back w64 (signedAt (l .v) j) (d .if12 .given) ∙ same-price (u .i) j (u .row .now) (u .v .now) (l .v) (u .rows .now) here (l .inv .3 .1)) in
     let next : Filled (u .i) (j + 1) (u .row .now) (u .v .now) (c .if1 .v) (u .rows .now) (c .if1 .rows) =
     ⊎-elim
     (λ w. lowered (u .i) j (u .row .now) (u .v .now) (l .v) (c .if1 .v) (u .rows .now) (l .rows) (c .if1 .rows) here there (l .inv .3 .0) (l .inv .3 .1)

@@ -10,8 +10,8 @@ use lib.ListN.{length}
 use mir.Syntax.{w64}
 use mir.Val.{SFits, toZ, ofZ}
 use mir.Facts.{toZ-ofZ}
-use Rattle.assignment.specs.Pairings.{price}
-use Rattle.rules.specs.declared.Least.the-variants.{Of}
+use Rattle.assignment.specs.Pairings.{signedAt}
+use Rattle.rules.specs.declared.LeastSoFar.the-variants.{Of}
 use Rattle.reduction.specs.Ranges.{NextBelow}
 use Rattle.reduction.specs.Columns.{NextLeast}
 use Rattle.reduction.proofs.columns.next_least.Statement.{statement}
@@ -40,7 +40,7 @@ returns-2 c =
     let t = c .before .before .found .given in
     let u = c .before .before .before .before .args in
     let fits : SFits w64 (t .0 .0) = search needs in
-    rw (t .1) (least-kept (λ k. price (u .row .now) k -ℤ price (u .v .now) k) (t .0 .0) (u .from) (length (u .row .now)) (c .next-below .result) fits (c .next-below .ensures))
+    rw (t .1) (least-kept (λ k. signedAt (u .row .now) k -ℤ signedAt (u .v .now) k) (t .0 .0) (u .from) (length (u .row .now)) (c .next-below .result) fits (c .next-below .ensures))
 
 pub next-least-spec : {M : Type 1} → statement M
 next-least-spec =

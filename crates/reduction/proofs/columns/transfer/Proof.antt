@@ -7,7 +7,7 @@ use borrow.Author.Needs.{needs}
 use lib.IntN.{ℤ}
 use Rattle.assignment.specs.Pairings.{square}
 use Rattle.rules.specs.Columns.{lowerColumn}
-use Rattle.matrix.proofs.Limits.{side-small}
+use Rattle.matrix.proofs.SmallLimits.{side-small}
 use Rattle.reduction.specs.Columns.{transferOf}
 use Rattle.reduction.proofs.Transfers.{transfer-joins, transfer-lowers, transfer-passes}
 use Rattle.reduction.proofs.columns.transfer.Statement.{statement}

@@ -5,7 +5,7 @@ use Prim.Native.Nat.{ℕ, _+_, _≤_, _-_}
 use native.Mathlib.Omega.{arith}
 use borrow.Author.Needs.{needs}
 use Rattle.lists.specs.Parts.{part}
-use Rattle.matrix.proofs.Limits.{side-small}
+use Rattle.matrix.proofs.SmallLimits.{side-small}
 use Rattle.reduction.specs.Columns.{claimsOf, Transferred, transferring}
 use Rattle.reduction.proofs.Transfers.{run-none, run-next, room-sized, prices-sized, count-at-most, frees-sized, mark-is, prices-near}
 use Rattle.reduction.proofs.columns.transfers.Statement.{statement}

@@ -9,18 +9,18 @@ use lib.ListN.{length, set, drop, length-set}
 use Rattle.ints.proofs.Bits.{read-wide, wide-fits}
 use Rattle.lists.specs.Permutations.{table}
 use Rattle.lists.proofs.Tables.{table-getD, filled-none, filled-more, filled-all}
-use Rattle.assignment.specs.Pairings.{price}
+use Rattle.assignment.specs.Pairings.{signedAt}
 use Rattle.reduction.proofs.columns.widen.Statement.{statement}
 use Rattle.reduction.proofs.columns.widen.Tie as tie
 
 abbrev Inv-loop : tie.InvT-loop
-Inv-loop row v₀ j₀ v j = (length v ≡ length v₀) × (j ≤ length row) × (v ≡ table j (price row) ++ drop j v₀)
+Inv-loop row v₀ j₀ v j = (length v ≡ length v₀) × (j ≤ length row) × (v ≡ table j (signedAt row) ++ drop j v₀)
 
 abbrev μ-loop : tie.MeasureT-loop
 μ-loop row v₀ j₀ v j = length row - j
 
 loop-holds : tie.Need-loop-holds Inv-loop μ-loop
-loop-holds c = (omega arith, omega arith, filled-none (price (c .args .row .now)) (c .args .v .now))
+loop-holds c = (omega arith, omega arith, filled-none (signedAt (c .args .row .now)) (c .args .v .now))
 
 mul-v : tie.Need-mul-v Inv-loop μ-loop
 mul-v c = search needs
@@ -29,7 +29,7 @@ shared-slice-copy-out-v : tie.Need-shared-slice-copy-out-v Inv-loop μ-loop
 shared-slice-copy-out-v c = search needs
 
 cast-v : tie.Need-cast-v Inv-loop μ-loop
-cast-v c = wide-fits (price (c .before .before .before .args .row .now) (c .before .before .loop .j)) (c .v .given)
+cast-v c = wide-fits (signedAt (c .before .before .before .args .row .now) (c .before .before .loop .j)) (c .v .given)
 
 mul-t9 : tie.Need-mul-t9 Inv-loop μ-loop
 mul-t9 c = search needs
@@ -47,9 +47,9 @@ loop-again : tie.Need-loop-again Inv-loop μ-loop
 loop-again c =
     let u = c .before .before .before .args in
     let l = c .before .before .loop in
-    let x = price (u .row .now) (l .j) in
+    let x = signedAt (u .row .now) (l .j) in
     let e = ap₂ (λ (y : List ℤ) (z : ℤ). set y (l .j) z) (l .inv .2) (read-wide x (c .v .given)) in
-    (length-set (l .v) (l .j) _ ∙ l .inv .0, omega arith, e ∙ filled-more (l .j) (price (u .row .now)) (u .v .now) (omega arith))
+    (length-set (l .v) (l .j) _ ∙ l .inv .0, omega arith, e ∙ filled-more (l .j) (signedAt (u .row .now)) (u .v .now) (omega arith))
 
 same-length : tie.Need-same-length Inv-loop μ-loop
 same-length c = c .before .loop .inv .0
@@ -58,7 +58,7 @@ returns : tie.Need-returns Inv-loop μ-loop
 returns c =
     let u = c .before .before .args in
     let l = c .before .loop in
-    l .inv .2 ∙ filled-all (l .j) (price (u .row .now)) (u .v .now) (omega arith) ∙ ap (λ (m : ℕ). table m (price (u .row .now))) (c .before .before .pre) ∙ table-getD (u .row .now) (pos 0)
+    l .inv .2 ∙ filled-all (l .j) (signedAt (u .row .now)) (u .v .now) (omega arith) ∙ ap (λ (m : ℕ). table m (signedAt (u .row .now))) (c .before .before .pre) ∙ table-getD (u .row .now) (pos 0)
 
 pub widen-spec : {M : Type 1} → statement M
 widen-spec =

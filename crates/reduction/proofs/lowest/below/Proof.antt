@@ -5,7 +5,7 @@ use lib.Signed.{ltZ}
 use mir.Syntax.{w64}
 use mir.Facts.{toZ-ofZ}
 use Rattle.ints.proofs.Bits.{read-back}
-use Rattle.assignment.specs.Pairings.{price}
+use Rattle.assignment.specs.Pairings.{signedAt}
 use Rattle.reduction.proofs.Bits.{reduced-back}
 use Rattle.reduction.proofs.lowest.below.Statement.{statement}
 use Rattle.reduction.proofs.lowest.below.Tie as tie
@@ -25,7 +25,7 @@ shared-slice-copy-out-reduced-cost-2 c = search needs
 reduced-cost-requires : tie.Need-reduced-cost-requires
 reduced-cost-requires c κs =
     let s = c .before .before in
-    rw (read-back w64 (price (s .args .v .now) (s .args .j)) (c .reduced-cost-arg2 .given)) (s .pre .1 (s .args .j) (s .pre .2))
+    rw (read-back w64 (signedAt (s .args .v .now) (s .args .j)) (c .reduced-cost-arg2 .given)) (s .pre .1 (s .args .j) (s .pre .2))
 
 returns : tie.Need-returns
 returns c =
@@ -33,7 +33,7 @@ returns c =
     let u = s .args in
     let r = c .reduced-cost in
     ap₂ ltZ
-    (reduced-back (price (u .row .now) (u .j)) (price (u .v .now) (u .j)) (r .result) (c .before .before .reduced-cost-arg .given) (c .before .reduced-cost-arg2 .given) (r .ok)
+    (reduced-back (signedAt (u .row .now) (u .j)) (signedAt (u .v .now) (u .j)) (r .result) (c .before .before .reduced-cost-arg .given) (c .before .reduced-cost-arg2 .given) (r .ok)
     (r .ensures))
     (toZ-ofZ (s .fits .bound))
 

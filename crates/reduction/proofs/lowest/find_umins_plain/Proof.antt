@@ -11,7 +11,7 @@ use lib.ListN.{length}
 use mir.Syntax.{w64}
 use mir.Val.{toZ, ofZ}
 use Rattle.ints.proofs.Bits.{read-back}
-use Rattle.assignment.specs.Pairings.{price}
+use Rattle.assignment.specs.Pairings.{signedAt}
 use Rattle.rules.specs.declared.TwoLowest.the-variants.{One, Two}
 use Rattle.rules.specs.Lowest.{low, beside, twoLowest}
 use Rattle.reduction.specs.declared.lowest.Pair.{Pair}
@@ -23,7 +23,7 @@ use Rattle.reduction.proofs.lowest.find_umins_plain.Tie as tie
 
 -- the reduced cost at column j
 abbrev at : List ℤ → List ℤ → ℕ → ℤ
-at row v j = price row j -ℤ price v j
+at row v j = signedAt row j -ℤ signedAt v j
 
 -- the loop's head at column j
 abbrev Head : List ℤ → List ℤ → Pair → ℕ → Type 0
@@ -52,7 +52,7 @@ shared-slice-copy-out-reduced-cost-2 c = search needs
 reduced-cost-requires : tie.Need-reduced-cost-requires Inv-loop μ-loop
 reduced-cost-requires c κs =
     let s = c .before .before in
-    rw (read-back w64 (price (s .args .v .now) 0) (c .reduced-cost-arg2 .given)) (s .pre .prices 0 (s .pre .some))
+    rw (read-back w64 (signedAt (s .args .v .now) 0) (c .reduced-cost-arg2 .given)) (s .pre .prices 0 (s .pre .some))
 
 returns : tie.Need-returns Inv-loop μ-loop
 returns c =
@@ -60,7 +60,7 @@ returns c =
     let s = d .before .before .before in
     let u = s .args in
     let r = d .reduced-cost in
-    ap (λ (z : ℤ). One (low z 0)) (reduced-back (price (u .row .now) 0) (price (u .v .now) 0) (r .result) (d .before .before .reduced-cost-arg .given) (d .before .reduced-cost-arg2 .given) (r .ok) (r .ensures))
+    ap (λ (z : ℤ). One (low z 0)) (reduced-back (signedAt (u .row .now) 0) (signedAt (u .v .now) 0) (r .result) (d .before .before .reduced-cost-arg .given) (d .before .reduced-cost-arg2 .given) (r .ok) (r .ensures))
     ∙ sym (twoLowest-one (at (u .row .now) (u .v .now))) ∙ ap (λ (m : ℕ). twoLowest m (at (u .row .now) (u .v .now))) (sym (c .if1 .taken))
 
 shared-slice-copy-out-reduced-cost-3 : tie.Need-shared-slice-copy-out-reduced-cost-3 Inv-loop μ-loop
@@ -72,7 +72,7 @@ shared-slice-copy-out-reduced-cost-4 c = search needs
 reduced-cost-requires-2 : tie.Need-reduced-cost-requires-2 Inv-loop μ-loop
 reduced-cost-requires-2 c κs =
     let s = c .before .before .before .before .before .before in
-    rw (read-back w64 (price (s .args .v .now) 1) (c .reduced-cost-arg4 .given)) (s .pre .prices 1 (omega arith))
+    rw (read-back w64 (signedAt (s .args .v .now) 1) (c .reduced-cost-arg4 .given)) (s .pre .prices 1 (omega arith))
 
 beside-requires : tie.Need-beside-requires Inv-loop μ-loop
 beside-requires c κs = search needs
@@ -94,8 +94,8 @@ loop-holds c =
     let f = at (u .row .now) (u .v .now) in
     let a = d .reduced-cost in
     let b = e .reduced-cost2 in
-    let x = reduced-back (price (u .row .now) 0) (price (u .v .now) 0) (a .result) (d .before .before .reduced-cost-arg .given) (d .before .reduced-cost-arg2 .given) (a .ok) (a .ensures) in
-    let y = reduced-back (price (u .row .now) 1) (price (u .v .now) 1) (b .result) (e .before .before .reduced-cost-arg3 .given) (e .before .reduced-cost-arg4 .given) (b .ok) (b .ensures) in
+    let x = reduced-back (signedAt (u .row .now) 0) (signedAt (u .v .now) 0) (a .result) (d .before .before .reduced-cost-arg .given) (d .before .reduced-cost-arg2 .given) (a .ok) (a .ensures) in
+    let y = reduced-back (signedAt (u .row .now) 1) (signedAt (u .v .now) 1) (b .result) (e .before .before .reduced-cost-arg3 .given) (e .before .reduced-cost-arg4 .given) (b .ok) (b .ensures) in
     goes-on (u .row .now) (u .v .now) (c .before .before .beside .result) (c .before .bound .result) 2 (c .next-below .result) (omega arith) (c .before .bound .ok) (c .before .bound .ensures)
     (c .before .before .beside .ensures ∙ ap₂ (λ (p q : ℤ). beside (low p 0) (low q 1)) x y ∙ sym (twoLowest-two f))
     (c .next-below .ensures)
@@ -120,7 +120,7 @@ reduced-cost-requires-3 c κs =
     let a = c .before .before .before in
     let s = start a in
     let j = a .loop .j in
-    rw (read-back w64 (price (s .args .v .now) j) (c .reduced-cost-arg6 .given)) (s .pre .prices j (c .before .before .loop-test .taken))
+    rw (read-back w64 (signedAt (s .args .v .now) j) (c .reduced-cost-arg6 .given)) (s .pre .prices j (c .before .before .loop-test .taken))
 
 beside-requires-2 : tie.Need-beside-requires-2 Inv-loop μ-loop
 beside-requires-2 c κs = search needs
@@ -151,7 +151,7 @@ loop-again c =
     let u = start (t .before) .args in
     let f = at (u .row .now) (u .v .now) in
     let a = d .reduced-cost3 in
-    let x = reduced-back (price (u .row .now) (l .j)) (price (u .v .now) (l .j)) (a .result) (d .before .before .reduced-cost-arg5 .given) (d .before .reduced-cost-arg6 .given) (a .ok) (a .ensures) in
+    let x = reduced-back (signedAt (u .row .now) (l .j)) (signedAt (u .v .now) (l .j)) (a .result) (d .before .before .reduced-cost-arg5 .given) (d .before .reduced-cost-arg6 .given) (a .ok) (a .ensures) in
     goes-on (u .row .now) (u .v .now) (e .beside2 .result) (c .before .bound2 .result) (l .j + 1) (c .next-below2 .result) (omega (arith, l .inv .0)) (c .before .bound2 .ok) (c .before .bound2 .ensures)
     (e .beside2 .ensures ∙ ap (λ (z : ℤ). beside (l .two .lowest) (low z (l .j))) x
     ∙ twoLowest-count f (l .two .lowest) (l .two .second) (l .j) (omega (arith, l .inv .0)) (l .inv .2) (l .inv .3 (t .loop-test .taken)))

@@ -12,14 +12,14 @@ use lib.ListN.{length}
 use mir.Syntax.{w64}
 use mir.Val.{SFits, toZ, ofZ}
 use mir.Facts.{toZ-ofZ}
-use Rattle.assignment.specs.Pairings.{price}
+use Rattle.assignment.specs.Pairings.{signedAt}
 use Rattle.reduction.specs.Ranges.{NextBelow}
 use Rattle.reduction.proofs.lowest.next_below.Statement.{statement}
 use Rattle.reduction.proofs.lowest.next_below.Tie as tie
 
 -- the reduced cost at column j
 abbrev at : List ℤ → List ℤ → ℕ → ℤ
-at row v j = price row j -ℤ price v j
+at row v j = signedAt row j -ℤ signedAt v j
 
 -- No column from `from` on and before j is below the bound.
 record Passed (f : ℕ → ℤ) (b : ℤ) (from n j : ℕ) : Type 0 where

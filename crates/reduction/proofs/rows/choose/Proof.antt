@@ -6,7 +6,7 @@ use mir.Syntax.{w64}
 use mir.Val.{toZ, ofZ}
 use mir.Facts.{toZ-ofZ}
 use Rattle.rules.specs.declared.TwoLowest.the-variants.{Two}
-use Rattle.matrix.proofs.Limits.{side-small}
+use Rattle.matrix.proofs.SmallLimits.{side-small}
 use Rattle.reduction.specs.Rows.{Inside}
 use Rattle.reduction.proofs.Nearness.{twice-fits}
 use Rattle.reduction.proofs.Choices.{choose-one, choose-lowers, choose-second, choose-first, choose-late}
@@ -39,14 +39,14 @@ lower-price-requires c κs =
     let s = t .before .before .before in
     (omega (arith, s .pre .1, inside t .0), s .pre .3 (t .two2 .given .0 .0 .place) (inside t .0), rw (lowest-back t) (inside t .2), rw (second-back t) (inside t .3))
 
-mul-h : tie.Need-mul-h
-mul-h c = omega (arith, side-small, c .before .before .before .before .before .before .before .before .pre .0, inside (c .before .before .before .before .before) .0)
+mul-i0 : tie.Need-mul-i0
+mul-i0 c = omega (arith, side-small, c .before .before .before .before .before .before .before .before .pre .0, inside (c .before .before .before .before .before) .0)
 
-shared-slice-read-h : tie.Need-shared-slice-read-h
-shared-slice-read-h c = omega (arith, c .before .before .before .before .before .before .before .before .before .pre .2, inside (c .before .before .before .before .before .before) .0)
+shared-slice-read-i0 : tie.Need-shared-slice-read-i0
+shared-slice-read-i0 c = omega (arith, c .before .before .before .before .before .before .before .before .before .pre .2, inside (c .before .before .before .before .before .before) .0)
 
-cast-h : tie.Need-cast-h
-cast-h c = omega (arith, c .shared-slice-known2 .given (c .before .before .before .before .before .before .two2 .given .0 .0 .place))
+cast-i0 : tie.Need-cast-i0
+cast-i0 c = omega (arith, c .shared-slice-known2 .given (c .before .before .before .before .before .before .two2 .given .0 .0 .place))
 
 keep-price-requires-2 : tie.Need-keep-price-requires-2
 keep-price-requires-2 c κs =
@@ -112,9 +112,9 @@ choose-spec =
     keep-price-requires
     enum-known-two-2
     lower-price-requires
-    mul-h
-    shared-slice-read-h
-    cast-h
+    mul-i0
+    shared-slice-read-i0
+    cast-i0
     keep-price-requires-2
     keep-price-requires-3
     keep-price-requires-4

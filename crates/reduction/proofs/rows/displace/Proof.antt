@@ -34,7 +34,7 @@ same-length c = search needs
 returns : tie.Need-returns
 returns c =
     let u = c .before .before .before .args in
-    displace-back (u .n) (u .frees .now) (u .pass) (u .back) (u .h) (c .before .if1 .taken) (c .if2 .taken)
+    displace-back (u .n) (u .frees .now) (u .pass) (u .back) (u .i0) (c .before .if1 .taken) (c .if2 .taken)
 
 same-length-2 : tie.Need-same-length-2
 same-length-2 c = search needs
@@ -42,12 +42,12 @@ same-length-2 c = search needs
 returns-2 : tie.Need-returns-2
 returns-2 c =
     let u = c .before .before .before .args in
-    displace-next (u .n) (u .frees .now) (u .pass) (u .back) (u .h) (c .before .if1 .taken) (c .if2 .left)
+    displace-next (u .n) (u .frees .now) (u .pass) (u .back) (u .i0) (c .before .if1 .taken) (c .if2 .left)
 
 returns-3 : tie.Need-returns-3
 returns-3 c =
     let u = c .before .before .args in
-    displace-none (u .n) (u .frees .now) (u .pass) (u .back) (u .h) (c .if1 .left)
+    displace-none (u .n) (u .frees .now) (u .pass) (u .back) (u .i0) (c .if1 .left)
 
 pub displace-spec : {M : Type 1} → statement M
 displace-spec =

@@ -4,7 +4,7 @@ use Prim.Native.Nat.{_+_, _^_, _≤_}
 use native.Mathlib.Nat.{mul-le-mul}
 use native.Mathlib.Omega.{arith}
 use borrow.Author.Needs.{needs}
-use Rattle.matrix.proofs.Limits.{side-small}
+use Rattle.matrix.proofs.SmallLimits.{side-small}
 use Rattle.reduction.proofs.rows.is_early.Statement.{statement}
 use Rattle.reduction.proofs.rows.is_early.Tie as tie
 

@@ -10,11 +10,11 @@ use mir.Syntax.{w64}
 use mir.Val.{SFits}
 use mir.Facts.{toZ-ofZ}
 use Rattle.lists.specs.Permutations.{at}
-use Rattle.assignment.specs.Pairings.{square, price}
+use Rattle.assignment.specs.Pairings.{square, signedAt}
 use Rattle.rules.specs.declared.Choice.{Choice}
 use Rattle.rules.specs.Lowest.{reduced, twoLowest}
 use Rattle.rules.specs.Rows.{Passing, choose, isEarly}
-use Rattle.matrix.proofs.Limits.{side-small}
+use Rattle.matrix.proofs.SmallLimits.{side-small}
 use Rattle.reduction.specs.Rows.{Inside, passingAt}
 use Rattle.reduction.proofs.RowParts.{row-length, row-twoLowest}
 use Rattle.reduction.proofs.Nearness.{twoLowest-near}
@@ -30,14 +30,14 @@ passing-at s = passingAt (s .args .cols .now) (s .args .rows .now) (s .args .v .
 abbrev row-of : tie.Start → ℕ
 row-of s = at (s .args .frees .now) (s .args .pass .current)
 
-mul-i : tie.Need-mul-i
-mul-i c = search needs
+mul-free-i : tie.Need-mul-free-i
+mul-free-i c = search needs
 
-slice-read-i : tie.Need-slice-read-i
-slice-read-i c = search needs
+slice-read-free-i : tie.Need-slice-read-free-i
+slice-read-free-i c = search needs
 
-cast-i : tie.Need-cast-i
-cast-i c = search needs
+cast-free-i : tie.Need-cast-free-i
+cast-free-i c = search needs
 
 row-requires : tie.Need-row-requires
 row-requires c κs = search needs
@@ -50,7 +50,7 @@ find-umins-plain-requires c κs =
 
 two-is : (c : tie.After-find-umins-plain)
     → let s = c .before .before .before .before .before .before .before in
-    c .find-umins-plain .result ≡ twoLowest (s .args .n) (reduced (square (s .args .n) (s .args .costs .now) .cost) (price (s .args .v .now)) (row-of s))
+    c .find-umins-plain .result ≡ twoLowest (s .args .n) (reduced (square (s .args .n) (s .args .costs .now) .cost) (signedAt (s .args .v .now)) (row-of s))
 two-is c =
     let s = c .before .before .before .before .before .before .before in
     let r = c .before .before .row in
@@ -87,17 +87,17 @@ column c =
     let s = start c in
     let u = s .args in
     subst (λ (w : Choice). w .column < u .n) (sym (choice-is c))
-    (choose-below (u .n) (isEarly (u .n) (u .pass)) (u .v .now) (u .rows .now) (twoLowest (u .n) (reduced (square (u .n) (u .costs .now) .cost) (price (u .v .now)) (row-of s)))
+    (choose-below (u .n) (isEarly (u .n) (u .pass)) (u .v .now) (u .rows .now) (twoLowest (u .n) (reduced (square (u .n) (u .costs .now) .cost) (signedAt (u .v .now)) (row-of s)))
     (twoLowest-near (u .n) (u .costs .now) (u .v .now) (s .pre .squared) (s .pre .near-prices) (row-of s) (s .pre .row-below)))
 
 price-fits : (c : tie.After-struct-told) → SFits w64 (c .before .choose .result .price)
 price-fits c = search needs
 
-mul-h : tie.Need-mul-h
-mul-h c = omega (arith, side-small, column (c .before), start (c .before) .pre .squared .small)
+mul-i0 : tie.Need-mul-i0
+mul-i0 c = omega (arith, side-small, column (c .before), start (c .before) .pre .squared .small)
 
-slice-read-h : tie.Need-slice-read-h
-slice-read-h c = omega (arith, column (c .before .before), start (c .before .before) .pre .rows-size)
+slice-read-i0 : tie.Need-slice-read-i0
+slice-read-i0 c = omega (arith, column (c .before .before), start (c .before .before) .pre .rows-size)
 
 mul-price : tie.Need-mul-price
 mul-price c = omega (arith, side-small, column (c .before .before), start (c .before .before) .pre .squared .small)
@@ -153,15 +153,15 @@ pub look-spec : {M : Type 1} → statement M
 look-spec =
     tie.close
     (tie.spec
-    mul-i
-    slice-read-i
-    cast-i
+    mul-free-i
+    slice-read-free-i
+    cast-free-i
     row-requires
     find-umins-plain-requires
     is-early-requires
     choose-requires
-    mul-h
-    slice-read-h
+    mul-i0
+    slice-read-i0
     mul-price
     slice-set-from-price
     cast-cols

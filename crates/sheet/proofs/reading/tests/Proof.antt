@@ -1,5 +1,5 @@
 -- `tests` answers the seven tests before the costs: each test that is passed leaves the rest of the chain. Assumes nothing.
-use mathlib.Core.Path.{_≡_, sym, ap, _∙_}
+use mathlib.Core.Path.{_≡_, refl, sym, ap, _∙_}
 use mathlib.Core.Bool.{false, not}
 use Prim.Native.Nat.{ℕ, _*_, _-_, _≤_}
 use native.Mathlib.Nat.{mul-le-mul}
@@ -8,10 +8,11 @@ use borrow.Author.Needs.{needs}
 use borrow.Author.Tests.{lt-ltb, le-ltb, eq-eqb, ne-eqb}
 use lib.Dec.{ltb, eqb}
 use lib.ListN.{length}
-use Rattle.matrix.specs.Refusals.{refuseIf}
-use Rattle.sheet.specs.Layout.{slipLength}
-use Rattle.sheet.specs.Reading.{sheetSide, sheetMost, distanceOf, sideOf, editionOf, unmarked, tested}
-use Rattle.sheet.specs.declared.Tested.the-variants.{Side}
+use Rattle.layout.specs.Values.{valueOf}
+use Rattle.layout.specs.Trailers.{sheetMark, distanceOf, sideOf, editionOf, unmarked}
+use Rattle.layout.specs.Slips.{slipLength}
+use Rattle.matrix.specs.Verdicts.{_then_, failsIf}
+use Rattle.sheet.specs.Reading.{sheetSide, sheetMost, sheetTests}
 use Rattle.sheet.proofs.Limits.{sheetSide-small}
 use Rattle.sheet.proofs.Passing.{has-trailer}
 use Rattle.sheet.proofs.reading.tests.Statement.{statement}
@@ -22,11 +23,16 @@ use Rattle.sheet.proofs.reading.tests.Tie as tie
 not-over : (c : tie.Else1) → ltb sheetMost (length (c .before .before .before .args .sheet .now)) ≡ false
 not-over c = le-ltb sheetMost (length (c .before .before .before .args .sheet .now)) (omega (arith, c .before .sheet-most .ensures))
 
-marked : (c : tie.Else2) → unmarked (c .before .before .before .before .before .args .sheet .now) ≡ false
-marked c = sym (c .before .unmarked .ensures) ∙ c .if2 .left
+-- "MTCH" as one number
+mark : 0x4843544D ≡ valueOf sheetMark
+unfolding valueOf
+mark = refl
+
+marked : (c : tie.Else2) → unmarked (valueOf sheetMark) (c .before .before .before .before .before .args .sheet .now) ≡ false
+marked c = ap (λ (m : ℕ). unmarked m (c .before .before .before .before .before .args .sheet .now)) (sym mark) ∙ sym (c .before .unmarked .ensures) ∙ c .if2 .left
 
 long : (c : tie.Else2) → 12 ≤ length (c .before .before .before .before .before .args .sheet .now)
-long c = has-trailer (c .before .before .before .before .before .args .sheet .now) (marked c)
+long c = has-trailer (valueOf sheetMark) (c .before .before .before .before .before .args .sheet .now) (marked c)
 
 first-edition : (c : tie.Else3) → not (eqb (editionOf (c .before .before .before .before .before .before .before .args .sheet .now)) 1) ≡ false
 first-edition c = ap not (eq-eqb (editionOf (c .before .before .before .before .before .before .before .args .sheet .now)) 1 (sym (c .before .edition-of .ensures) ∙ c .if3 .left))
@@ -46,7 +52,9 @@ distance-due c = ap (λ (m : ℕ). 4 * (m * m)) (c .side-of .ensures .0)
 
 distance-kept : (c : tie.Else5) → not (eqb (distanceOf (c .before .before .before .before .before .before .before .before .before .before .before .before .args .sheet .now)) (4 * (sideOf (c .before .before .before .before .before .before .before .before .before .before .before .before .args .sheet .now) * sideOf (c .before .before .before .before .before .before .before .before .before .before .before .before .args .sheet .now)))) ≡ false
 distance-kept c =
-    ap not (eq-eqb _ _ (sym (c .before .distance-of .ensures .0) ∙ c .if5 .left ∙ distance-due (c .before .before .before .before)))
+    let sheet = c .before .before .before .before .before .before .before .before .before .before .before .before .args .sheet .now in
+    let same : distanceOf sheet ≡ 4 * (sideOf sheet * sideOf sheet) = omega (arith, c .before .distance-of .ensures .0, c .if5 .left, distance-due (c .before .before .before .before)) in
+    ap not (eq-eqb _ _ same)
 
 within : (c : tie.Else6) → ltb (length (c .before .before .before .before .before .before .before .before .before .before .before .before .before .args .sheet .now) - 12) (distanceOf (c .before .before .before .before .before .before .before .before .before .before .before .before .before .args .sheet .now)) ≡ false
 within c = le-ltb _ (distanceOf (c .before .before .before .before .before .before .before .before .before .before .before .before .before .args .sheet .now)) (omega (arith, c .before .before .distance-of .ensures .0))
@@ -55,21 +63,21 @@ sheet-most-requires : tie.Need-sheet-most-requires
 sheet-most-requires c κs = search needs
 
 returns : tie.Need-returns
-unfolding tested refuseIf
+unfolding sheetTests _then_ failsIf
 returns c = rw (lt-ltb sheetMost (length (c .before .before .before .args .sheet .now)) (omega (arith, c .before .sheet-most .ensures)))
 
 unmarked-requires : tie.Need-unmarked-requires
 unmarked-requires c κs = search needs
 
 returns-2 : tie.Need-returns-2
-unfolding tested refuseIf
-returns-2 c = rw (not-over (c .before .before), sym (c .before .unmarked .ensures) ∙ c .if2 .taken)
+unfolding sheetTests _then_ failsIf
+returns-2 c = rw (not-over (c .before .before), ap (λ (m : ℕ). unmarked m (c .before .before .before .before .before .args .sheet .now)) (sym mark) ∙ sym (c .before .unmarked .ensures) ∙ c .if2 .taken)
 
 edition-of-requires : tie.Need-edition-of-requires
 edition-of-requires c κs = long c
 
 returns-3 : tie.Need-returns-3
-unfolding tested refuseIf
+unfolding sheetTests _then_ failsIf
 returns-3 c =
     let d = c .before .before in
     rw (not-over (d .before .before), marked d, ne-eqb (editionOf (d .before .before .before .before .before .args .sheet .now)) 1 (λ e. c .if3 .taken (c .before .edition-of .ensures ∙ e)))
@@ -81,7 +89,7 @@ sheet-side-requires : tie.Need-sheet-side-requires
 sheet-side-requires c κs = search needs
 
 returns-4 : tie.Need-returns-4
-unfolding tested refuseIf
+unfolding sheetTests _then_ failsIf
 returns-4 c =
     let d = c .before .before .before in
     let e = d .before .before in
@@ -97,18 +105,19 @@ mul-if5-2 : tie.Need-mul-if5-2
 mul-if5-2 c = omega (arith, squares (c .before))
 
 returns-5 : tie.Need-returns-5
-unfolding tested refuseIf
+unfolding sheetTests _then_ failsIf
 returns-5 c =
     let f = c .before .before in
     let d = f .before .before .before in
     let e = d .before .before in
-    rw (not-over (e .before .before), marked e, first-edition d, side-kept f, ne-eqb (distanceOf (e .before .before .before .before .before .args .sheet .now)) _ (λ g. c .if5 .taken (c .before .distance-of .ensures .0 ∙ g ∙ sym (distance-due (f .before .before)))))
+    let sheet = e .before .before .before .before .before .args .sheet .now in
+    rw (not-over (e .before .before), marked e, first-edition d, side-kept f, ne-eqb (distanceOf sheet) (4 * (sideOf sheet * sideOf sheet)) (λ g. omega (arith, c .if5 .taken, c .before .distance-of .ensures .0, distance-due (f .before .before))))
 
 sub-if6 : tie.Need-sub-if6
 sub-if6 c = long (c .before .before .before .before .before .before .before)
 
 returns-6 : tie.Need-returns-6
-unfolding tested refuseIf
+unfolding sheetTests _then_ failsIf
 returns-6 c =
     let g = c .before in
     let f = g .before .before in
@@ -123,7 +132,7 @@ add-if7 : tie.Need-add-if7
 add-if7 c = omega (arith, few (c .before .before .before))
 
 returns-7 : tie.Need-returns-7
-unfolding tested refuseIf
+unfolding sheetTests _then_ failsIf
 returns-7 c =
     let h = c .before in
     let g = h .before in
@@ -133,14 +142,14 @@ returns-7 c =
     rw (not-over (e .before .before), marked e, first-edition d, side-kept f, distance-kept g, within h, lt-ltb (e .before .before .before .before .before .args .room) (slipLength (sideOf (e .before .before .before .before .before .args .sheet .now))) (omega (arith, f .before .before .side-of .ensures .0)))
 
 returns-8 : tie.Need-returns-8
-unfolding tested refuseIf
+unfolding sheetTests _then_ failsIf
 returns-8 c =
     let h = c .before in
     let g = h .before in
     let f = g .before .before in
     let d = f .before .before .before in
     let e = d .before .before in
-    rw (not-over (e .before .before), marked e, first-edition d, side-kept f, distance-kept g, within h, le-ltb (e .before .before .before .before .before .args .room) (slipLength (sideOf (e .before .before .before .before .before .args .sheet .now))) (omega (arith, f .before .before .side-of .ensures .0))) (ap Side (f .before .before .side-of .ensures .0))
+    rw (not-over (e .before .before), marked e, first-edition d, side-kept f, distance-kept g, within h, le-ltb (e .before .before .before .before .before .args .room) (slipLength (sideOf (e .before .before .before .before .before .args .sheet .now))) (omega (arith, f .before .before .side-of .ensures .0)))
 
 pub tests-spec : {M : Type 1} → statement M
 tests-spec =

@@ -1,0 +1,62 @@
+-- What an input that passes the checker's own tests is like, for any night. Assumes nothing.
+use mathlib.Core.Path.{_≡_, refl, sym, ap}
+use mathlib.Core.Bool.{Bool, true, false, not, _&&_, true≢false}
+use mathlib.Core.Logic.{_↔_}
+use mathlib.Core.List.{List}
+use Prim.Native.Nat.{ℕ, _<_}
+use native.Mathlib.Omega.{arith}
+use borrow.Author.Tests.{ltb-false, le-ltb, eqb-true, eq-eqb, not-false}
+use lib.Dec.{ltb}
+use lib.IntN.{ℤ}
+use lib.Signed.{ltZ}
+use Rattle.ints.proofs.Ranges.{zarith}
+use Rattle.ints.proofs.Tests.{le-ltZ}
+use Rattle.lists.specs.Runs.{first}
+use Rattle.lists.specs.Permutations.{at}
+use Rattle.assignment.specs.Pairings.{Night}
+use Rattle.assignment.specs.Prices.{priced, Feasible, Tight}
+use Rattle.matrix.specs.Verdicts.{Passes}
+use Rattle.matrix.proofs.First.{Clear, nowhere, ended}
+use Rattle.matrix.proofs.Verdicts.{failsAt-iff}
+use Rattle.checker.specs.Tests.{rowsNamed, over, underCosts, tightOn}
+use Rattle.checker.proofs.Places.{differ-false, differ-same}
+
+pub rows-named : (n : ℕ) (cols rows : List ℕ) → Passes (rowsNamed n cols rows) ↔ ((i : ℕ) → i < n → at rows (at cols i) ≡ i)
+rows-named n cols rows =
+    let t = failsAt-iff _ _ _ _ in
+    (λ e i l. eqb-true (at rows (at cols i)) i (not-false _ (t .0 e i l)), λ h. t .1 (λ i l. ap not (eq-eqb (at rows (at cols i)) i (h i l))))
+
+-- ---- a test of a place that counts only where it is allowed
+
+and-false : (a b : Bool) → (a && b) ≡ false → a ≡ true → b ≡ false
+and-false true b e f = e
+and-false false b e f = absurd (true≢false (sym f))
+
+false-and : (a b : Bool) → (a ≡ true → b ≡ false) → (a && b) ≡ false
+false-and true b f = f refl
+false-and false b f = refl
+
+-- No test holds at any place below n exactly if the first place of it is not below n.
+none-iff : (n : ℕ) (test : ℕ → Bool) → (ltb (first n test) n ≡ false) ↔ Clear test n
+none-iff n test = (
+  λ e. nowhere test n (ltb-false (first n test) n e),
+  λ clear. le-ltb (first n test) n (omega (arith, ended test n n refl clear)),
+)
+
+module _ (night : Night) (us vs : List ℤ) where
+  pub under-costs : Passes (underCosts night us vs) ↔ Feasible night us vs
+  under-costs =
+      let t = failsAt-iff _ _ _ _ in (
+        λ e. record {
+          under = λ i j l m allowed.
+              let row = none-iff (night .columnCount) (over night us vs i) .0 (t .0 e i l) j m in
+              let below = and-false _ (ltZ (night .cost i j) (priced us vs i j)) row allowed in
+              omega zarith;
+        },
+        λ f. t .1 (λ i l. none-iff (night .columnCount) (over night us vs i) .1 (λ j m. false-and _ _ (λ allowed. le-ltZ (night .cost i j) (priced us vs i j) (f .under i j l m allowed)))),
+      )
+
+  pub tight-on : (cols : List ℕ) → Passes (tightOn night cols us vs) ↔ Tight night us vs cols
+  tight-on cols =
+      let t = failsAt-iff _ _ _ _ in
+      (λ e. record { met = λ i l. differ-false _ _ (t .0 e i l) }, λ h. t .1 (λ i l. differ-same _ _ (h .met i l)))

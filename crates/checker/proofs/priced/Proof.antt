@@ -1,0 +1,36 @@
+-- `priced` runs tests 8, 9 and 10 one after the other; 9 and 10 add prices that 8 has shown to lie within their range. Assumes nothing.
+use mathlib.Core.Path.{sym, _∙_}
+use Rattle.matrix.specs.Verdicts.{Passes, _then_}
+use Rattle.matrix.specs.Asked.{Listed}
+use Rattle.matrix.proofs.Verdicts.{then-iff, then-assoc, after}
+use Rattle.matrix.proofs.Passed.{prices-within}
+use Rattle.checker.specs.Proven.{Prices}
+use Rattle.checker.proofs.priced.Statement.{statement}
+use Rattle.checker.proofs.priced.Tie as tie
+
+-- past 8
+within : (c : tie.After-prices-within) → let u = c .before .before .args in Passes (c .prices-within .result)
+    → Listed (u .n) (u .costs .now) (u .n) (u .cols .now) × Prices (u .n) (u .us .now) × Prices (u .n) (u .vs .now)
+within c e =
+    let u = c .before .before .args in
+    let t = then-iff _ _ .0 (sym (c .prices-within .ensures) ∙ e) in
+    let s = c .before .before .pre (t .0) in
+    let w = prices-within (u .n) (u .n) (u .us .now) (u .vs .now) .0 (t .1) in
+    (s .0, record { enough = s .1; within = w .0 }, record { enough = s .2; within = w .1 })
+
+prices-within-requires : tie.Need-prices-within-requires
+prices-within-requires c κs = λ e. let s = c .before .pre e in (s .0 .small, s .0 .small, s .1, s .2)
+
+under-costs-requires : tie.Need-under-costs-requires
+under-costs-requires c κs = λ e. let p = within c e in (p .0 .small, p .0 .squared, p .1, p .2)
+
+tight-on-requires : tie.Need-tight-on-requires
+tight-on-requires c κs = λ e. within (c .before) (then-iff _ _ .0 (sym (c .under-costs .ensures) ∙ e) .0)
+
+returns : tie.Need-returns
+returns c =
+    after _ (c .tight-on .ensures) (after _ (c .before .under-costs .ensures) (c .before .before .prices-within .ensures) ∙ then-assoc _ _ _)
+    ∙ then-assoc _ _ _
+
+pub priced-spec : {M : Type 1} → statement M
+priced-spec = tie.close (tie.spec prices-within-requires under-costs-requires tight-on-requires returns)

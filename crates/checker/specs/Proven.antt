@@ -1,0 +1,45 @@
+-- What is right about an input that the checker accepts, in the words of `assignment`.
+use mathlib.Core.Path.{_≡_}
+use mathlib.Core.List.{List}
+use Prim.Native.Nat.{ℕ, _*_, _≤_, _<_}
+use lib.IntN.{ℤ}
+use lib.ListN.{length, take}
+use Rattle.ints.specs.Parts.{Within}
+use Rattle.assignment.specs.Pairings.{Night, Pairing, square, Named, signedAt}
+use Rattle.assignment.specs.Prices.{Feasible, Tight, SparesNotBelow}
+use Rattle.matrix.specs.Limits.{side, K}
+use Rattle.matrix.specs.declared.Answer.{Answer}
+use Rattle.matrix.specs.declared.Answer.the-variants.{Total}
+
+-- An answer that accepts: with some total.
+abbrev pub Accepts : Answer → Type 0
+Accepts answer = (total : ℤ) × (answer ≡ Total total)
+
+-- Sizes: the side within its limit, n * n costs, at least n columns and at least n rows listed.
+pub record Sizes (n : ℕ) (costs : List ℤ) (cols rows : List ℕ) : Type 0 where
+  pub small : n ≤ side
+  pub squared : length costs ≡ n * n
+  pub columns-listed : n ≤ length cols
+  pub rows-listed : n ≤ length rows
+
+-- At least n prices, the first n of them in -10K..10K.
+pub record Prices (n : ℕ) (prices : List ℤ) : Type 0 where
+  pub enough : n ≤ length prices
+  pub within : (i : ℕ) → i < n → Within (10 * K) (signedAt prices i)
+
+-- Sizes, ranges, names, and prices that are fair: feasible, and tight on the pairing.
+pub record Proven (n : ℕ) (costs : List ℤ) (cols rows : List ℕ) (us vs : List ℤ) : Type 0 where
+  pub sizes : Sizes n costs cols rows
+  pub within : (k : ℕ) → k < length costs → Within K (signedAt costs k)
+  pub named : Named (square n costs) cols rows
+  pub row-prices : Prices n us
+  pub column-prices : Prices n vs
+  pub feasible : Feasible (square n costs) us vs
+  pub tight : Tight (square n costs) us vs cols
+
+-- For any night: prices that show that the first entries of a list of columns are a least pairing.
+pub record Shown (night : Night) (cols : List ℕ) (us vs : List ℤ) : Type 0 where
+  pub pairing : Pairing night (take (night .rowCount) cols)
+  pub feasible : Feasible night us vs
+  pub tight : Tight night us vs cols
+  pub spares : SparesNotBelow night vs cols

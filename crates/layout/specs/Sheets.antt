@@ -1,0 +1,22 @@
+-- The layout of a sheet, byte for byte, and where its costs are found again.
+use mathlib.Core.List.{List, [], _++_, flatMap}
+use Prim.Native.Nat.{ℕ, _+_, _*_, _-_}
+use lib.IntN.{ℤ}
+use lib.ListN.{length}
+use Rattle.layout.specs.Values.{signedBytes, signedValue}
+use Rattle.layout.specs.Fields.{fields}
+use Rattle.layout.specs.Trailers.{sheetMark, trailer}
+
+-- "A sheet is any note bytes, then costs (little-endian, two's complement), then a 12-byte trailer pointing back: distance from the trailer to the
+-- first cost". What an edition puts between costs and trailer is `more`.
+abbrev pub sheetWith : ℕ → List ℕ → ℕ → List ℤ → List ℕ → List ℕ
+sheetWith edition note side costs more =
+    note ++ (flatMap (signedBytes 4) costs ++ (more ++ trailer (4 * length costs + length more) side edition sheetMark))
+
+-- "edition 1": nothing is.
+abbrev pub sheetOf : List ℕ → ℕ → List ℤ → List ℕ
+sheetOf note side costs = sheetWith 1 note side costs []
+
+-- So many costs, the first at a distance before the trailer.
+abbrev pub costsAt : ℕ → ℕ → List ℕ → List ℤ
+costsAt distance count sheet = fields (signedValue 4) (length sheet - 12 - distance) 4 count sheet

@@ -1,0 +1,28 @@
+-- `costs_within` hands a refusal on, and answers test 5 where none came. Assumes nothing.
+use mathlib.Core.Path.{_∙_}
+use borrow.Author.Needs.{needs}
+use Rattle.matrix.proofs.Verdicts.{fails-then, passed-then, failed-at}
+use Rattle.matrix.proofs.tests.costs_within.Statement.{statement}
+use Rattle.matrix.proofs.tests.costs_within.Tie as tie
+
+enum-known-before : tie.Need-enum-known-before
+enum-known-before c = search needs
+
+returns : tie.Need-returns
+returns c = fails-then _ (c .before .before2 .given .1)
+
+enum-told : tie.Need-enum-told
+enum-told c = search needs
+
+first-cost-outside-requires : tie.Need-first-cost-outside-requires
+first-cost-outside-requires c κs = search needs
+
+fails-if-requires : tie.Need-fails-if-requires
+fails-if-requires c κs = search needs
+
+returns-2 : tie.Need-returns-2
+returns-2 c =
+    passed-then _ (c .before .before .enum-told .given .1) (c .fails-if .ensures ∙ failed-at _ (λ k. k) _ _ (c .before .first-cost-outside .ensures))
+
+pub costs-within-spec : {M : Type 1} → statement M
+costs-within-spec = tie.close (tie.spec enum-known-before returns enum-told first-cost-outside-requires fails-if-requires returns-2)

@@ -1,0 +1,62 @@
+// The refusals' numbers, and a refusal as one number.
+ghost use mathlib.Core.Path.{_≡_};
+ghost use Rattle.matrix.specs.Refusals.{numberOf, placeOf, codeOf};
+ghost use Rattle.matrix.specs.Asked.{Tellable};
+use crate::Refusal;
+
+// The scope's numbers, by name: code cannot read the definitions of specs/Refusals.antt. The promises hold the two together.
+pub const SIDE_OVER: u64 = 1;
+
+pub const COSTS_LENGTH: u64 = 2;
+
+pub const LIST_LENGTH: u64 = 3;
+
+pub const ROOM_SHORT: u64 = 4;
+
+pub const COST_OUTSIDE: u64 = 5;
+
+pub const COLUMN_OUTSIDE: u64 = 6;
+
+pub const ROW_NOT_NAMED: u64 = 7;
+
+pub const PRICE_OUTSIDE: u64 = 8;
+
+pub const PRICES_OVER_COST: u64 = 9;
+
+pub const PRICES_NOT_COST: u64 = 10;
+
+pub const NO_MARK: u64 = 11;
+
+pub const EDITION_UNKNOWN: u64 = 12;
+
+pub const SHEET_SIDE_OVER: u64 = 13;
+
+pub const DISTANCE_WRONG: u64 = 14;
+
+pub const DISTANCE_PAST_BYTES: u64 = 15;
+
+pub const SLIP_ROOM_SHORT: u64 = 16;
+
+pub const SHEET_OVER: u64 = 17;
+
+// The scope's number of a refusal.
+pub fn number(refusal: Refusal) -> u64
+    ensures { λ r. ⌜ r ≡ numberOf refusal ⌝ }
+{
+    refusal.number
+}
+
+// The scope's place of a refusal.
+pub fn place(refusal: Refusal) -> usize
+    ensures { λ r. ⌜ r ≡ placeOf refusal ⌝ }
+{
+    refusal.place
+}
+
+// A refusal as one number. Places are far below 2^48.
+pub fn code(refusal: Refusal) -> u64
+    requires { ⌜ Tellable refusal ⌝ }
+    ensures { λ r. ⌜ r ≡ codeOf refusal ⌝ }
+{
+    refusal.number + 256 * (refusal.place as u64)
+}

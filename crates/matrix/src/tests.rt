@@ -1,0 +1,223 @@
+// One hall of tests: each takes the verdict of those before it and answers its own, so that an entry's tests are a straight line.
+ghost use mathlib.Core.Path.{_≡_};
+ghost use mathlib.Core.List.{[], _∷_};
+ghost use Prim.Native.Nat.{_*_, _^_, _≤_};
+ghost use lib.Dec.{leb};
+ghost use lib.IntN.{pos};
+ghost use lib.ListN.{length};
+ghost use Rattle.ints.specs.Parts.{Within};
+ghost use Rattle.lists.specs.Runs.{first};
+ghost use Rattle.lists.specs.Permutations.{at};
+ghost use Rattle.assignment.specs.Pairings.{signedAt};
+ghost use Rattle.matrix.specs.Limits.{side, K};
+ghost use Rattle.matrix.specs.Verdicts.{Passes, _then_, failsIf};
+ghost use Rattle.matrix.specs.Tests.{short, outside, sideWithin, costsFill, listsLong, shaped, listShort, roomsLong, costsWithin, columnsInside, pricesWithin};
+use crate::Refusal;
+use crate::Verdict;
+use crate::limits::bound;
+use crate::limits::price_bound;
+use crate::limits::side;
+use crate::refusals;
+
+// Whether x is below -limit or above limit.
+fn outside(x: i64, limit: i64) -> bool
+    requires { ⌜ Within (2 ^ 62) limit ⌝ }
+    ensures { λ r. ⌜ r ≡ outside limit x ⌝ }
+{
+    x < -limit || limit < x
+}
+
+// Refused where the test holds.
+pub fn fails_if(test: bool, number: u64, place: usize) -> Verdict
+    ensures { λ r. ⌜ r ≡ failsIf number place test ⌝ }
+{
+    if test {
+        return Verdict::Fails(Refusal { number, place });
+    }
+    Verdict::Passed
+}
+
+// Test 1.
+pub fn side_within(limit: usize, n: usize) -> Verdict
+    ensures { λ r. ⌜ r ≡ sideWithin limit n ⌝ }
+{
+    fails_if(limit < n, refusals::SIDE_OVER, 0)
+}
+
+// Test 2.
+pub fn costs_fill(before: Verdict, m: usize, n: usize, costs: &[i32]) -> Verdict
+    requires { ⌜ (Passes before → (m ≤ side) × (n ≤ side)) ⌝ }
+    ensures { λ r. ⌜ r ≡ (before then costsFill m n (now (costs .entry))) ⌝ }
+{
+    match before {
+        Verdict::Fails(refusal) => {
+            return Verdict::Fails(refusal);
+        }
+        Verdict::Passed => {}
+    }
+    fails_if(costs.len() != m * n, refusals::COSTS_LENGTH, 0)
+}
+
+// Test 3 of `cost`.
+pub fn list_short(before: Verdict, n: usize, length: usize) -> Verdict
+    ensures { λ r. ⌜ r ≡ (before then listShort n length) ⌝ }
+{
+    match before {
+        Verdict::Fails(refusal) => {
+            return Verdict::Fails(refusal);
+        }
+        Verdict::Passed => {}
+    }
+    fails_if(n < length, refusals::LIST_LENGTH, 1)
+}
+
+// Refusal 3: which of four lists, whose lengths are given in the scope's order, is the first with fewer than n entries; 4 where none is.
+fn first_list_short(n: usize, cols: usize, rows: usize, us: usize, vs: usize) -> usize
+    ensures { λ r. ⌜ r ≡ first 4 (short n (cols ∷ rows ∷ us ∷ vs ∷ [])) ⌝ }
+{
+    if cols < n {
+        return 0;
+    }
+    if rows < n {
+        return 1;
+    }
+    if us < n {
+        return 2;
+    }
+    if vs < n {
+        return 3;
+    }
+    4
+}
+
+// Test 3.
+fn lists_long(before: Verdict, n: usize, cols: usize, rows: usize, us: usize, vs: usize) -> Verdict
+    ensures { λ r. ⌜ r ≡ (before then listsLong n (cols ∷ rows ∷ us ∷ vs ∷ [])) ⌝ }
+{
+    match before {
+        Verdict::Fails(refusal) => {
+            return Verdict::Fails(refusal);
+        }
+        Verdict::Passed => {}
+    }
+    let k = first_list_short(n, cols, rows, us, vs);
+    fails_if(k < 4, refusals::LIST_LENGTH, k + 1)
+}
+
+// Tests 1, 2, 3 of a square night and its four lists.
+pub fn shaped(n: usize, costs: &[i32], cols: usize, rows: usize, us: usize, vs: usize) -> Verdict
+    ensures { λ r. ⌜ r ≡ shaped n (now (costs .entry)) (cols ∷ rows ∷ us ∷ vs ∷ []) ⌝ }
+{
+    let sized = side_within(side(), n);
+    let filled = costs_fill(sized, n, n, costs);
+    lists_long(filled, n, cols, rows, us, vs)
+}
+
+// Test 4, given the lengths of the two rooms.
+pub fn rooms_long(before: Verdict, n: usize, indices: usize, numbers: usize) -> Verdict
+    requires { ⌜ (Passes before → n ≤ side) ⌝ }
+    ensures { λ r. ⌜ r ≡ (before then roomsLong n indices numbers) ⌝ }
+{
+    match before {
+        Verdict::Fails(refusal) => {
+            return Verdict::Fails(refusal);
+        }
+        Verdict::Passed => {}
+    }
+    if indices < 4 * n {
+        return fails_if(true, refusals::ROOM_SHORT, 1);
+    }
+    fails_if(numbers < n, refusals::ROOM_SHORT, 2)
+}
+
+// Refusal 5: the first cost outside -K..K, in row order, or their number where there is none.
+fn first_cost_outside(costs: &[i32]) -> usize
+    ensures { λ r. ⌜ r ≡ first (length (now (costs .entry))) (λ k. outside (pos K) (signedAt (now (costs .entry)) k)) ⌝ }
+{
+    let mut k = 0;
+    while k < costs.len() {
+        if outside(costs[k] as i64, bound()) {
+            return k;
+        }
+        k += 1;
+    }
+    k
+}
+
+// Test 5.
+pub fn costs_within(before: Verdict, costs: &[i32]) -> Verdict
+    ensures { λ r. ⌜ r ≡ (before then costsWithin (now (costs .entry))) ⌝ }
+{
+    match before {
+        Verdict::Fails(refusal) => {
+            return Verdict::Fails(refusal);
+        }
+        Verdict::Passed => {}
+    }
+    let k = first_cost_outside(costs);
+    fails_if(k < costs.len(), refusals::COST_OUTSIDE, k)
+}
+
+// Refusal 6: the first of `count` rows whose listed column is not below n, or `count` where there is none.
+fn first_column_outside(n: usize, cols: &[u32], count: usize) -> usize
+    requires { ⌜ count ≤ length (now cols) ⌝ }
+    ensures { λ r. ⌜ r ≡ first count (λ i. leb n (at (now (cols .entry)) i)) ⌝ }
+{
+    let mut i = 0;
+    while i < count {
+        if n <= cols[i] as usize {
+            return i;
+        }
+        i += 1;
+    }
+    i
+}
+
+// Test 6.
+pub fn columns_inside(before: Verdict, count: usize, n: usize, cols: &[u32]) -> Verdict
+    requires { ⌜ (Passes before → count ≤ length (now cols)) ⌝ }
+    ensures { λ r. ⌜ r ≡ (before then columnsInside count n (now (cols .entry))) ⌝ }
+{
+    match before {
+        Verdict::Fails(refusal) => {
+            return Verdict::Fails(refusal);
+        }
+        Verdict::Passed => {}
+    }
+    let i = first_column_outside(n, cols, count);
+    fails_if(i < count, refusals::COLUMN_OUTSIDE, i)
+}
+
+// Refusal 8: the first of n prices outside -10K..10K, or n where there is none.
+fn first_price_outside(n: usize, prices: &[i64]) -> usize
+    requires { ⌜ n ≤ length (now prices) ⌝ }
+    ensures { λ r. ⌜ r ≡ first n (λ i. outside (pos (10 * K)) (signedAt (now (prices .entry)) i)) ⌝ }
+{
+    let mut i = 0;
+    while i < n {
+        if outside(prices[i], price_bound()) {
+            return i;
+        }
+        i += 1;
+    }
+    i
+}
+
+// Test 8.
+pub fn prices_within(before: Verdict, m: usize, n: usize, us: &[i64], vs: &[i64]) -> Verdict
+    requires { ⌜ (Passes before → (m ≤ side) × (n ≤ side) × (m ≤ length (now us)) × (n ≤ length (now vs))) ⌝ }
+    ensures { λ r. ⌜ r ≡ (before then pricesWithin m n (now (us .entry)) (now (vs .entry))) ⌝ }
+{
+    match before {
+        Verdict::Fails(refusal) => {
+            return Verdict::Fails(refusal);
+        }
+        Verdict::Passed => {}
+    }
+    let i = first_price_outside(m, us);
+    if i < m {
+        return fails_if(true, refusals::PRICE_OUTSIDE, i);
+    }
+    let j = first_price_outside(n, vs);
+    fails_if(j < n, refusals::PRICE_OUTSIDE, m + j)
+}
