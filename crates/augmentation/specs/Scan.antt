@@ -54,7 +54,7 @@ seen (left hit) = record {
 }
 
 -- What lies in lent memory while a search runs: sizes, a list that is a permutation, and prices that are near.
-pub record Lent (n : ℕ) (v : List ℤ) (rows : List ℕ) (d : List ℤ) (room : List ℕ) : Type 0 where
+pub record ScanRoom (n : ℕ) (v : List ℤ) (rows : List ℕ) (d : List ℤ) (room : List ℕ) : Type 0 where
   pub small : n ≤ side
   pub prices-size : length v ≡ n
   pub rows-size : length rows ≡ n

@@ -12,7 +12,7 @@ use Rattle.rules.specs.declared.Reached.{Reached}
 use Rattle.rules.specs.Search.{Found, searchStart, search, newPrices, workOf}
 use Rattle.rules.specs.Asked.{Fair}
 use Rattle.augmentation.specs.Room.{listIn, predecessorsIn, roomWith}
-use Rattle.augmentation.specs.Scan.{Lent, workIn}
+use Rattle.augmentation.specs.Scan.{ScanRoom, workIn}
 
 -- Before a search starts.
 pub record CanStart (n : ℕ) (costs : List ℤ) (start : ℕ) (v d : List ℤ) (room : List ℕ) : Type 0 where
@@ -31,7 +31,7 @@ pub record Started (n : ℕ) (costs : List ℤ) (start : ℕ) (v : List ℤ) (ro
 
 -- The column at place lo has a row, and its distance is within twice near.
 pub record CanScan (n : ℕ) (costs : List ℤ) (rows : List ℕ) (lo hi : ℕ) (v d : List ℤ) (room : List ℕ) : Type 0 where
-  pub lent : Lent n v rows d room
+  pub lent : ScanRoom n v rows d room
   pub costs-size : length costs ≡ n * n
   pub place : (lo < n) × (hi ≤ n)
   pub taken : at rows (at (listIn n room) lo) < n

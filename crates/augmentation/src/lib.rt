@@ -12,7 +12,7 @@ ghost use Rattle.rules.specs.declared.LastFree.the-variants.{At};
 ghost use Rattle.rules.specs.Block.{block};
 ghost use Rattle.rules.specs.Search.{lastFree, newPrices};
 ghost use Rattle.rules.specs.Augmentation.{flips, flipped};
-ghost use Rattle.augmentation.specs.Scan.{Lent, ColumnsLowered, Scanned};
+ghost use Rattle.augmentation.specs.Scan.{ScanRoom, ColumnsLowered, Scanned};
 ghost use Rattle.augmentation.specs.Search.{CanStart, Started, CanScan, CanChange, readyAt, CanSearch, Searched, foundFrom};
 ghost use Rattle.augmentation.specs.Augmentation.{CanFlip, CanAugment, Augmented, pairsOf, openAt};
 use matrix::rows::reduced_cost;
@@ -135,7 +135,7 @@ fn lower_columns(
     d: &mut [i64],
     room: &mut [u32],
 ) -> ScanEnd
-    requires { ⌜ Lent n (now v) (now rows) (now d) (now room) × (length (now row) ≡ n) × (from ≤ n) × Within (4 * near) h ⌝ }
+    requires { ⌜ ScanRoom n (now v) (now rows) (now d) (now room) × (length (now row) ≡ n) × (from ≤ n) × Within (4 * near) h ⌝ }
     ensures { λ r. ⌜ ColumnsLowered n i (now (row .entry)) (now (v .entry)) (now (rows .entry)) h minimum from (now (d .entry)) (now (room .entry)) r (now (d .exit)) (now (room .exit)) ⌝ }
 {
     let n2 = n + n;

@@ -15,7 +15,7 @@ use Rattle.matrix.specs.Limits.{K}
 use Rattle.lapjv.specs.declared.Sums.{Sums}
 use Rattle.lapjv.specs.declared.Solved.the-variants.{Paired}
 use Rattle.lapjv.specs.Solve.{lentOf, outcomeOf, paired, solve}
-use Rattle.lapjv.specs.Passes.{Passes}
+use Rattle.lapjv.specs.WithinLimits.{WithinLimits}
 use Rattle.lapjv.specs.Stages.{Pairable, Sized, PairedBy}
 use Rattle.lapjv.proofs.Tests.{passes-paired}
 
@@ -33,7 +33,7 @@ back-is : {A : Type 0} (m : ℕ) (new l : List A) → back m new l ≡ new ++ dr
 back-is m new l = ap (λ (k : ℕ). new ++ drop k l) (sub-zero m)
 
 module _ (n : ℕ) (costs : List ℤ) (cols rows : List ℕ) (us vs : List ℤ) (indices : List ℕ) (numbers : List ℤ)
-    (p : Passes n costs (lentOf cols rows us vs indices numbers)) where
+    (p : WithinLimits n costs (lentOf cols rows us vs indices numbers)) where
   pub pairable : (n ≡ 0 → ⊥) → Pairable n costs
   pairable d = record { some = omega arith; small = p .small; squared = p .squared; within = within-everywhere K costs (p .costs-within) }
 

@@ -20,7 +20,7 @@ use Rattle.rules.specs.Run.{Result, run}
 use Rattle.rules.specs.Surcharge.{surcharged}
 use Rattle.rules.proofs.Surcharge.{run-right-bounded, run-surcharge, run-row-surcharge}
 use Rattle.lapjv.specs.Solve.{Lent, lentOf, Outcome, paired, solve}
-use Rattle.lapjv.specs.Passes.{Passes}
+use Rattle.lapjv.specs.WithinLimits.{WithinLimits}
 use Rattle.lapjv.specs.Surcharge.{surchargedOutcome}
 use Rattle.lapjv.proofs.Tests.{passes-paired}
 use Rattle.lapjv.proofs.Ready.{side-free}
@@ -37,7 +37,7 @@ paired-surcharged n lent amount a size =
     cc
 
 pub solver-surcharge : (n : ℕ) (lent : Lent) (amount : ℕ → ℤ) (costs costs′ : List ℤ) → ColumnAmounts (square n costs) amount (square n costs′ .cost)
-    → Passes n costs lent → Passes n costs′ lent → solve n costs′ lent ≡ surchargedOutcome n amount (solve n costs lent)
+    → WithinLimits n costs lent → WithinLimits n costs′ lent → solve n costs′ lent ≡ surchargedOutcome n amount (solve n costs lent)
 solver-surcharge n lent amount costs costs′ with-amounts p p′ =
     let room : n ≤ free = omega (arith, side-free, p .small) in
     passes-paired n costs′ lent p′
@@ -48,7 +48,7 @@ solver-surcharge n lent amount costs costs′ with-amounts p p′ =
 -- ---- amounts on the rows
 
 pub solver-row-surcharge : (n : ℕ) (lent : Lent) (amount : ℕ → ℤ) (costs costs′ : List ℤ) → RowAmounts (square n costs) amount (square n costs′ .cost)
-    → Passes n costs lent → Passes n costs′ lent
+    → WithinLimits n costs lent → WithinLimits n costs′ lent
     → Least (square n costs′) (take n (solve n costs lent .lent .cols)) × Least (square n costs) (take n (solve n costs′ lent .lent .cols))
 solver-row-surcharge n lent amount costs costs′ with-amounts p p′ =
     let o = run-row-surcharge n room amount costs costs′ with-amounts in
@@ -57,7 +57,7 @@ solver-row-surcharge n lent amount costs costs′ with-amounts p p′ =
     room : n ≤ free
     room = omega (arith, side-free, p .small)
 
-    chosen : (l : List ℤ) → Passes n l lent → take n (solve n l lent .lent .cols) ≡ run n l .cols
+    chosen : (l : List ℤ) → WithinLimits n l lent → take n (solve n l lent .lent .cols) ≡ run n l .cols
     chosen l q =
         ap (λ (x : Outcome). take n (x .lent .cols)) (passes-paired n l lent q)
         ∙ take-at (run n l .cols) (drop n (lent .cols)) n (run-right-bounded n l room .cols-size)
@@ -65,8 +65,8 @@ solver-row-surcharge n lent amount costs costs′ with-amounts p p′ =
 -- ---- there are such nights
 
 -- A night that passes, with amounts that keep every cost within K.
-pub amounts-pass : (n : ℕ) (lent : Lent) (amount : ℕ → ℤ) (costs : List ℤ) → Passes n costs lent
-    → ((k : ℕ) → k < n * n → Within K (signedAt costs k +ℤ amount (k % n))) → Passes n (withAmounts n amount costs) lent
+pub amounts-pass : (n : ℕ) (lent : Lent) (amount : ℕ → ℤ) (costs : List ℤ) → WithinLimits n costs lent
+    → ((k : ℕ) → k < n * n → Within K (signedAt costs k +ℤ amount (k % n))) → WithinLimits n (withAmounts n amount costs) lent
 amounts-pass n lent amount costs p within = record {
   small = p .small;
   squared = size;
@@ -92,7 +92,7 @@ nothing n = table (n * n) (λ k. pos 0)
 abbrev room : ℕ → Lent
 room n = lentOf (replicate n 0) (replicate n 0) (replicate n (pos 0)) (replicate n (pos 0)) (replicate (4 * n) 0) (replicate n (pos 0))
 
-nothing-passes : (n : ℕ) → n ≤ side → Passes n (nothing n) (room n)
+nothing-passes : (n : ℕ) → n ≤ side → WithinLimits n (nothing n) (room n)
 nothing-passes n small = record {
   small = small;
   squared = length-table (n * n) (λ k. pos 0);
@@ -107,7 +107,7 @@ nothing-passes n small = record {
 
 -- At every side within the limit and for any amounts within K: all that `solver-surcharge` asks for.
 pub surcharges-exist : (n : ℕ) → n ≤ side → (amount : ℕ → ℤ) → ((j : ℕ) → Within K (amount j))
-    → (lent : Lent) × (costs costs′ : List ℤ) × ColumnAmounts (square n costs) amount (square n costs′ .cost) × Passes n costs lent × Passes n costs′ lent
+    → (lent : Lent) × (costs costs′ : List ℤ) × ColumnAmounts (square n costs) amount (square n costs′ .cost) × WithinLimits n costs lent × WithinLimits n costs′ lent
 surcharges-exist n small amount within = (
   room n,
   nothing n,

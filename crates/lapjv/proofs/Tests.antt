@@ -1,4 +1,4 @@
--- The solver's tests are passed exactly by the inputs that `Passes` names, and such an input is paired. Assumes nothing.
+-- The solver's tests are passed exactly by the inputs that `WithinLimits` names, and such an input is paired. Assumes nothing.
 use mathlib.Core.Path.{_≡_}
 use mathlib.Core.Logic.{_↔_}
 use mathlib.Core.List.{List}
@@ -12,10 +12,10 @@ use Rattle.matrix.proofs.Verdicts.{then-iff}
 use Rattle.matrix.proofs.Passed.{shaped-iff, rooms-long, costs-within}
 use Rattle.rules.specs.Run.{run}
 use Rattle.lapjv.specs.Solve.{Lent, tested, outcome, solve, refused, paired}
-use Rattle.lapjv.specs.Passes.{Passes}
+use Rattle.lapjv.specs.WithinLimits.{WithinLimits}
 
 module _ (n : ℕ) (costs : List ℤ) (lent : Lent) where
-  pub tested-iff : verdicts.Passes (tested n costs lent) ↔ Passes n costs lent
+  pub tested-iff : verdicts.Passes (tested n costs lent) ↔ WithinLimits n costs lent
   unfolding tested
   tested-iff =
       let shape = shaped-iff n costs (length (lent .cols)) (length (lent .rows)) (length (lent .rowPrices)) (length (lent .columnPrices)) in
@@ -46,7 +46,7 @@ module _ (n : ℕ) (costs : List ℤ) (lent : Lent) where
       )
 
   -- Such an input is never refused.
-  pub passes-paired : Passes n costs lent → solve n costs lent ≡ paired n lent (run n costs)
+  pub passes-paired : WithinLimits n costs lent → solve n costs lent ≡ paired n lent (run n costs)
   unfolding solve outcome
   passes-paired p = rw (tested-iff .1 p)
 

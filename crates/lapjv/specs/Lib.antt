@@ -2,6 +2,6 @@ pub mod Answers
 pub mod Solve
 pub mod Values
 pub mod Asked
-pub mod Passes
+pub mod WithinLimits
 pub mod Stages
 pub mod Surcharge

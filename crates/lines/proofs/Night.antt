@@ -16,7 +16,7 @@ use Rattle.sheet.specs.declared.Settled.{Settled}
 use Rattle.sheet.specs.Reading.{Read, refused, night}
 use Rattle.sheet.specs.Settle.{fresh, settledAs}
 use Rattle.sheet.proofs.Limits.{sheetSide-within}
-use Rattle.sheet.proofs.Pairing.{Right}
+use Rattle.sheet.proofs.Pairing.{ReadRight}
 use Rattle.lines.specs.Lines.{acceptedLine, rowLines, refusedLine, linesAs}
 use Rattle.lines.specs.Asked.{Rows}
 
@@ -31,7 +31,7 @@ module _ (room : ℕ) (s : Settled) where
     pub rows : Rows n (take (n * n) (s .state .costs)) (take n (s .state .cols)) (80 + 80 * n) out
     pub same : acceptedLine n total ++ rowLines n (take (n * n) (s .state .costs)) (take n (s .state .cols)) n ≡ lines
 
-  pub night-lines : (x : Read) → Right room x → s ≡ settledAs x → (n : ℕ) (total : ℤ) → s .reply ≡ Accepted n total → (out : List ℕ) → 80 + 80 * 64 ≤ length out
+  pub night-lines : (x : Read) → ReadRight room x → s ≡ settledAs x → (n : ℕ) (total : ℤ) → s .reply ≡ Accepted n total → (out : List ℕ) → 80 + 80 * 64 ≤ length out
       → Ready n total out (linesAs x)
   night-lines (refused given) right e n total v out long = let z : _≡_ {A = ℕ} 0 1 = cc (ap (λ (t : Settled). t .reply) e) in absurd (omega arith)
   night-lines (night m costs) right e n total v out long =

@@ -57,19 +57,19 @@ pub record Readable (room n : ℕ) (costs : List ℤ) : Type 0 where
   pub within : (k : ℕ) → k < length costs → Within K (signedAt costs k)
 
 -- A refusal is told by one number.
-abbrev pub Right : ℕ → Read → Type 0
-Right room (refused refusal) = Tellable refusal
-Right room (night n costs) = Readable room n costs
+abbrev pub ReadRight : ℕ → Read → Type 0
+ReadRight room (refused refusal) = Tellable refusal
+ReadRight room (night n costs) = Readable room n costs
 
-night-right : (room n : ℕ) (costs : List ℤ) (verdict : Verdict) → verdicts.Small verdict → (Passes verdict → Readable room n costs) → Right room (nightIf n costs verdict)
+night-right : (room n : ℕ) (costs : List ℤ) (verdict : Verdict) → verdicts.Small verdict → (Passes verdict → Readable room n costs) → ReadRight room (nightIf n costs verdict)
 night-right room n costs Passed h f = f refl
 night-right room n costs (Fails refusal) h f = h
 
-pub read-right : (room : ℕ) (sheet : List ℕ) → Right room (read room sheet)
+pub read-right : (room : ℕ) (sheet : List ℕ) → ReadRight room (read room sheet)
 unfolding read
 read-right room sheet = by (sheetTests room sheet) refl (tests-small room sheet)
   where
-    by : (v : Verdict) → sheetTests room sheet ≡ v → verdicts.Small v → Right room (readIf sheet v)
+    by : (v : Verdict) → sheetTests room sheet ≡ v → verdicts.Small v → ReadRight room (readIf sheet v)
     by (Fails refusal) e small = small
     by Passed e small =
         let p = tests-passed room sheet e in
@@ -94,7 +94,7 @@ front a d n e f h = take-at a (drop n d) n (omega (arith, length-append a (drop 
 
 -- What the front desk gets of a sheet that was read as x and settled as s.
 module _ (room : List ℕ) (s : Settled) where
-  pub refused-outcome : (x : Read) → Right (length room) x → s ≡ settledAs x → (refusal : Refusal) → s .reply ≡ Refused refusal
+  pub refused-outcome : (x : Read) → ReadRight (length room) x → s ≡ settledAs x → (refusal : Refusal) → s .reply ≡ Refused refusal
       → (Tellable refusal) × (_≡_ {A = Delivery} (record { number = codeOf refusal; slip = room }) (pairedAs room x))
   refused-outcome (refused given) right e refusal v =
       let same : given ≡ refusal = cc (ap (λ (t : Settled). t .reply) e) in
@@ -105,7 +105,7 @@ module _ (room : List ℕ) (s : Settled) where
   abbrev written : ℕ → ℤ → State → List ℕ
   written n total state = slipOf 1 n (take n (state .cols)) (take n (state .«row_prices»)) (take n (state .«col_prices»)) total ++ drop (slipLength n) room
 
-  pub paired-outcome : (x : Read) → Right (length room) x → s ≡ settledAs x → (n : ℕ) (total : ℤ) → s .reply ≡ Accepted n total → Sized (s .state)
+  pub paired-outcome : (x : Read) → ReadRight (length room) x → s ≡ settledAs x → (n : ℕ) (total : ℤ) → s .reply ≡ Accepted n total → Sized (s .state)
       → (n ≤ 64) × (slipLength n ≤ length room) × (_≡_ {A = Delivery} (record { number = 0; slip = written n total (s .state) }) (pairedAs room x))
   paired-outcome (refused given) right e n total v sized = let z : _≡_ {A = ℕ} 0 1 = cc (ap (λ (t : Settled). t .reply) e) in absurd (omega arith)
   paired-outcome (night m costs) right e n total v sized =

@@ -23,7 +23,7 @@ use Rattle.checker.proofs.Least.{accepted-least, accepted-iff-least}
 use Rattle.lapjv.specs.declared.Solved.the-variants.{Paired}
 use Rattle.lapjv.specs.Answers.{answer}
 use Rattle.lapjv.specs.Solve.{Lent, Outcome, solve}
-use Rattle.lapjv.specs.Passes.{Passes}
+use Rattle.lapjv.specs.WithinLimits.{WithinLimits}
 use Rattle.lapjv.proofs.Owed.{answer-owes}
 use Rattle.lapjv.proofs.Tests.{passes-paired}
 use Rattle.theorems.proofs.Front.{proven-front}
@@ -81,7 +81,7 @@ module _ (n : ℕ) (costs : List ℤ) (small : n ≤ side) (squared : length cos
       ∙ ap Total (total-front c)
 
 -- The solver: where it pairs a night, the checker accepts what it leaves in the outputs, with its total; and the pairing is least.
-module _ (n : ℕ) (costs : List ℤ) (lent : Lent) (p : Passes n costs lent) where
+module _ (n : ℕ) (costs : List ℤ) (lent : Lent) (p : WithinLimits n costs lent) where
   abbrev after : Lent
   after = solve n costs lent .lent
 

@@ -41,7 +41,7 @@ module _ (sheet room : List ℕ) (n : ℕ) (costs : List ℤ) (e : read (length 
   found = answer n costs
 
   readable : Readable (length room) n costs
-  readable = subst (pairing.Right (length room)) e (read-right (length room) sheet)
+  readable = subst (pairing.ReadRight (length room)) e (read-right (length room) sheet)
 
   owed : Right n costs K found
   owed = answer-owes n costs (omega (arith, readable .small, sheetSide-within)) (readable .within)

@@ -8,7 +8,7 @@ use Rattle.lapjv.specs.declared.Sums.{Sums}
 use Rattle.lapjv.specs.declared.Solved.the-variants.{Paired}
 use Rattle.lapjv.specs.Solve.{lentOf, outcomeOf, tested}
 use Rattle.lapjv.specs.Values.{toldOf}
-use Rattle.lapjv.specs.Passes.{Passes}
+use Rattle.lapjv.specs.WithinLimits.{WithinLimits}
 use Rattle.lapjv.proofs.Tests.{tested-iff, fails-refused}
 use Rattle.lapjv.proofs.Solving as solving
 use Rattle.lapjv.proofs.solve.Statement.{statement}
@@ -47,7 +47,7 @@ enum-told : tie.Need-enum-told
 enum-told c = search needs
 
 -- Past the tests the input can be paired.
-passes : (c : tie.After-enum-told) → let u = c .before .before .before .before .before .before .before .before .before .before .before .before .args in Passes (u .n) (u .costs .now) (lentOf (u .cols .now) (u .rows .now) (u .row-prices .now) (u .col-prices .now) (u .indices .now) (u .numbers .now))
+passes : (c : tie.After-enum-told) → let u = c .before .before .before .before .before .before .before .before .before .before .before .before .args in WithinLimits (u .n) (u .costs .now) (lentOf (u .cols .now) (u .rows .now) (u .row-prices .now) (u .col-prices .now) (u .indices .now) (u .numbers .now))
 passes c =
     let u = c .before .before .before .before .before .before .before .before .before .before .before .before .args in
     tested-iff (u .n) (u .costs .now) (lentOf (u .cols .now) (u .rows .now) (u .row-prices .now) (u .col-prices .now) (u .indices .now) (u .numbers .now)) .0 (sym (c .before .before .tested .ensures) ∙ c .enum-told .given .1)

@@ -11,7 +11,7 @@ use Rattle.layout.specs.Slips.{slipOf, slipLength}
 use Rattle.sheet.specs.Reading.{Read, read}
 use Rattle.sheet.specs.Settle.{settledAs, settled, pair}
 use Rattle.sheet.proofs.Determined.{settled-values-determine}
-use Rattle.sheet.proofs.Pairing.{Right, read-right, Sized, refused-outcome, paired-outcome}
+use Rattle.sheet.proofs.Pairing.{ReadRight, read-right, Sized, refused-outcome, paired-outcome}
 use Rattle.sheet.proofs.pair.Statement.{statement}
 use Rattle.sheet.proofs.pair.Tie as tie
 
@@ -29,7 +29,7 @@ sized c =
 abbrev reading : tie.After-settle → Read
 reading c = read (length (c .before .before .before .args .slip .now)) (c .before .before .before .args .sheet .now)
 
-right : (c : tie.After-settle) → Right (length (c .before .before .before .args .slip .now)) (reading c)
+right : (c : tie.After-settle) → ReadRight (length (c .before .before .before .args .slip .now)) (reading c)
 right c = read-right (length (c .before .before .before .args .slip .now)) (c .before .before .before .args .sheet .now)
 
 settled-as : (c : tie.After-settle) → c .settle .result ≡ settledAs (reading c)

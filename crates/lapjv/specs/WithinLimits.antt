@@ -10,7 +10,7 @@ use Rattle.assignment.specs.Pairings.{signedAt}
 use Rattle.matrix.specs.Limits.{side, K}
 use Rattle.lapjv.specs.Solve.{Lent}
 
-pub record Passes (n : ℕ) (costs : List ℤ) (lent : Lent) : Type 0 where
+pub record WithinLimits (n : ℕ) (costs : List ℤ) (lent : Lent) : Type 0 where
   pub small : n ≤ side
   pub squared : length costs ≡ n * n
   pub cols-enough : n ≤ length (lent .cols)
