@@ -8,6 +8,7 @@ use Rattle.matrix.specs.declared.Verdict.{Verdict}
 use Rattle.matrix.specs.declared.Verdict.the-variants.{Passed, Fails}
 
 infixl 20 _then_
+-- An input passes: no test has refused it.
 abbrev pub Passes : Verdict → Type 0
 Passes verdict = verdict ≡ Passed
 
