@@ -12,6 +12,7 @@ use mir.Syntax.{w32}
 use Rattle.ints.proofs.Bits.{read-back}
 use Rattle.lists.specs.Permutations.{at}
 use Rattle.assignment.specs.Pairings.{signedAt}
+use Rattle.matrix.proofs.Places.{place-below}
 use Rattle.lines.specs.Put.{Put}
 use Rattle.lines.specs.Lines.{rowLine, rowLines}
 use Rattle.lines.proofs.Put.{put-then, put-as}
@@ -38,10 +39,6 @@ turn n costs cols i start z s e so-far new =
     let cost : z ≡ signedAt costs (i * n + at cols i) = e ∙ ap (λ (k : ℕ). signedAt costs (k + at cols i)) s in
     let line = rowLine i (at cols i) z in
     rw add-one (put-then (rowLines n costs cols i) (rowLine i (at cols i) (signedAt costs (i * n + at cols i))) so-far (put-as (ap (rowLine i (at cols i)) cost) new))
-
--- each row and its column make a place of the costs
-place-below : (n i j : ℕ) → i < n → j < n → i * n + j < n * n
-place-below n i j l h = omega (arith, mul-le-mul-right n l)
 
 reached : (c : tie.After-shared-slice-known2 Inv-loop μ-loop) → c .before .before .loop .start + at (c .before .before .before .before .before .args .cols .now) (c .before .before .loop .i) < length (c .before .before .before .before .before .args .costs .now)
 reached c =
