@@ -3,12 +3,12 @@ use mathlib.Core.Path.{_≡_, sym, ap, _∙_, subst}
 use mathlib.Core.List.{List, _++_}
 use Prim.Native.Nat.{ℕ, _+_, _-_, _≤_}
 use native.Mathlib.Decide.{decLe}
-use native.Mathlib.Nat.{sub-zero}
 use native.Mathlib.Omega.{arith}
 use lib.IntN.{ℤ}
 use lib.ListN.{length, take, drop, length-append, length-drop}
 use lib.Seq.{take-at}
 use Rattle.lists.specs.Parts.{part}
+use Rattle.lists.proofs.Parts.{front-lent}
 use Rattle.assignment.specs.Pairings.{square}
 use Rattle.rules.specs.declared.Pass.{Pass}
 use Rattle.rules.specs.Columns.{Stage, columnReduction}
@@ -27,7 +27,7 @@ abbrev returned : ℕ → List ℕ → List ℕ → List ℕ
 returned n frees room = take 0 room ++ (frees ++ drop (n - 0) (drop 0 room))
 
 front-part : (n : ℕ) (room : List ℕ) → front n room ≡ part 0 n room
-front-part n room = ap (λ (k : ℕ). take k room) (sub-zero n)
+front-part n room = front-lent n room
 
 returned-part : (n : ℕ) (frees room : List ℕ) → length frees ≡ n → part 0 n (returned n frees room) ≡ frees
 returned-part n frees room e = take-at frees (drop (n - 0) room) n e

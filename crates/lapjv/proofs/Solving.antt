@@ -6,7 +6,8 @@ use Prim.Native.Nat.{ℕ, _-_, _*_, _≤_}
 use native.Mathlib.Nat.{sub-zero}
 use native.Mathlib.Omega.{arith}
 use lib.IntN.{ℤ, pos}
-use lib.ListN.{length, take, drop, length-take}
+use lib.ListN.{length, take, drop}
+use Rattle.lists.proofs.Parts.{lent-length, front-back}
 use Rattle.rules.specs.Nights.{five}
 use Rattle.rules.specs.Run.{run}
 use Rattle.rules.proofs.Run.{side-zero}
@@ -27,10 +28,7 @@ abbrev back : {A : Type 0} → ℕ → List A → List A → List A
 back m new l = take 0 l ++ (new ++ drop (m - 0) (drop 0 l))
 
 front-length : {A : Type 0} (m : ℕ) (l : List A) → m ≤ length l → length (front m l) ≡ m
-front-length m l h = omega (arith, length-take (m - 0) l)
-
-back-is : {A : Type 0} (m : ℕ) (new l : List A) → back m new l ≡ new ++ drop m l
-back-is m new l = ap (λ (k : ℕ). new ++ drop k l) (sub-zero m)
+front-length m l h = lent-length m 0 m l (sub-zero m) (omega arith)
 
 module _ (n : ℕ) (costs : List ℤ) (cols rows : List ℕ) (us vs : List ℤ) (indices : List ℕ) (numbers : List ℤ)
     (p : WithinLimits n costs (lentOf cols rows us vs indices numbers)) where
@@ -54,12 +52,12 @@ module _ (n : ℕ) (costs : List ℤ) (cols rows : List ℕ) (us vs : List ℤ) 
       ≡ solve n costs (lentOf cols rows us vs indices numbers)
   solved-by cols′ rows′ us′ vs′ room′ d′ night q =
       cc (
-        back-is n cols′ cols,
-        back-is n rows′ rows,
-        back-is n us′ us,
-        back-is n vs′ vs,
-        back-is (4 * n) room′ indices,
-        back-is n d′ numbers,
+        front-back n cols′ cols,
+        front-back n rows′ rows,
+        front-back n us′ us,
+        front-back n vs′ vs,
+        front-back (4 * n) room′ indices,
+        front-back n d′ numbers,
         q .room-cleared,
         q .distances-cleared,
       )

@@ -3,7 +3,7 @@
 use mathlib.Core.Path.{_≡_, refl, sym, ap, ap₂, _∙_}
 use mathlib.Core.List.{List, [], _∷_, _++_, append-assoc}
 use Prim.Native.Nat.{ℕ, zero, suc, _+_, _-_, _≤_, _<_}
-use native.Mathlib.Nat.{zero-add, suc-add}
+use native.Mathlib.Nat.{zero-add, suc-add, sub-zero}
 use native.Mathlib.Omega.{arith}
 use lib.ListN.{length, getD, set, take, drop, length-append, length-drop, length-set, take-append-drop, List·getD-append}
 use lib.Seq.{length-take-le, take-nil, take-at, drop-at, take-append-le, take-append-add, drop-append-le, getD-append-add, set-append-left, take-set-le, take-set-lt, drop-set-lt, drop-set-add, getD-take, getD-drop, take-take, take-add, drop-drop, slice}
@@ -149,3 +149,19 @@ module _ {A : Type 0} where
   pub lent-back : (a e : ℕ) (p l : List A) → length p ≡ e - a → take a l ++ (p ++ drop (e - a) (drop a l)) ≡ replaced a p l
   lent-back a e p l s =
       ap (λ (t : List A). take a l ++ (p ++ t)) (drop-drop (e - a) a l ∙ ap (λ (k : ℕ). drop (a + k) l) (sym s))
+
+  -- How long it is as it is lent, and what is lent of a list in which p came back.
+  pub lent-length : (n a e : ℕ) (l : List A) → e - a ≡ n → a + n ≤ length l → length (take (e - a) (drop a l)) ≡ n
+  lent-length n a e l long fits = ap (λ (k : ℕ). length (part a k l)) long ∙ part-length a n l fits
+
+  pub lent-again : (n a e : ℕ) (l : List A) → e - a ≡ n → a + n ≤ length l → (p : List A) → length p ≡ n → (m : List A) → m ≡ replaced a p l
+      → take (e - a) (drop a m) ≡ p
+  lent-again n a e l long fits p size m q =
+      ap (λ (k : List A). part a (e - a) k) q ∙ ap (λ (k : ℕ). part a k (replaced a p l)) (long ∙ sym size) ∙ replaced-part a p l (omega arith)
+
+  -- The first m entries, lent and come back.
+  pub front-lent : (m : ℕ) (l : List A) → take (m - 0) l ≡ take m l
+  front-lent m l = ap (λ (k : ℕ). take k l) (sub-zero m)
+
+  pub front-back : (m : ℕ) (p l : List A) → take 0 l ++ (p ++ drop (m - 0) (drop 0 l)) ≡ p ++ drop m l
+  front-back m p l = ap (λ (k : ℕ). p ++ drop k l) (sub-zero m)

@@ -11,7 +11,7 @@ use Rattle.lists.specs.Permutations.{at, table}
 use Rattle.lists.specs.Parts.{part, replaced}
 use Rattle.lists.proofs.Runs.{downward-keeps}
 use Rattle.lists.proofs.Tables.{length-table, getD-table}
-use Rattle.lists.proofs.Parts.{part-length, replaced-length, replaced-part, replaced-part-after, replaced-replaced, lent-back}
+use Rattle.lists.proofs.Parts.{replaced-length, replaced-part, replaced-part-after, replaced-replaced, lent-back, lent-length, lent-again}
 use Rattle.assignment.specs.Pairings.{square}
 use Rattle.rules.specs.Columns.{minimum, Claims, claim, claims, unclaimed, Transfer, transfer, transfers, untransferred, columnReduction}
 use Rattle.rules.proofs.Lowest.{lowest-is}
@@ -20,20 +20,9 @@ use Rattle.reduction.specs.Columns.{claimsOf, Claimable, transferring, T
 use Rattle.reduction.proofs.Claims.{claim-claimable}
 use Rattle.reduction.proofs.Transfers.{transferOf-cong, run-sized}
 
--- ---- a part [a, e) of n entries that is lent, and comes back as p
-
-module _ (n a e : ℕ) (l : List ℕ) (long : e - a ≡ n) (fits : a + n ≤ length l) where
-  lent-length : length (take (e - a) (drop a l)) ≡ n
-  lent-length = ap (λ (k : ℕ). length (part a k l)) long ∙ part-length a n l fits
-
-  module _ (p : List ℕ) (size : length p ≡ n) where
-    lent-is : take a l ++ (p ++ drop (e - a) (drop a l)) ≡ replaced a p l
-    lent-is = lent-back a e p l (size ∙ sym long)
-
-    lent-again : (m : List ℕ) → m ≡ replaced a p l → take (e - a) (drop a m) ≡ p
-    lent-again m q =
-        ap (λ (k : List ℕ). part a (e - a) k) q ∙ ap (λ (k : ℕ). part a k (replaced a p l)) (long ∙ sym size)
-        ∙ replaced-part a p l (omega arith)
+-- A part [a, e) of n entries that was lent came back as p.
+lent-is : (n a e : ℕ) (l : List ℕ) → e - a ≡ n → a + n ≤ length l → (p : List ℕ) → length p ≡ n → take a l ++ (p ++ drop (e - a) (drop a l)) ≡ replaced a p l
+lent-is n a e l long fits p size = lent-back a e p l (size ∙ sym long)
 
 -- The room whose marks were lent as `&mut room[n3..n4]` and came back as p; the marks so lent; and the room whose front was lent.
 abbrev pub roomLent : ℕ → List ℕ → List ℕ → List ℕ
