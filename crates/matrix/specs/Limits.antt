@@ -1,4 +1,4 @@
--- The limits. Laws cite side and K by name; proofs/Limits.antt, the function that answers each, and computed examples open them.
+-- The limits. Laws cite side and K by name; proofs/SmallLimits.antt, the function that answers each, and computed examples open them.
 use Prim.Native.Nat.{ℕ, _^_}
 
 -- "Side n: 0 to 1,024".
