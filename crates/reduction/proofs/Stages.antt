@@ -21,8 +21,8 @@ use Rattle.reduction.proofs.Claims.{claim-claimable}
 use Rattle.reduction.proofs.Transfers.{transferOf-cong, run-sized}
 
 -- A part [a, e) of n entries that was lent came back as p.
-lent-is : (n a e : ℕ) (l : List ℕ) → e - a ≡ n → a + n ≤ length l → (p : List ℕ) → length p ≡ n → take a l ++ (p ++ drop (e - a) (drop a l)) ≡ replaced a p l
-lent-is n a e l long fits p size = lent-back a e p l (size ∙ sym long)
+lent-is : (n a e : ℕ) (l : List ℕ) → e - a ≡ n → (p : List ℕ) → length p ≡ n → take a l ++ (p ++ drop (e - a) (drop a l)) ≡ replaced a p l
+lent-is n a e l long p size = lent-back a e p l (size ∙ sym long)
 
 -- The room whose marks were lent as `&mut room[n3..n4]` and came back as p; the marks so lent; and the room whose front was lent.
 abbrev pub roomLent : ℕ → List ℕ → List ℕ → List ℕ
@@ -180,7 +180,7 @@ module _ {n : ℕ} {costs : List ℤ} {cols₀ rows₀ : List ℕ} {v₀ : List 
     marks-zero : marksLent n (roomLent n z room₀) ≡ zeros
     marks-zero =
         let fits : n + n + n + n ≤ length room₀ = omega (arith, h .room-size) in
-        lent-again n (n + n + n) (n + n + n + n) room₀ last-part fits z z-length (roomLent n z room₀) (lent-is n (n + n + n) (n + n + n + n) room₀ last-part fits z z-length) ∙ z-zero
+        lent-again n (n + n + n) (n + n + n + n) room₀ last-part fits z z-length (roomLent n z room₀) (lent-is n (n + n + n) (n + n + n + n) room₀ last-part z z-length) ∙ z-zero
 
     pub ready : Claimable n n (claimsOf cols rows (marksLent n (roomLent n z room₀)))
     ready = ready-to-claim n cost cols rows (marksLent n (roomLent n z room₀)) cols-zero er marks-zero
@@ -188,7 +188,7 @@ module _ {n : ℕ} {costs : List ℤ} {cols₀ rows₀ : List ℕ} {v₀ : List 
     zeroed-length : length (roomLent n z room₀) ≡ n + n + n + n
     zeroed-length =
         let fits : n + n + n + n ≤ length room₀ = omega (arith, h .room-size) in
-        ap length (lent-is n (n + n + n) (n + n + n + n) room₀ last-part fits z z-length) ∙ replaced-length (n + n + n) z room₀ (omega (arith, z-length)) ∙ h .room-size
+        ap length (lent-is n (n + n + n) (n + n + n + n) room₀ last-part z z-length) ∙ replaced-length (n + n + n) z room₀ (omega (arith, z-length)) ∙ h .room-size
 
     -- The columns have claimed.
     module _ {cols′ rows′ marks′ : List ℕ} (e : claimsOf cols′ rows′ marks′ ≡ downward n claim (claimsOf cols rows (marksLent n (roomLent n z room₀)))) where
@@ -200,8 +200,8 @@ module _ {n : ℕ} {costs : List ℤ} {cols₀ rows₀ : List ℕ} {v₀ : List 
           let fits : n + n + n + n ≤ length room₀ = omega (arith, h .room-size) in
           let m : marks′ ≡ marks = ap (λ (s : Claims). s .marks) claims-are in
           let size : length marks′ ≡ n = ap length m ∙ claims-claimable n cost .marks-size in
-          lent-is n (n + n + n) (n + n + n + n) (roomLent n z room₀) last-part (omega (arith, zeroed-length)) marks′ size
-          ∙ ap (replaced (n + n + n) marks′) (lent-is n (n + n + n) (n + n + n + n) room₀ last-part fits z z-length)
+          lent-is n (n + n + n) (n + n + n + n) (roomLent n z room₀) last-part marks′ size
+          ∙ ap (replaced (n + n + n) marks′) (lent-is n (n + n + n) (n + n + n + n) room₀ last-part z z-length)
           ∙ replaced-replaced (n + n + n) z marks′ room₀ (z-length ∙ sym size) (omega (arith, z-length))
           ∙ ap (λ (l : List ℕ). replaced (n + n + n) l room₀) m
 
@@ -218,6 +218,6 @@ module _ {n : ℕ} {costs : List ℤ} {cols₀ rows₀ : List ℕ} {v₀ : List 
           record {
             cols-are = ap (λ (s : Claims). s .cols) claims-are;
             prices-are = ev;
-            room-is = lent-is n 0 n (roomLent n marks′ (roomLent n z room₀)) front fits y (ap length zero ∙ zeros-length)
+            room-is = lent-is n 0 n (roomLent n marks′ (roomLent n z room₀)) front y (ap length zero ∙ zeros-length)
                 ∙ ap (λ (l : List ℕ). replaced 0 l (roomLent n marks′ (roomLent n z room₀))) zero ∙ ap (replaced 0 zeros) marked;
           }
