@@ -24,7 +24,7 @@ trap 'rm -f oracle.new' EXIT
     echo "$first"
     echo "# written by oracle.sh: the nights of slips.md, then others from seed 1. v on side 1 is document 01's, not the crate's."
     echo "# The row prices are cost minus v."
-    echo "# side;costs in row order;columns by row;rows by column;v;row prices;total;five counts"
+    echo "# side;costs in row order;columns by row;rows by column;v;row prices;total;six counts"
     cargo run --offline --quiet --bin list -- write slips.md 1
 } >oracle.new
 mv oracle.new oracle.txt

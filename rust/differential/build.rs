@@ -1,5 +1,5 @@
 //! Finds the source of the crate lapjv 0.3.0 and makes, by the edits below, a copy of it in the build's
-//! own directory that also answers the column prices and the five counts. Without the source the build
+//! own directory that also answers the column prices and the six counts. Without the source the build
 //! succeeds and nothing of the crate is compiled.
 
 use std::path::PathBuf;
@@ -11,7 +11,7 @@ const EDITS: [(usize, &str, &str); 9] = [
     (
         1,
         "    cancellation: Cancellation,\n}",
-        "    cancellation: Cancellation,\n    counts: std::cell::Cell<[usize; 5]>,\n}",
+        "    cancellation: Cancellation,\n    counts: std::cell::Cell<[usize; 6]>,\n}",
     ),
     (
         1,
@@ -28,14 +28,15 @@ const EDITS: [(usize, &str, &str); 9] = [
     (
         2,
         "Result<(Vec<usize>, Vec<usize>), LapJVError>",
-        "Result<(Vec<usize>, Vec<usize>, Vec<T>, [usize; 5]), LapJVError>",
+        "Result<(Vec<usize>, Vec<usize>, Vec<T>, [usize; 6]), LapJVError>",
     ),
     (
         1,
         "Ok((self.in_row, self.in_col))",
         "Ok((self.in_row, self.in_col, self.v, self.counts.get()))",
     ),
-    // Free rows after column reduction; the looks of each pass; rows left; columns scanned.
+    // Free rows after column reduction; looks in pass one; rows left after it; looks in pass two; rows left; columns
+    // scanned.
     (
         1,
         "        self.ccrrt_dense();\n",
@@ -45,17 +46,18 @@ const EDITS: [(usize, &str, &str); 9] = [
         1,
         "        self.free_rows.truncate(new_free_rows);\n",
         "        self.free_rows.truncate(new_free_rows);\n        \
-         self.count(if self.counts.get()[1] == 0 { 1 } else { 2 }, rr_cnt);\n",
+         if self.counts.get()[1] == 0 {\n            self.count(1, rr_cnt);\n            \
+         self.count(2, new_free_rows);\n        } else {\n            self.count(3, rr_cnt);\n        }\n",
     ),
     (
         1,
         "        if !self.free_rows.is_empty() {\n            self.ca_dense()?;",
-        "        self.count(3, self.free_rows.len());\n        if !self.free_rows.is_empty() {\n            self.ca_dense()?;",
+        "        self.count(4, self.free_rows.len());\n        if !self.free_rows.is_empty() {\n            self.ca_dense()?;",
     ),
     (
         1,
         "            lo += 1;\n            let i = self.in_col[j];",
-        "            lo += 1;\n            self.count(4, 1);\n            let i = self.in_col[j];",
+        "            lo += 1;\n            self.count(5, 1);\n            let i = self.in_col[j];",
     ),
 ];
 

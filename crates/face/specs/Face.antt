@@ -10,13 +10,14 @@ use Rattle.face.specs.declared.Totalled.{Totalled}
 abbrev pub totalled : Values → Totalled
 totalled v = record { refusal = v .number + 256 * v .place; total = v .total }
 
--- A total with the five counts, or a refusal.
+-- A total with the six counts, or a refusal.
 abbrev pub solution : SolvedValues → Solution
 solution v = record {
   refusal = v .number + 256 * v .place;
   total = v .total;
   «free_rows» = v .counts .«free_rows»;
   «looks_one» = v .counts .«looks_one»;
+  «left_one» = v .counts .«left_one»;
   «looks_two» = v .counts .«looks_two»;
   «rows_left» = v .counts .«rows_left»;
   «columns_scanned» = v .counts .«columns_scanned»;

@@ -19,13 +19,14 @@ pub struct Totalled {
     pub total: i64,
 }
 
-// A total and the five counts, or a refusal and zeros.
+// A total and the six counts, or a refusal and zeros.
 #[repr(C)]
 pub struct Solution {
     pub refusal: u64,
     pub total: i64,
     pub free_rows: u64,
     pub looks_one: u64,
+    pub left_one: u64,
     pub looks_two: u64,
     pub rows_left: u64,
     pub columns_scanned: u64,
@@ -81,6 +82,7 @@ fn told_solved(answer: Solved) -> Solution
                 total: night.total,
                 free_rows: counts.free_rows as u64,
                 looks_one: counts.looks_one as u64,
+                left_one: counts.left_one as u64,
                 looks_two: counts.looks_two as u64,
                 rows_left: counts.rows_left as u64,
                 columns_scanned: counts.columns_scanned as u64,
@@ -91,6 +93,7 @@ fn told_solved(answer: Solved) -> Solution
             total: 0,
             free_rows: 0,
             looks_one: 0,
+            left_one: 0,
             looks_two: 0,
             rows_left: 0,
             columns_scanned: 0,

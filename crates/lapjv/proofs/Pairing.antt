@@ -105,14 +105,14 @@ module _ (n : ℕ) (costs : List ℤ) (p : Pairable n costs) (cols rows : List �
     can-total = record { small = p .small; squared = p .squared; rows = omega arith; listed = omega (arith, sizes .0); inside = inside }
 
     -- The answer, from the last state and the counts of the stages before it.
-    abbrev answerFrom : ℕ → ℕ → ℕ → ℕ → Progress → Result
-    answerFrom a b e f x = record {
+    abbrev answerFrom : ℕ → ℕ → ℕ → ℕ → ℕ → Progress → Result
+    answerFrom a b o e f x = record {
       cols = x .pairs .cols;
       rows = x .pairs .rows;
       rowPrices = rowPrices n c (x .pairs .cols) (x .prices);
       columnPrices = x .prices;
       total = total (square n costs) (x .pairs .cols);
-      counts = record { «free_rows» = a; «looks_one» = b; «looks_two» = e; «rows_left» = f; «columns_scanned» = x .scanned };
+      counts = record { «free_rows» = a; «looks_one» = b; «left_one» = o; «looks_two» = e; «rows_left» = f; «columns_scanned» = x .scanned };
     }
 
     pub paired-by : (us : List ℤ) (room″ : List ℕ) (d′ d″ : List ℤ) (t : ℤ) → us ≡ rowPrices n c cols′ v′ → t ≡ total (square n costs) cols′
@@ -123,6 +123,7 @@ module _ (n : ℕ) (costs : List ℤ) (p : Pairable n costs) (cols rows : List �
           counts = record {
             «free_rows» = r .«free_rows»;
             «looks_one» = r .«looks_one»;
+            «left_one» = r .«left_one»;
             «looks_two» = r .«looks_two»;
             «rows_left» = r .«rows_left»;
             «columns_scanned» = scanned;
@@ -131,11 +132,12 @@ module _ (n : ℕ) (costs : List ℤ) (p : Pairable n costs) (cols rows : List �
     unfolding run stages
     paired-by us room″ d′ d″ t eu et er el ed dl = record {
       answer =
-          ap₂ (λ (x : List ℤ) (y : ℤ). answerIn cols′ rows′ x v′ (record { total = y; counts = answerFrom a b e f x′ .counts })) eu et
-          ∙ ap (λ (k : ℕ). answerFrom k b e f x′) (R .free-rows)
-          ∙ ap (λ (k : ℕ). answerFrom (columnReduction n c .count) k e f x′) (R .looks-one)
-          ∙ ap (λ (k : ℕ). answerFrom (columnReduction n c .count) (passOne n costs .pass .looks) k f x′) (R .looks-two)
-          ∙ ap₂ (answerFrom (columnReduction n c .count) (passOne n costs .pass .looks) (passTwo n costs .pass .looks)) (ap (λ (x : Stage). x .count) (R .stage)) last;
+          ap₂ (λ (x : List ℤ) (y : ℤ). answerIn cols′ rows′ x v′ (record { total = y; counts = answerFrom a b o e f x′ .counts })) eu et
+          ∙ ap (λ (k : ℕ). answerFrom k b o e f x′) (R .free-rows)
+          ∙ ap (λ (k : ℕ). answerFrom (columnReduction n c .count) k o e f x′) (R .looks-one)
+          ∙ ap (λ (k : ℕ). answerFrom (columnReduction n c .count) (passOne n costs .pass .looks) k e f x′) (R .left-one)
+          ∙ ap (λ (k : ℕ). answerFrom (columnReduction n c .count) (passOne n costs .pass .looks) (passOne n costs .pass .left) k f x′) (R .looks-two)
+          ∙ ap₂ (answerFrom (columnReduction n c .count) (passOne n costs .pass .looks) (passOne n costs .pass .left) (passTwo n costs .pass .looks)) (ap (λ (x : Stage). x .count) (R .stage)) last;
       room-cleared = er ∙ ap (λ (k : ℕ). replicate k 0) (let z : length room′ ≡ 4 * n = omega arith in z);
       distances-cleared = ed ∙ ap (λ (k : ℕ). replicate k (pos 0)) dl;
     }
@@ -145,6 +147,9 @@ module _ (n : ℕ) (costs : List ℤ) (p : Pairable n costs) (cols rows : List �
 
         b : ℕ
         b = r .«looks_one»
+
+        o : ℕ
+        o = r .«left_one»
 
         e : ℕ
         e = r .«looks_two»

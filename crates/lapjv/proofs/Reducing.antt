@@ -128,7 +128,7 @@ module _ (n : ℕ) (costs : List ℤ) (p : Pairable n costs) where
         -- Both passes over all rows that were left: the stage and the counts of the rules.
         pub reduced-by : count ≡ m₁ → pass₁ .left ≡ m₂ → length room ≡ n + n + n + n
             → ReducedBy n costs cols₂ rows₂ v₂ (returned n frees₂ room₁)
-            (record { «free_rows» = count; «looks_one» = pass₁ .looks; «looks_two» = pass₂ .looks; «rows_left» = pass₂ .left })
+            (record { «free_rows» = count; «looks_one» = pass₁ .looks; «left_one» = pass₁ .left; «looks_two» = pass₂ .looks; «rows_left» = pass₂ .left })
         reduced-by all-one all-two h =
             let two : passingAt cols₂ rows₂ v₂ frees₂ pass₂ ≡ passTwo n costs = e₂
             ∙ ap (λ (k : ℕ). rowReduction n cost (stageAt cols₁ rows₁ v₁ (front n room₁) k)) (sym all-two)
@@ -137,6 +137,7 @@ module _ (n : ℕ) (costs : List ℤ) (p : Pairable n costs) where
               stage = ap (λ (frees : List ℕ). stageAt cols₂ rows₂ v₂ frees (pass₂ .left)) (returned-part n frees₂ room₁ (sized-two .frees-size)) ∙ ap passEnd two;
               free-rows = ap (λ (s : Stage). s .count) e;
               looks-one = ap (λ (x : Passing). x .pass .looks) (one all-one);
+              left-one = ap (λ (x : Passing). x .pass .left) (one all-one);
               looks-two = ap (λ (x : Passing). x .pass .looks) two;
               room-size = room-two (omega arith) ∙ h;
             }

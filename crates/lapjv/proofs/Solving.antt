@@ -8,7 +8,7 @@ use native.Mathlib.Omega.{arith}
 use lib.IntN.{ℤ, pos}
 use lib.ListN.{length, take, drop}
 use Rattle.lists.proofs.Parts.{lent-length, front-back}
-use Rattle.rules.specs.Nights.{five}
+use Rattle.rules.specs.Nights.{six}
 use Rattle.rules.specs.Run.{run}
 use Rattle.rules.proofs.Run.{side-zero}
 use Rattle.rules.proofs.Sizes.{within-everywhere}
@@ -65,7 +65,7 @@ module _ (n : ℕ) (costs : List ℤ) (cols rows : List ℕ) (us vs : List ℤ) 
       ∙ sym (passes-paired n costs (lentOf cols rows us vs indices numbers) p)
 
   -- Side 0.
-  pub solved-nothing : n ≡ 0 → outcomeOf (Paired (record { total = pos 0; counts = five 0 0 0 0 0 })) (lentOf cols rows us vs indices numbers)
+  pub solved-nothing : n ≡ 0 → outcomeOf (Paired (record { total = pos 0; counts = six 0 0 0 0 0 0 })) (lentOf cols rows us vs indices numbers)
       ≡ solve n costs (lentOf cols rows us vs indices numbers)
   solved-nothing e =
       sym (ap (λ (m : ℕ). paired m (lentOf cols rows us vs indices numbers) (run m costs)) e

@@ -45,7 +45,7 @@ abbrev pub refused : Lent → Refusal → Outcome
 refused lent refusal = outcomeOf (Refused refusal) lent
 
 -- "After acceptance the first n entries of each output hold the answer, the first 4n and n work entries are 0, and later entries are
--- untouched. [..] The answer carries the total and five counts."
+-- untouched. [..] The answer carries the total and" six "counts."
 abbrev pub paired : ℕ → Lent → Result → Outcome
 paired n lent a = record {
   answer = Paired (record { total = a .total; counts = a .counts });

@@ -41,6 +41,7 @@ pub record ReducedBy (n : ℕ) (costs : List ℤ) (cols rows : List ℕ) (v : Li
   pub stage : stageAt cols rows v (part 0 n room) (r .«rows_left») ≡ passEnd (passTwo n costs)
   pub free-rows : r .«free_rows» ≡ columnReduction n (square n costs .cost) .count
   pub looks-one : r .«looks_one» ≡ passOne n costs .pass .looks
+  pub left-one : r .«left_one» ≡ passOne n costs .pass .left
   pub looks-two : r .«looks_two» ≡ passTwo n costs .pass .looks
   pub room-size : length room ≡ n + n + n + n
 

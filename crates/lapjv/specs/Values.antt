@@ -4,14 +4,14 @@ use Prim.Native.Nat.{ℕ}
 use lib.IntN.{ℤ, pos}
 use Rattle.matrix.specs.Refusals.{numberOf, placeOf}
 use Rattle.rules.specs.declared.Counts.{Counts}
-use Rattle.rules.specs.Nights.{five}
+use Rattle.rules.specs.Nights.{six}
 use Rattle.lapjv.specs.declared.Solved.{Solved}
 use Rattle.lapjv.specs.declared.Solved.the-variants.{Paired, Refused}
 use Rattle.lapjv.specs.Solve.{Lent, Outcome}
 
 -- "counts 0".
 abbrev pub noCounts : Counts
-noCounts = five 0 0 0 0 0
+noCounts = six 0 0 0 0 0 0
 
 -- Number and place of a refusal, both 0 where the night is paired, the total and the counts.
 pub record SolvedValues : Type 0 where

@@ -25,10 +25,11 @@ pub enum Solved {
     Refused(Refusal),
 }
 
-// Four of the five counts: those of column reduction and of both passes.
+// Five of the six counts: those of column reduction and of both passes.
 pub struct Reduced {
     pub free_rows: usize,
     pub looks_one: usize,
+    pub left_one: usize,
     pub looks_two: usize,
     pub rows_left: usize,
 }
@@ -104,6 +105,7 @@ fn reduce(
     Reduced {
         free_rows,
         looks_one: one.looks,
+        left_one: left,
         looks_two: two.looks,
         rows_left: two.left,
     }
@@ -135,6 +137,7 @@ fn pair(
         counts: Counts {
             free_rows: reduced.free_rows,
             looks_one: reduced.looks_one,
+            left_one: reduced.left_one,
             looks_two: reduced.looks_two,
             rows_left: left,
             columns_scanned: scanned,
@@ -151,6 +154,7 @@ fn nothing() -> Sums
         counts: Counts {
             free_rows: 0,
             looks_one: 0,
+            left_one: 0,
             looks_two: 0,
             rows_left: 0,
             columns_scanned: 0,

@@ -7,7 +7,7 @@
 // prices, column prices; of each how many are lent, how many of these are given, and these. For `cost`: columns, in the same way.
 //
 // The line begins with the name. That of a night that the solver paired has columns by row, rows by column, column prices, row prices, the
-// total, the five counts, "kept" where everything that the solver has to leave is left and its rooms are cleared, and the checker's total.
+// total, the six counts, "kept" where everything that the solver has to leave is left and its rooms are cleared, and the checker's total.
 // That of one which it refused has "refused", number, place, and "kept" as well. That of the checker or of `cost` has "accepted total" and
 // the total, or "refused", number, "place" and place.
 mod checks;

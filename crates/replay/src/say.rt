@@ -59,6 +59,7 @@ pub fn sums(night: Sums) {
     let counts = night.counts;
     number(counts.free_rows as u64);
     number(counts.looks_one as u64);
+    number(counts.left_one as u64);
     number(counts.looks_two as u64);
     number(counts.rows_left as u64);
     number(counts.columns_scanned as u64);

@@ -22,7 +22,7 @@ use Rattle.rules.specs.Columns.{free, Pairs, claims, transfers, columnRe
 use Rattle.rules.specs.Rows.{looks, rowReduction}
 use Rattle.rules.specs.Augmentation.{augments, augmentation}
 use Rattle.rules.specs.Run.{stages, Result, rowPrices, run}
-use Rattle.rules.specs.Nights.{five}
+use Rattle.rules.specs.Nights.{six}
 use Rattle.rules.specs.Right.{Between, Right}
 use Rattle.rules.specs.Asked.{AtMinimum, Fair, Paired, Agree}
 use Rattle.rules.proofs.Prices.{NotBelow, minimum-pays}
@@ -140,15 +140,11 @@ module _ (n : ℕ) (costs : List ℤ) (K : ℕ) (within : (k : ℕ) → Within K
 
 -- Side 0: nothing, total 0, counts 0.
 abbrev pub nothing : Result
-nothing = record { cols = []; rows = []; rowPrices = []; columnPrices = []; total = pos 0; counts = five 0 0 0 0 0 }
+nothing = record { cols = []; rows = []; rowPrices = []; columnPrices = []; total = pos 0; counts = six 0 0 0 0 0 0 }
 
 pub side-zero : (costs : List ℤ) → run 0 costs ≡ nothing
 unfolding turns upward downward until table sum lowest leastBut claims transfers columnReduction looks rowReduction augments augmentation stages run
 side-zero costs = refl
-
-none-left : (costs : List ℤ) → stages 0 (square 0 costs .cost) .passOne .pass .left ≡ 0
-unfolding turns upward downward until table lowest leastBut claims transfers columnReduction looks rowReduction augments augmentation stages
-none-left costs = refl
 
 nothing-right : (costs : List ℤ) (K : ℕ) → Right 0 costs K nothing
 unfolding sum
@@ -176,8 +172,8 @@ nothing-right costs K =
         free-few = omega arith;
         one-least = omega arith;
         one-most = omega arith;
-        left-one-few = omega (arith, none-left costs);
-        two-least = omega (arith, none-left costs);
+        left-one-few = omega arith;
+        two-least = omega arith;
         two-most = omega arith;
         left-few = omega arith;
         scanned-few = omega arith;
@@ -191,7 +187,7 @@ pub record SideOne (c : ℤ) (a : Result) : Type 0 where
   pub row-prices-are : a .rowPrices ≡ pos 0 ∷ []
   pub column-prices-are : a .columnPrices ≡ c ∷ []
   pub total-is : a .total ≡ c
-  pub counts-are : a .counts ≡ five 0 0 0 0 0
+  pub counts-are : a .counts ≡ six 0 0 0 0 0 0
 
 pub side-one : (c : ℤ) → SideOne c (run 1 (c ∷ []))
 unfolding turns upward downward until table sum lowest leastBut claims transfers columnReduction looks rowReduction augments augmentation stages run

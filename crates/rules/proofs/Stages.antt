@@ -1,4 +1,4 @@
--- The stages of a run at side 1 or more: each ends as it must, the last with every row paired and all that every stage keeps; the five counts
+-- The stages of a run at side 1 or more: each ends as it must, the last with every row paired and all that every stage keeps; the six counts
 -- lie where they must. Assumes nothing.
 use mathlib.Core.Path.{_≡_, ap, _∙_, subst}
 use mathlib.Core.Logic.{inl, inr, ⊎-elim}
@@ -129,7 +129,7 @@ module _ (n : ℕ) (cost : ℕ → ℕ → ℤ) (one : 1 ≤ n) (K : ℕ) (costs
     pub pass-one : PassOf n cost one K costs (r .columns) (r .passOne)
     pub pass-two : PassOf n cost one K costs (passEnd (r .passOne)) (r .passTwo)
     pub last : Last (passEnd (r .passTwo)) (pass-two .good) (r .last)
-    pub counts : CountsRight n (r .passOne .pass .left) (countsOf r)
+    pub counts : CountsRight n (countsOf r)
 
   pub stages-right : n ≤ free → StagesRight (stages n cost)
   unfolding stages

@@ -12,22 +12,23 @@ use Rattle.assignment.specs.Prices.{Feasible, Tight}
 use Rattle.rules.specs.declared.Counts.{Counts}
 use Rattle.rules.specs.Search.{searchBlocks, searchStart, search}
 use Rattle.rules.specs.Augmentation.{Progress, flips, augment}
-use Rattle.rules.specs.Run.{stages, Result}
+use Rattle.rules.specs.Run.{Result}
 
 -- z is in -a..b, both ends included.
 pub record Between (a b : ℕ) (z : ℤ) : Type 0 where
   pub low : down z ≤ up z + a
   pub high : up z ≤ down z + b
 
--- "A pass over F rows makes F to F*n looks; each search scans at most n-1 columns." `left-one` rows are left after pass one.
-pub record CountsRight (n left-one : ℕ) (c : Counts) : Type 0 where
+-- "A pass over F rows makes F to F*n looks; each search scans at most n-1 columns." "Pass two's looks are shown to lie between [the rows left after
+-- pass one] and that number times the side."
+pub record CountsRight (n : ℕ) (c : Counts) : Type 0 where
   pub free-few : c .«free_rows» ≤ n
   pub one-least : c .«free_rows» ≤ c .«looks_one»
   pub one-most : c .«looks_one» ≤ c .«free_rows» * n
-  pub left-one-few : left-one ≤ c .«free_rows»
-  pub two-least : left-one ≤ c .«looks_two»
-  pub two-most : c .«looks_two» ≤ left-one * n
-  pub left-few : c .«rows_left» ≤ left-one
+  pub left-one-few : c .«left_one» ≤ c .«free_rows»
+  pub two-least : c .«left_one» ≤ c .«looks_two»
+  pub two-most : c .«looks_two» ≤ c .«left_one» * n
+  pub left-few : c .«rows_left» ≤ c .«left_one»
   pub scanned-few : c .«columns_scanned» ≤ c .«rows_left» * (n - 1)
 
 -- How a search from row s ends: within n blocks, fewer than n columns scanned, and the pairs flip back within n flips. "The source's answer for
@@ -55,4 +56,4 @@ pub record Right (n : ℕ) (costs : List ℤ) (K : ℕ) (a : Result) : Type 0 wh
   pub row-prices-between : (i : ℕ) → i < n → Between 0 (4 * K) (signedAt (a .rowPrices) i)
   pub total-is : a .total ≡ total (square n costs) (a .cols)
   pub total-near : Within (n * K) (a .total)
-  pub counts-right : CountsRight n (stages n (square n costs .cost) .passOne .pass .left) (a .counts)
+  pub counts-right : CountsRight n (a .counts)

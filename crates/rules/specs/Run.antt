@@ -25,11 +25,13 @@ stages n cost =
     let two = rowReduction n cost (passEnd one) in
     record { columns = columns; passOne = one; passTwo = two; last = augmentation n cost (passEnd two) }
 
--- "Free rows after column reduction (A); looks in pass one; looks in pass two; rows left (L); columns scanned."
+-- "Free rows after column reduction (A); looks in pass one; looks in pass two; rows left (L); columns scanned." And, between the two look counts,
+-- "the rows left after pass one".
 abbrev pub countsOf : Stages → Counts
 countsOf r = record {
   «free_rows» = r .columns .count;
   «looks_one» = r .passOne .pass .looks;
+  «left_one» = r .passOne .pass .left;
   «looks_two» = r .passTwo .pass .looks;
   «rows_left» = r .passTwo .pass .left;
   «columns_scanned» = r .last .scanned;

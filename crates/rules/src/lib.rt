@@ -56,10 +56,11 @@ pub struct Reached {
     pub scanned: usize,
 }
 
-// The five counts.
+// The six counts.
 pub struct Counts {
     pub free_rows: usize,
     pub looks_one: usize,
+    pub left_one: usize,
     pub looks_two: usize,
     pub rows_left: usize,
     pub columns_scanned: usize,

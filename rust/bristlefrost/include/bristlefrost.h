@@ -66,12 +66,13 @@ enum {
     BRISTLEFROST_SHEET_OVER = 17
 };
 
-/* The solver's answer: the refusal, the least total, and the five counts. */
+/* The solver's answer: the refusal, the least total, and the six counts. */
 typedef struct {
     uint64_t refusal;
     int64_t total;
     uint64_t free_rows;       /* free rows after column reduction */
     uint64_t looks_one;       /* looks in pass one */
+    uint64_t left_one;        /* rows left after pass one */
     uint64_t looks_two;       /* looks in pass two */
     uint64_t rows_left;       /* rows left after the passes */
     uint64_t columns_scanned; /* columns whose row was used in a scan */

@@ -10,6 +10,7 @@ pub struct Solved {
     pub total: i64,
     pub free_rows: u64,
     pub looks_one: u64,
+    pub left_one: u64,
     pub looks_two: u64,
     pub rows_left: u64,
     pub columns_scanned: u64,

@@ -59,6 +59,8 @@ pub struct Paired {
     pub free_rows: u64,
     /// Looks in pass one of row reduction.
     pub looks_one: u64,
+    /// Rows left after pass one; pass two makes this many looks to this many times the side.
+    pub left_one: u64,
     /// Looks in pass two.
     pub looks_two: u64,
     /// Rows left after the passes.
@@ -162,6 +164,7 @@ pub fn solve_into(side: usize, costs: &[i32], lent: Lent<'_>) -> Result<Paired, 
         total: solved.total,
         free_rows: solved.free_rows,
         looks_one: solved.looks_one,
+        left_one: solved.left_one,
         looks_two: solved.looks_two,
         rows_left: solved.rows_left,
         columns_scanned: solved.columns_scanned,

@@ -13,8 +13,8 @@ int main(void) {
     if (rows[0] != 1 || rows[1] != 2 || rows[2] != 0) return 3;
     if (row_prices[0] != 1 || row_prices[1] != 0 || row_prices[2] != 1) return 4;
     if (col_prices[0] != 0 || col_prices[1] != 0 || col_prices[2] != -1) return 5;
-    if (night.free_rows != 1 || night.looks_one != 1 || night.looks_two != 1) return 6;
-    if (night.rows_left != 1 || night.columns_scanned != 1) return 7;
+    if (night.free_rows != 1 || night.looks_one != 1 || night.left_one != 1) return 6;
+    if (night.looks_two != 1 || night.rows_left != 1 || night.columns_scanned != 1) return 7;
 
     bristlefrost_total checked =
         bristlefrost_check(3, costs, 9, cols, 3, rows, 3, row_prices, 3, col_prices, 3);

@@ -116,9 +116,9 @@ fn wrapped(answer: Result<i64, Refusal>) -> (u64, i64) {
 }
 
 /// The wrapper's total and counts, from those of document 01.
-fn paired(total: i64, counts: [u64; 5]) -> Paired {
-    let [free_rows, looks_one, looks_two, rows_left, columns_scanned] = counts;
-    Paired { total, free_rows, looks_one, looks_two, rows_left, columns_scanned }
+fn paired(total: i64, counts: [u64; 6]) -> Paired {
+    let [free_rows, looks_one, left_one, looks_two, rows_left, columns_scanned] = counts;
+    Paired { total, free_rows, looks_one, left_one, looks_two, rows_left, columns_scanned }
 }
 
 /// Lends the solver lists of these lengths and compares everything; then the wrapper, with lists like them and with
@@ -134,9 +134,16 @@ pub fn solve(
     let (mut found, mut again, mut right) = (before.clone(), before.clone(), before);
     let (lists, rooms) = ([lengths[0], lengths[1], lengths[2], lengths[3]], [lengths[4], lengths[5]]);
     let solved = face::solve(n, costs, found.lent());
-    let counts = [solved.free_rows, solved.looks_one, solved.looks_two, solved.rows_left, solved.columns_scanned];
-    let (code, total, five) = match refusals::solver(n, costs, lists, rooms) {
-        Err(refused) => (refusals::code(refused), 0, [0; 5]),
+    let counts = [
+        solved.free_rows,
+        solved.looks_one,
+        solved.left_one,
+        solved.looks_two,
+        solved.rows_left,
+        solved.columns_scanned,
+    ];
+    let (code, total, six) = match refusals::solver(n, costs, lists, rooms) {
+        Err(refused) => (refusals::code(refused), 0, [0; 6]),
         Ok(()) => {
             let own;
             let answer = match known {
@@ -147,13 +154,13 @@ pub fn solve(
                 }
             };
             right.hold(n, answer);
-            (0, answer.total, answer.counts.five().map(|count| count as u64))
+            (0, answer.total, answer.counts.six().map(|count| count as u64))
         }
     };
-    expect("solve", &(solved.refusal, solved.total, counts), &(code, total, five))?;
+    expect("solve", &(solved.refusal, solved.total, counts), &(code, total, six))?;
     expect("lists after solve", &found, &right)?;
 
-    let answered = if code == 0 { Ok(paired(total, five)) } else { Err(code) };
+    let answered = if code == 0 { Ok(paired(total, six)) } else { Err(code) };
     let wrapped = bristlefrost::solve_into(n, costs, again.lent());
     expect("the wrapper's solve_into", &wrapped.map_err(number_and_place), &answered)?;
     expect("lists after the wrapper's solve_into", &again, &right)?;

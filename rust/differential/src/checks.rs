@@ -48,7 +48,7 @@ fn with_crate(n: usize, costs: &[i32], answer: &Answer) -> Result<(), String> {
             let prices: Vec<f64> = answer.column_prices.iter().map(|&price| price as f64).collect();
             expect("column prices against the crate's copy", &prices, &v)?;
         }
-        expect("counts against the crate's copy", &answer.counts.five(), &counts)?;
+        expect("counts against the crate's copy", &answer.counts.six(), &counts)?;
     }
     Ok(())
 }
@@ -76,9 +76,9 @@ fn bounds(n: usize, answer: &Answer) -> Result<(), String> {
     hold("row prices in 0..4K", answer.row_prices.iter().all(|u| (0..=4 * K).contains(u)))?;
     hold("fewer free rows than n", counts.free_rows < n.max(1))?;
     hold("pass one makes F to F*n looks", looks(counts.free_rows, counts.looks_one))?;
-    hold("pass two makes F to F*n looks", looks(counts.left_after_one, counts.looks_two))?;
-    hold("a pass leaves no more rows than it took", counts.left_after_one <= counts.free_rows)?;
-    hold("a pass leaves no more rows than it took", counts.rows_left <= counts.left_after_one)?;
+    hold("pass two makes F to F*n looks", looks(counts.left_one, counts.looks_two))?;
+    hold("a pass leaves no more rows than it took", counts.left_one <= counts.free_rows)?;
+    hold("a pass leaves no more rows than it took", counts.rows_left <= counts.left_one)?;
     hold("each search scans at most n-1 columns", counts.columns_scanned <= counts.rows_left * n.saturating_sub(1))
 }
 

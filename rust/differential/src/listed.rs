@@ -1,7 +1,7 @@
 //! The fixed list of the crate's answers, a night on a line, and the nights in the table of slips.
 //!
 //! A line of the list holds, with semicolons between: side; costs in row order; columns by row; rows by column; v;
-//! row prices; total; the five counts. Lines that begin with # are the list's head.
+//! row prices; total; the six counts. Lines that begin with # are the list's head.
 
 use std::fmt::Display;
 
@@ -22,7 +22,7 @@ pub fn line(n: usize, costs: &[i32], answer: &Answer) -> String {
         words(&answer.column_prices),
         words(&answer.row_prices),
         answer.total.to_string(),
-        words(&answer.counts.five()),
+        words(&answer.counts.six()),
     ]
     .join(";")
 }

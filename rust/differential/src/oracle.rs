@@ -11,8 +11,8 @@ pub const NOT_RUN: &str =
 /// The crate's answer: the column of each row, the row of each column.
 pub type Pairing = (Vec<usize>, Vec<usize>);
 
-/// The copy's answer: the pairing, v, and the five counts.
-pub type Priced = (Vec<usize>, Vec<usize>, Vec<f64>, [usize; 5]);
+/// The copy's answer: the pairing, v, and the six counts.
+pub type Priced = (Vec<usize>, Vec<usize>, Vec<f64>, [usize; 6]);
 
 /// The crate's file as it stands.
 #[cfg(lapjv_source)]

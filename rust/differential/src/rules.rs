@@ -15,21 +15,22 @@ pub struct Answer {
     pub counts: Counts,
 }
 
-/// The five counts, and the rows that were left between the passes (which bounds the second's looks).
+/// The six counts.
 #[derive(Clone, Copy, Debug, Default, PartialEq, Eq)]
 pub struct Counts {
     pub free_rows: usize,
     pub looks_one: usize,
+    /// Rows left after pass one, which bound the second's looks.
+    pub left_one: usize,
     pub looks_two: usize,
     pub rows_left: usize,
     pub columns_scanned: usize,
-    pub left_after_one: usize,
 }
 
 impl Counts {
-    /// The five, in document 01's order.
-    pub fn five(&self) -> [usize; 5] {
-        [self.free_rows, self.looks_one, self.looks_two, self.rows_left, self.columns_scanned]
+    /// The six, in the documents' order.
+    pub fn six(&self) -> [usize; 6] {
+        [self.free_rows, self.looks_one, self.left_one, self.looks_two, self.rows_left, self.columns_scanned]
     }
 }
 
@@ -52,7 +53,7 @@ pub fn solve(n: usize, costs: &[i32]) -> Answer {
     counts.free_rows = free.len();
     if !free.is_empty() {
         counts.looks_one = state.row_reduction(&mut free);
-        counts.left_after_one = free.len();
+        counts.left_one = free.len();
     }
     if !free.is_empty() {
         counts.looks_two = state.row_reduction(&mut free);

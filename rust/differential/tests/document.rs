@@ -13,7 +13,7 @@ fn nights_0_to_8_and_a_surcharge() {
         assert_eq!(answer.column_prices, night.v);
         assert_eq!(answer.row_prices, night.u);
         assert_eq!(answer.total, night.total);
-        assert_eq!(answer.counts.five(), night.counts);
+        assert_eq!(answer.counts.six(), night.counts);
     }
 }
 
@@ -40,7 +40,7 @@ fn an_amount_on_a_row_leaves_the_least_pairings_and_may_choose_another() {
 fn a_go_back_is_compared_with_current_times_n() {
     let Answer { columns, column_prices, counts, .. } = checks::night(3, &[0, 1, 0, 3, 1, 0, 5, 1, 3]).unwrap();
     assert_eq!((columns, column_prices), (vec![0, 2, 1], vec![-3, -2, -3]));
-    assert_eq!(counts.five(), [2, 4, 0, 0, 0]);
+    assert_eq!(counts.six(), [2, 4, 0, 0, 0, 0]);
 }
 
 #[test]

@@ -10,7 +10,7 @@ use differential::{refusals, rules, sheets};
 pub struct Solved {
     refusal: u64,
     total: i64,
-    counts: [u64; 5],
+    counts: [u64; 6],
 }
 
 #[repr(C)]
@@ -90,7 +90,7 @@ pub unsafe extern "C" fn bristlefrost_solve(
         if cfg!(feature = "written-on-refusal") && refused.0 == 5 {
             numbers[0] = 1;
         }
-        return Solved { refusal: refusals::code(refused), total: 0, counts: [0; 5] };
+        return Solved { refusal: refusals::code(refused), total: 0, counts: [0; 6] };
     }
     let night = paired(n, costs);
     for k in 0..n {
@@ -111,9 +111,9 @@ pub unsafe extern "C" fn bristlefrost_solve(
         row_prices[..n].iter_mut().for_each(|price| *price += 1);
         col_prices[..n].iter_mut().for_each(|price| *price -= 1);
     }
-    let mut counts = night.counts.five().map(|count| count as u64);
+    let mut counts = night.counts.six().map(|count| count as u64);
     if cfg!(feature = "looks-exchanged") {
-        counts.swap(1, 2);
+        counts.swap(1, 3);
     }
     Solved { refusal: 0, total: night.total, counts }
 }

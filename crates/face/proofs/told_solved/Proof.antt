@@ -28,7 +28,7 @@ abbrev with-total : Counts → ℤ → Solution
 with-total counts t = solution (solvedValues (Paired (record { total = t; counts = counts })))
 
 abbrev with-refusal : ℕ → Solution
-with-refusal code = record { refusal = code; total = pos 0; «free_rows» = 0; «looks_one» = 0; «looks_two» = 0; «rows_left» = 0; «columns_scanned» = 0 }
+with-refusal code = record { refusal = code; total = pos 0; «free_rows» = 0; «looks_one» = 0; «left_one» = 0; «looks_two» = 0; «rows_left» = 0; «columns_scanned» = 0 }
 
 total-fits : (c : tie.After-struct-told) → SFits w64 (c .before .before .before .answer .given .0 .0 .total)
 total-fits c = search needs

@@ -67,7 +67,7 @@ fn by_rules(night: &Night) -> Result<String, String> {
     let answer = checks::night(night.n, &night.costs.entries())?;
     let (u, v) = (words(&answer.row_prices), words(&answer.column_prices));
     let (columns, rows) = (words(&answer.columns), words(&answer.rows));
-    Ok(paired([&columns, &rows, &v, &u, &answer.total.to_string(), &words(&answer.counts.five())]))
+    Ok(paired([&columns, &rows, &v, &u, &answer.total.to_string(), &words(&answer.counts.six())]))
 }
 
 impl Replay {

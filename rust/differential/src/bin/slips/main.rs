@@ -31,21 +31,11 @@ struct Night {
     costs: Vec<i32>,
 }
 
-/// The five counts are compared; the rows left between the passes are not among them.
-fn same(a: &Answer, b: &Answer) -> bool {
-    a.columns == b.columns
-        && a.rows == b.rows
-        && a.column_prices == b.column_prices
-        && a.row_prices == b.row_prices
-        && a.total == b.total
-        && a.counts.five() == b.counts.five()
-}
-
 /// The night's rank for a slip, where it tells it.
 fn told(slip: Slip, n: usize, costs: &[i32], right: &Answer) -> Option<Night> {
     let (only_in_counts, same_columns) = match slipped::solve(Some(slip), n, costs) {
         Err(_) => (false, false),
-        Ok(wrong) if same(&wrong, right) => return None,
+        Ok(wrong) if wrong == *right => return None,
         Ok(wrong) => {
             let same_columns = wrong.columns == right.columns;
             (same_columns && wrong.column_prices == right.column_prices, same_columns)
@@ -182,8 +172,8 @@ fn wrong(slip: Slip, n: usize, costs: &[i32], right: &Answer) -> String {
     if wrong.total != right.total {
         parts.push(format!("total {}", wrong.total));
     }
-    if wrong.counts.five() != right.counts.five() {
-        parts.push(format!("counts {}", words(&wrong.counts.five())));
+    if wrong.counts.six() != right.counts.six() {
+        parts.push(format!("counts {}", words(&wrong.counts.six())));
     }
     parts.join("; ")
 }
@@ -200,7 +190,7 @@ fn line(slip: Slip, letter: &str, what: &str, n: usize, costs: &[i32]) -> Result
         words(&right.column_prices),
         words(&right.row_prices),
         right.total,
-        words(&right.counts.five()),
+        words(&right.counts.six()),
         wrong(slip, n, costs, &right),
         others.join(" "),
     ))

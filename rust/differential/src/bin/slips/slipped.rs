@@ -91,7 +91,7 @@ pub fn solve(slip: Option<Slip>, n: usize, costs: &[i32]) -> Result<Answer, &'st
     counts.free_rows = free.len();
     if !free.is_empty() {
         counts.looks_one = state.row_reduction(&mut free)?;
-        counts.left_after_one = free.len();
+        counts.left_one = free.len();
     }
     if (!free.is_empty() || slip == Some(SecondPassAlways)) && slip != Some(SecondPassNever) {
         counts.looks_two = state.row_reduction(&mut free)?;
