@@ -6,7 +6,7 @@ use mathlib.Core.List.{List}
 use Prim.Native.Nat.{ℕ, _*_, _<_}
 use borrow.Author.Tests.{eqb-true, eqb-false}
 use lib.Dec.{eqb}
-use lib.IntN.{ℤ, _+ℤ_}
+use lib.IntN.{ℤ, pos, _+ℤ_, _-ℤ_}
 use lib.ListN.{length}
 use lib.Signed.{ltZ, _≤ℤ_, _<ℤ_}
 use mir.Syntax.{Width, w64}
@@ -35,6 +35,10 @@ module _ (row column : ℤ) (f : SFits w64 row) (g : SFits w64 column) (near : W
 
   pub read-fits : SFits w64 (toZ w64 (ofZ w64 row) +ℤ toZ w64 (ofZ w64 column))
   read-fits = rw sum-read sum-fits
+
+  -- The same, as a local that holds it is read.
+  pub both-read : toZ w64 (ofZ w64 (toZ w64 (ofZ w64 row) +ℤ toZ w64 (ofZ w64 column))) ≡ row +ℤ column
+  both-read = toZ-ofZ read-fits ∙ sum-read
 
 -- ---- one number is not another
 
@@ -68,11 +72,11 @@ differ-bits {w} a b f g = by (eqb (ofZ w a) (ofZ w b)) refl
 
 -- The prices are over the cost in one row of costs with its price, at column j.
 abbrev pub overAt : List ℤ → ℤ → List ℤ → ℕ → Bool
-overAt row u vs j = ltZ (signedAt row j) (u +ℤ signedAt vs j)
+overAt row u vs j = ltZ (signedAt row j -ℤ (u +ℤ signedAt vs j)) (pos 0)
 
 -- What is looked for in the part that holds row i is what is looked for in row i of the night.
 pub row-first : (n : ℕ) (costs us vs : List ℤ) (i : ℕ) → i < n → length costs ≡ n * n → (row : List ℤ) → row ≡ part (i * n) n costs → (u : ℤ) → u ≡ signedAt us i
     → first (length row) (overAt row u vs) ≡ first n (over (square n costs) us vs i)
 row-first n costs us vs i l e row same u at =
     ap (λ (m : ℕ). first m (overAt row u vs)) (ap length same ∙ row-length n costs i l e)
-    ∙ first-cong n (overAt row u vs) (over (square n costs) us vs i) (λ j k. ap₂ ltZ (ap (λ (p : List ℤ). signedAt p j) same ∙ row-at n costs i j k) (ap (λ (z : ℤ). z +ℤ signedAt vs j) at))
+    ∙ first-cong n (overAt row u vs) (over (square n costs) us vs i) (λ j k. ap (λ (z : ℤ). ltZ z (pos 0)) (ap₂ _-ℤ_ (ap (λ (p : List ℤ). signedAt p j) same ∙ row-at n costs i j k) (ap (λ (z : ℤ). z +ℤ signedAt vs j) at)))

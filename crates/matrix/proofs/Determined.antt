@@ -19,7 +19,7 @@ pub values-determine : (a b : Answer) → valuesOf a ≡ valuesOf b → a ≡ b
 values-determine (Total s) (Total t) e = ap Total (ap (λ (v : Values). v .total) e)
 values-determine (Total s) (Refused r) e = absurd (true≢false (ap (λ (v : Values). v .accepted) e))
 values-determine (Refused q) (Total t) e = absurd (true≢false (sym (ap (λ (v : Values). v .accepted) e)))
-values-determine (Refused q) (Refused r) e = 
+values-determine (Refused q) (Refused r) e =
     ap Refused
     (ap₂ (λ (number place : ℕ). refusal-is number place (slackOf q)) (ap (λ (v : Values). v .number) e) (ap (λ (v : Values). v .place) e)
     ∙ ap (refusal-is (numberOf r) (placeOf r)) (ap (λ (v : Values). v .slack) e))

@@ -1,5 +1,5 @@
 -- A hall of tests: what is passed where all is passed, and what holds of every refusal. Assumes nothing.
-use mathlib.Core.Path.{_≡_, refl, sym, ap, _∙_}
+use mathlib.Core.Path.{_≡_, refl, sym, ap, ap₂, _∙_, subst}
 use mathlib.Core.Bool.{Bool, true, false}
 use mathlib.Core.Logic.{_↔_}
 use Prim.Native.Nat.{ℕ, _^_, _≤_, _<_}
@@ -9,14 +9,14 @@ use lib.Dec.{ltb}
 use lib.IntN.{ℤ, pos}
 use Rattle.lists.specs.Runs.{first}
 use Rattle.matrix.specs.Asked.{Tellable}
-use Rattle.matrix.specs.Verdicts.{Passes, _then_, failsBy, failsIf, failsAtBy, failsAt}
-use Rattle.matrix.specs.Answers.{totalled}
+use Rattle.matrix.specs.Verdicts.{Passes, _then_, bare, failsBy, failsIf, failsAtBy, failsAt}
+use Rattle.matrix.specs.Answers.{bareAnswer, totalled}
 use Rattle.matrix.specs.declared.Refusal.{Refusal}
 use Rattle.matrix.specs.declared.Answer.the-variants.{Total, Refused}
 use Rattle.matrix.specs.declared.Verdict.{Verdict}
 use Rattle.matrix.specs.declared.Verdict.the-variants.{Passed, Fails}
 use Rattle.lists.proofs.Runs.{first-holds, first-before}
-use Rattle.matrix.proofs.First.{Clear, ended, nowhere}
+use Rattle.matrix.proofs.First.{Clear, ended, nowhere, first-cong}
 
 -- A refusal is no pass.
 pub fails-no-pass : {refusal : Refusal} → Passes (Fails refusal) → ⊥
@@ -116,6 +116,38 @@ unfolding totalled
 totalled-iff Passed total = (λ e. (refl, sym (cc e)), λ h. ap Total (sym (h .1)))
 totalled-iff (Fails refusal) total = (λ e. let z : _≡_ {A = ℕ} 0 1 = cc in absurd (omega arith), λ h. absurd (fails-no-pass (h .0)))
 
+-- ---- number and place, whatever the slack
+
+bare-both : (a b : Verdict) → bare (a then b) ≡ (bare a then bare b)
+unfolding bare _then_
+bare-both Passed b = refl
+bare-both (Fails refusal) b = refl
+
+pub bare-then : (a b : Verdict) {c d : Verdict} → bare a ≡ c → bare b ≡ d → bare (a then b) ≡ (c then d)
+bare-then a b e f = bare-both a b ∙ ap₂ _then_ e f
+
+pub bare-if : (number : ℕ) (place : ℕ) (slack : ℤ) (test : Bool) → bare (failsBy number place slack test) ≡ failsIf number place test
+unfolding bare failsBy
+bare-if number place slack true = refl
+bare-if number place slack false = refl
+
+pub bare-at : (number : ℕ) (place : ℕ → ℕ) (slack : ℕ → ℤ) (n : ℕ) (test : ℕ → Bool) → bare (failsAtBy number place slack n test) ≡ failsAt number place n test
+unfolding failsAtBy
+bare-at number place slack n test = bare-if number (place (first n test)) (slack (first n test)) (ltb (first n test) n)
+
+pub bare-totalled : (verdict : Verdict) (total : ℤ) → bareAnswer (totalled verdict total) ≡ totalled (bare verdict) total
+unfolding bare bareAnswer totalled
+bare-totalled Passed total = refl
+bare-totalled (Fails refusal) total = refl
+
+-- Only the places below n count, and of their places in the night that of the first.
+pub failsAt-cong : (number : ℕ) (n : ℕ) (place other : ℕ → ℕ) (test same : ℕ → Bool) → ((i : ℕ) → place i ≡ other i) → ((i : ℕ) → i < n → test i ≡ same i)
+    → failsAt number place n test ≡ failsAt number other n same
+unfolding failsAtBy
+failsAt-cong number n place other test same e f =
+    let k = first-cong n test same f in
+    ap₂ (λ (p i : ℕ). failsIf number p (ltb i n)) (e (first n test) ∙ ap other k) k
+
 -- ---- what holds of every refusal
 
 -- A property of the refusal, where there is one.
@@ -141,6 +173,11 @@ module _ (P : Refusal → Type 0) where
   failsAtBy-every number place slack n test f =
       failsBy-every number (place (first n test)) (slack (first n test)) _
       (λ e. let l = ltb-true (first n test) n e in f (first n test) l (first-holds test n l) (first-before test n))
+
+pub refused-every : (P : Refusal → Type 0) (verdict : Verdict) (total : ℤ) {refusal : Refusal} → Every P verdict → totalled verdict total ≡ Refused refusal → P refusal
+unfolding totalled
+refused-every P Passed total h e = let z : _≡_ {A = ℕ} 0 1 = cc in absurd (omega arith)
+refused-every P (Fails given) total {refusal} h e = let same : given ≡ refusal = cc e in subst P same h
 
 -- ---- refusals that one number tells
 

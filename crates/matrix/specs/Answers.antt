@@ -21,6 +21,11 @@ abbrev pub valuesOf : Answer → Values
 valuesOf (Total total) = record { accepted = true; number = 0; place = 0; slack = pos 0; total = total }
 valuesOf (Refused refusal) = record { accepted = false; number = numberOf refusal; place = placeOf refusal; slack = slackOf refusal; total = pos 0 }
 
+-- An answer but for its slack.
+unfoldable pub bareAnswer : Answer → Answer
+bareAnswer (Total total) = Total total
+bareAnswer (Refused refusal) = Refused (record { number = numberOf refusal; place = placeOf refusal; slack = pos 0 })
+
 -- An answer from the verdict on an input: the refusal, else the total.
 unfoldable pub totalled : Verdict → ℤ → Answer
 totalled Passed total = Total total

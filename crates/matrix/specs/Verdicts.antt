@@ -5,6 +5,7 @@ use Prim.Native.Nat.{ℕ}
 use lib.Dec.{ltb}
 use lib.IntN.{ℤ, pos}
 use Rattle.lists.specs.Runs.{first}
+use Rattle.matrix.specs.Refusals.{numberOf, placeOf}
 use Rattle.matrix.specs.declared.Verdict.{Verdict}
 use Rattle.matrix.specs.declared.Verdict.the-variants.{Passed, Fails}
 
@@ -17,6 +18,11 @@ Passes verdict = verdict ≡ Passed
 unfoldable pub _then_ : Verdict → Verdict → Verdict
 Passed then next = next
 (Fails refusal) then next = Fails refusal
+
+-- What is refused, and at which place: a verdict but for its slack.
+unfoldable pub bare : Verdict → Verdict
+bare Passed = Passed
+bare (Fails refusal) = Fails (record { number = numberOf refusal; place = placeOf refusal; slack = pos 0 })
 
 -- Refused where the test holds, with a slack.
 unfoldable pub failsBy : ℕ → ℕ → ℤ → Bool → Verdict
