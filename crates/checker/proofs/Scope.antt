@@ -3,15 +3,15 @@
 use mathlib.Core.Path.{_≡_, refl, sym, ap, ap₂, _∙_}
 use mathlib.Core.Bool.{Bool, _&&_, _||_, or-comm}
 use mathlib.Core.Logic.{⊎-elim}
-use mathlib.Core.List.{List}
+use mathlib.Core.List.{List, [], _∷_}
 use Prim.Native.Nat.{ℕ, _+_, _*_}
 use lib.Dec.{ltb}
 use lib.IntN.{ℤ, pos, _-ℤ_}
+use lib.ListN.{length}
 use lib.Signed.{ltZ}
 use Rattle.ints.proofs.Sums.{dif}
 use Rattle.ints.proofs.Ranges.{zarith}
 use Rattle.ints.proofs.Tests.{lt-ltZ, le-ltZ, le-or-lt}
-use Rattle.lists.specs.Runs.{first}
 use Rattle.lists.specs.Permutations.{at}
 use Rattle.assignment.specs.Pairings.{Night, square, total}
 use Rattle.assignment.specs.Prices.{priced}
@@ -19,8 +19,9 @@ use Rattle.matrix.specs.Verdicts.{bare}
 use Rattle.matrix.specs.Answers.{bareAnswer, totalled}
 use Rattle.matrix.specs.declared.Verdict.{Verdict}
 use Rattle.matrix.proofs.First.{first-cong}
-use Rattle.matrix.proofs.Verdicts.{bare-then, bare-if, bare-at, bare-totalled, failsAt-cong}
-use Rattle.checker.specs.Tests.{over, overFirst, loose, differ}
+use Rattle.matrix.proofs.Verdicts.{bare-then, bare-at, bare-totalled, failsAt-cong}
+use Rattle.matrix.proofs.Bare.{shaped-bare}
+use Rattle.checker.specs.Tests.{over, overFirst, loose}
 use Rattle.checker.specs.Check.{priceTests, checks, check}
 use Rattle.checker.specs.Scope.{overCost, overCostFirst, notCost, scopePrices, scopeCheck}
 
@@ -65,5 +66,5 @@ unfolding check checks scopeCheck
 check-scope n costs cols rows us vs =
     bare-totalled _ _
     ∙ ap (λ (v : Verdict). totalled v (total (square n costs) cols))
-    (bare-then _ _ (bare-then _ _ (bare-then _ _ (bare-if _ _ _ _) (bare-if _ _ _ _)) (bare-at _ _ _ _ _))
+    (bare-then _ _ (shaped-bare n costs (length cols ∷ length rows ∷ length us ∷ length vs ∷ []))
     (bare-then _ _ (bare-then _ _ (bare-then _ _ (bare-at _ _ _ _ _) (bare-at _ _ _ _ _)) (bare-at _ _ _ _ _)) (prices-scope (square n costs) us vs cols)))

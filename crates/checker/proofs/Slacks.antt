@@ -59,10 +59,12 @@ and-right false b e = absurd (true≢false (sym e))
 above : (z : ℤ) → pos 0 ≤ℤ z → differ z (pos 0) ≡ true → pos 0 <ℤ z
 above z h e = ⊎-elim (λ l. absurd (true≢false (sym e ∙ differ-same z (pos 0) (omega zarith)))) (λ l. l) (le-or-lt z (pos 0))
 
--- A night whose costs are within K, and a list whose columns are the night's and allowed.
-module _ (night : Night) (cols : List ℕ) (us vs : List ℤ)
-    (costs : (i j : ℕ) → i < night .rowCount → j < night .columnCount → Within K (night .cost i j))
-    (inside : (i : ℕ) → i < night .rowCount → (at cols i < night .columnCount) × (night .allowed i (at cols i) ≡ true)) where
+-- A list whose columns are the night's, each allowed to its row.
+abbrev pub Inside : Night → List ℕ → Type 0
+Inside night cols = (i : ℕ) → i < night .rowCount → (at cols i < night .columnCount) × (night .allowed i (at cols i) ≡ true)
+
+-- A night whose costs are within K.
+module _ (night : Night) (us vs : List ℤ) (costs : (i j : ℕ) → i < night .rowCount → j < night .columnCount → Within K (night .cost i j)) where
   -- Past 8 the slack of every place is within 21K.
   pub slack-within : Passes (pricesWithin (night .rowCount) (night .columnCount) us vs) → (i j : ℕ) → i < night .rowCount → j < night .columnCount
       → Within (21 * K) (slack night us vs i j)
@@ -81,21 +83,22 @@ module _ (night : Night) (cols : List ℕ) (us vs : List ℤ)
       let holds = and-right (night .allowed i j) (ltZ (slack night us vs i j) (pos 0)) (first-holds (over night us vs i) (night .columnCount) m) in
       nine-right _ (slack night us vs i j) (omega (zarith, holds)) (slack-within e i j l m))
 
-  ten-slacks : Passes (pricesWithin (night .rowCount) (night .columnCount) us vs) → Passes (underCosts night us vs) → Every SlackRight (tightOn night cols us vs)
-  ten-slacks e f =
+  ten-slacks : (cols : List ℕ) → Inside night cols → Passes (pricesWithin (night .rowCount) (night .columnCount) us vs) → Passes (underCosts night us vs)
+      → Every SlackRight (tightOn night cols us vs)
+  ten-slacks cols inside e f =
       failsAtBy-every SlackRight _ _ _ _ _ (λ i l t clear.
       let j = at cols i in
       let p = inside i l in
       let u = under-costs night us vs .0 f .under i j l (p .0) (p .1) in
       ten-right _ (slack night us vs i j) (above (slack night us vs i j) (omega (zarith, dif (night .cost i j) (priced us vs i j), u)) t) (slack-within e i j l (p .0)))
 
-  pub prices-slacks : Every SlackRight (priceTests night cols us vs)
-  prices-slacks =
+  pub prices-slacks : (cols : List ℕ) → Inside night cols → Every SlackRight (priceTests night cols us vs)
+  prices-slacks cols inside =
       then-every SlackRight _ _
       (then-every SlackRight _ _
       (then-every SlackRight _ _ (none-at _ _ _ _ (lit< tt)) (λ e. none-at _ _ _ _ (lit< tt)))
       nine-slacks)
-      (λ e. let t = then-iff _ _ .0 e in ten-slacks (t .0) (t .1))
+      (λ e. let t = then-iff _ _ .0 e in ten-slacks cols inside (t .0) (t .1))
 
 -- A refusal of the checker carries the right slack.
 pub check-slacks : (n : ℕ) (costs : List ℤ) (cols rows : List ℕ) (us vs : List ℤ) {refusal : Refusal}
@@ -108,7 +111,8 @@ check-slacks n costs cols rows us vs e =
     (λ passed.
     let t6 = then-iff _ _ .0 (then-iff _ _ .0 passed .0) in
     let s = shaped-iff n costs (length cols) (length rows) (length us) (length vs) .0 shape in
-    prices-slacks (square n costs) cols us vs
+    prices-slacks (square n costs) us vs
     (λ i j l m. costs-within costs .0 (t6 .0) _ (omega (arith, place-below n i j l m, s .squared)))
+    cols
     (λ i l. (columns-inside n n cols .0 (t6 .1) i l, refl)))))
     e

@@ -1,8 +1,7 @@
 -- `slack_at` answers the slack of a place: it is one of the costs, and has a row price and a column price. Assumes nothing.
-use mathlib.Core.Path.{_≡_, ap₂, _∙_}
+use mathlib.Core.Path.{ap₂, _∙_}
 use Prim.Native.Nat.{_+_, _*_, _<_, _≤_, _^_}
 use native.Mathlib.Omega.{arith}
-use borrow.Author.Needs.{needs}
 use lib.IntN.{_+ℤ_, _-ℤ_}
 use lib.ListN.{length}
 use mir.Syntax.{w32, w64}
