@@ -13,7 +13,7 @@ use Rattle.matrix.specs.Tests.{shaped}
 use Rattle.matrix.specs.Asked.{TellableIn}
 use Rattle.matrix.proofs.SmallLimits.{side-small}
 use Rattle.matrix.proofs.Codes.{square-small, totalled-small, shaped-small}
-use Rattle.matrix.proofs.Verdicts.{then-small, failsAt-small}
+use Rattle.matrix.proofs.Verdicts.{then-small, failsAtBy-small, failsAt-small}
 use Rattle.matrix.proofs.Passed.{shaped-iff}
 use Rattle.checker.specs.Tests.{over}
 use Rattle.checker.specs.Check.{checks, check}
@@ -31,8 +31,8 @@ check-places n costs cols rows us vs =
     (λ f. then-small _ _
     (then-small _ _
     (then-small _ _ (failsAt-small _ _ _ _ (lit< tt) (λ i l. omega (arith, h))) (λ g. failsAt-small _ _ _ _ (lit< tt) (λ j l. omega (arith, h))))
-    (λ g. failsAt-small _ _ _ _ (lit< tt) (λ i l. omega (arith, h, mul-le-mul-right n (le-of-lt l), first-le (over (square n costs) us vs i) n))))
-    (λ g. failsAt-small _ _ _ _ (lit< tt) (λ i l. omega (arith, h))))))
+    (λ g. failsAtBy-small _ _ _ _ _ (lit< tt) (λ i l. omega (arith, h, mul-le-mul-right n (le-of-lt l), first-le (over (square n costs) us vs i) n))))
+    (λ g. failsAtBy-small _ _ _ _ _ (lit< tt) (λ i l. omega (arith, h))))))
   where
     small : Passes (shaped n costs (length cols ∷ length rows ∷ length us ∷ length vs ∷ [])) → (n < 2 ^ 16) × (n * n ≤ 2 ^ 32) × (length costs ≤ 2 ^ 32)
     small e =

@@ -1,5 +1,7 @@
 pub mod Places
 pub mod Tests
+pub mod Scope
+pub mod Slacks
 pub mod Accepted
 pub mod Shown
 pub mod Least

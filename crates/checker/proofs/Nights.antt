@@ -4,11 +4,11 @@ use mathlib.Core.List.{map}
 use Rattle.lists.specs.Runs.{turns, upward, first}
 use Rattle.lists.specs.Sums.{sum}
 use Rattle.matrix.specs.Limits.{side, K}
-use Rattle.matrix.specs.Verdicts.{_then_, failsIf, failsAt}
+use Rattle.matrix.specs.Verdicts.{_then_, failsBy, failsAtBy}
 use Rattle.matrix.specs.Answers.{totalled}
 use Rattle.checker.specs.Check.{checks, check}
 use Rattle.checker.specs.Nights.{checked, nights}
 
 pub all-checked : map checked nights ≡ nights
-unfolding check checks totalled _then_ failsIf failsAt first upward turns sum side K
+unfolding check checks totalled _then_ failsBy failsAtBy first upward turns sum side K
 all-checked = refl

@@ -1,22 +1,19 @@
--- The prices of one place: their sum does not wrap, and what the tests of that place read. Assumes nothing.
-use mathlib.Core.Path.{_≡_, refl, sym, ap, ap₂, _∙_}
-use mathlib.Core.Bool.{Bool, true, false, not, _||_, or-true, true≢false}
+-- The prices of one place: their sum does not wrap; and what the tests of that place read. Assumes nothing.
+use mathlib.Core.Path.{_≡_, refl, ap, ap₂, _∙_}
+use mathlib.Core.Bool.{Bool, true, false, _||_, or-true, true≢false}
 use mathlib.Core.Logic.{⊎-elim}
 use mathlib.Core.List.{List}
 use Prim.Native.Nat.{ℕ, _*_, _<_}
-use borrow.Author.Tests.{eqb-true, eqb-false}
-use lib.Dec.{eqb}
-use lib.IntN.{ℤ, _+ℤ_}
+use lib.IntN.{ℤ, pos, _+ℤ_, _-ℤ_}
 use lib.ListN.{length}
 use lib.Signed.{ltZ, _≤ℤ_, _<ℤ_}
-use mir.Syntax.{Width, w64}
+use mir.Syntax.{w64}
 use mir.Val.{SFits, toZ, ofZ}
 use mir.Facts.{toZ-ofZ}
 use Rattle.ints.specs.Parts.{Within}
 use Rattle.ints.proofs.Ranges.{zarith}
 use Rattle.ints.proofs.Shapes.{zlin}
 use Rattle.ints.proofs.Tests.{lt-ltZ, le-ltZ, le-or-lt}
-use Rattle.ints.proofs.Bits.{bits-injective}
 use Rattle.lists.specs.Runs.{first}
 use Rattle.lists.specs.Parts.{part}
 use Rattle.assignment.specs.Pairings.{signedAt, square}
@@ -35,6 +32,10 @@ module _ (row column : ℤ) (f : SFits w64 row) (g : SFits w64 column) (near : W
 
   pub read-fits : SFits w64 (toZ w64 (ofZ w64 row) +ℤ toZ w64 (ofZ w64 column))
   read-fits = rw sum-read sum-fits
+
+  -- The same, as a local that holds it is read.
+  pub both-read : toZ w64 (ofZ w64 (toZ w64 (ofZ w64 row) +ℤ toZ w64 (ofZ w64 column))) ≡ row +ℤ column
+  both-read = toZ-ofZ read-fits ∙ sum-read
 
 -- ---- one number is not another
 
@@ -56,23 +57,15 @@ differ-false a b = by (ltZ a b) (ltZ b a) refl refl
     by false true below above e = absurd (true≢false e)
     by true t below above e = absurd (true≢false e)
 
--- The same, as two signed locals are compared: by their bits.
-pub differ-bits : {w : Width} (a b : ℤ) → SFits w a → SFits w b → not (eqb (ofZ w a) (ofZ w b)) ≡ differ a b
-differ-bits {w} a b f g = by (eqb (ofZ w a) (ofZ w b)) refl
-  where
-    by : (t : Bool) → eqb (ofZ w a) (ofZ w b) ≡ t → not (eqb (ofZ w a) (ofZ w b)) ≡ differ a b
-    by true e = ap not e ∙ sym (differ-same a b (bits-injective f g (eqb-true _ _ e)))
-    by false e = ap not e ∙ sym (differ-apart a b (λ same. eqb-false _ _ e (ap (ofZ w) same)))
-
 -- ---- one row of the costs
 
 -- The prices are over the cost in one row of costs with its price, at column j.
 abbrev pub overAt : List ℤ → ℤ → List ℤ → ℕ → Bool
-overAt row u vs j = ltZ (signedAt row j) (u +ℤ signedAt vs j)
+overAt row u vs j = ltZ (signedAt row j -ℤ (u +ℤ signedAt vs j)) (pos 0)
 
 -- What is looked for in the part that holds row i is what is looked for in row i of the night.
 pub row-first : (n : ℕ) (costs us vs : List ℤ) (i : ℕ) → i < n → length costs ≡ n * n → (row : List ℤ) → row ≡ part (i * n) n costs → (u : ℤ) → u ≡ signedAt us i
     → first (length row) (overAt row u vs) ≡ first n (over (square n costs) us vs i)
 row-first n costs us vs i l e row same u at =
     ap (λ (m : ℕ). first m (overAt row u vs)) (ap length same ∙ row-length n costs i l e)
-    ∙ first-cong n (overAt row u vs) (over (square n costs) us vs i) (λ j k. ap₂ ltZ (ap (λ (p : List ℤ). signedAt p j) same ∙ row-at n costs i j k) (ap (λ (z : ℤ). z +ℤ signedAt vs j) at))
+    ∙ first-cong n (overAt row u vs) (over (square n costs) us vs i) (λ j k. ap (λ (z : ℤ). ltZ z (pos 0)) (ap₂ _-ℤ_ (ap (λ (p : List ℤ). signedAt p j) same ∙ row-at n costs i j k) (ap (λ (z : ℤ). z +ℤ signedAt vs j) at)))

@@ -7,8 +7,9 @@ use Prim.Native.Nat.{ℕ, _<_}
 use native.Mathlib.Omega.{arith}
 use borrow.Author.Tests.{ltb-false, le-ltb, eqb-true, eq-eqb, not-false}
 use lib.Dec.{ltb}
-use lib.IntN.{ℤ}
+use lib.IntN.{ℤ, pos, _-ℤ_}
 use lib.Signed.{ltZ}
+use Rattle.ints.proofs.Sums.{dif}
 use Rattle.ints.proofs.Ranges.{zarith}
 use Rattle.ints.proofs.Tests.{le-ltZ}
 use Rattle.lists.specs.Runs.{first}
@@ -17,8 +18,8 @@ use Rattle.assignment.specs.Pairings.{Night}
 use Rattle.assignment.specs.Prices.{priced, Feasible, Tight}
 use Rattle.matrix.specs.Verdicts.{Passes}
 use Rattle.matrix.proofs.First.{Clear, nowhere, ended}
-use Rattle.matrix.proofs.Verdicts.{failsAt-iff}
-use Rattle.checker.specs.Tests.{rowsNamed, over, underCosts, tightOn}
+use Rattle.matrix.proofs.Verdicts.{failsAtBy-iff, failsAt-iff}
+use Rattle.checker.specs.Tests.{rowsNamed, slack, over, underCosts, tightOn}
 use Rattle.checker.proofs.Places.{differ-false, differ-same}
 
 pub rows-named : (n : ℕ) (cols rows : List ℕ) → Passes (rowsNamed n cols rows) ↔ ((i : ℕ) → i < n → at rows (at cols i) ≡ i)
@@ -43,20 +44,27 @@ none-iff n test = (
   λ clear. le-ltb (first n test) n (omega (arith, ended test n n refl clear)),
 )
 
+-- There is no slack exactly if the prices are the cost.
+none : (cost prices : ℤ) → cost -ℤ prices ≡ pos 0 → prices ≡ cost
+none cost prices e = omega (zarith, dif cost prices)
+
+no-slack : (cost prices : ℤ) → prices ≡ cost → cost -ℤ prices ≡ pos 0
+no-slack cost prices e = omega (zarith, dif cost prices)
+
 module _ (night : Night) (us vs : List ℤ) where
   pub under-costs : Passes (underCosts night us vs) ↔ Feasible night us vs
   under-costs =
-      let t = failsAt-iff _ _ _ _ in (
+      let t = failsAtBy-iff _ _ _ _ _ in (
         λ e. record {
           under = λ i j l m allowed.
               let row = none-iff (night .columnCount) (over night us vs i) .0 (t .0 e i l) j m in
-              let below = and-false _ (ltZ (night .cost i j) (priced us vs i j)) row allowed in
-              omega zarith;
+              let below = and-false _ (ltZ (slack night us vs i j) (pos 0)) row allowed in
+              omega (zarith, dif (night .cost i j) (priced us vs i j));
         },
-        λ f. t .1 (λ i l. none-iff (night .columnCount) (over night us vs i) .1 (λ j m. false-and _ _ (λ allowed. le-ltZ (night .cost i j) (priced us vs i j) (f .under i j l m allowed)))),
+        λ f. t .1 (λ i l. none-iff (night .columnCount) (over night us vs i) .1 (λ j m. false-and _ _ (λ allowed. let h = f .under i j l m allowed in le-ltZ (slack night us vs i j) (pos 0) (omega (zarith, dif (night .cost i j) (priced us vs i j)))))),
       )
 
   pub tight-on : (cols : List ℕ) → Passes (tightOn night cols us vs) ↔ Tight night us vs cols
   tight-on cols =
-      let t = failsAt-iff _ _ _ _ in
-      (λ e. record { met = λ i l. differ-false _ _ (t .0 e i l) }, λ h. t .1 (λ i l. differ-same _ _ (h .met i l)))
+      let t = failsAtBy-iff _ _ _ _ _ in
+      (λ e. record { met = λ i l. none _ _ (differ-false _ _ (t .0 e i l)) }, λ h. t .1 (λ i l. differ-same _ _ (no-slack _ _ (h .met i l))))

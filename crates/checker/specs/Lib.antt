@@ -1,4 +1,6 @@
 pub mod Tests
 pub mod Check
 pub mod Proven
+pub mod Scope
+pub mod Slacks
 pub mod Nights

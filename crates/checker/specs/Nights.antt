@@ -18,8 +18,11 @@ pub record Line : Type 0 where
 abbrev pub line : List ℕ → List ℕ → List ℤ → List ℤ → Answer → Line
 line cols rows us vs answer = record { cols = cols; rows = rows; rowPrices = us; columnPrices = vs; answer = answer }
 
+abbrev pub refusedBy : ℕ → ℕ → ℤ → Answer
+refusedBy number place slack = Refused (record { number = number; place = place; slack = slack })
+
 abbrev pub refused : ℕ → ℕ → Answer
-refused number place = Refused (record { number = number; place = place })
+refused number place = refusedBy number place (pos 0)
 
 -- N8: [3 1 0 / 0 0 2 / 4 1 0], its row prices and its column prices.
 abbrev pub costs : List ℤ
@@ -39,8 +42,8 @@ abbrev pub nights : List Line
 nights =
     -- "N9: N8's prices, columns 1 0 2: checker accepts, total 1."
     line (1 ∷ 0 ∷ 2 ∷ []) (1 ∷ 0 ∷ 2 ∷ []) us vs (Total (pos 1))
-    -- "N10: N8's prices, columns 0 1 2: refusal 10, row 0."
-    ∷ line (0 ∷ 1 ∷ 2 ∷ []) (0 ∷ 1 ∷ 2 ∷ []) us vs (refused PricesNotCost 0)
+    -- "N10: N8's prices, columns 0 1 2: refusal 10, row 0." The prices of its place, 1 and 0, are 2 below the cost.
+    ∷ line (0 ∷ 1 ∷ 2 ∷ []) (0 ∷ 1 ∷ 2 ∷ []) us vs (refusedBy PricesNotCost 0 (pos 2))
     -- N8's own columns, with entries past the side, which are not read.
     ∷ line (2 ∷ 0 ∷ 1 ∷ 9 ∷ []) (1 ∷ 2 ∷ 0 ∷ 9 ∷ []) us vs (Total (pos 1))
     -- A column price list that is short; a column that is not below 3 in row 1, though row 0 is not named back; a column listed twice.
@@ -49,5 +52,5 @@ nights =
     ∷ line (1 ∷ 1 ∷ 2 ∷ []) (1 ∷ 0 ∷ 2 ∷ []) us vs (refused RowNotNamed 1)
     -- A column price over 10K; a column price one too high, and so over the cost at place (0, 1).
     ∷ line (1 ∷ 0 ∷ 2 ∷ []) (1 ∷ 0 ∷ 2 ∷ []) us (pos 0 ∷ pos 0 ∷ pos 10000000001 ∷ []) (refused PriceOutside 5)
-    ∷ line (1 ∷ 0 ∷ 2 ∷ []) (1 ∷ 0 ∷ 2 ∷ []) us (negsuc 0 ∷ pos 1 ∷ negsuc 0 ∷ []) (refused PricesOverCost 1)
+    ∷ line (1 ∷ 0 ∷ 2 ∷ []) (1 ∷ 0 ∷ 2 ∷ []) us (negsuc 0 ∷ pos 1 ∷ negsuc 0 ∷ []) (refusedBy PricesOverCost 1 (negsuc 0))
     ∷ []

@@ -27,6 +27,13 @@ pub record Prices (n : ℕ) (prices : List ℤ) : Type 0 where
   pub enough : n ≤ length prices
   pub within : (i : ℕ) → i < n → Within (10 * K) (signedAt prices i)
 
+-- A square of costs within the limit, with the prices of its rows and of its columns.
+pub record Priced (n : ℕ) (costs : List ℤ) (us vs : List ℤ) : Type 0 where
+  pub small : n ≤ side
+  pub squared : length costs ≡ n * n
+  pub row-prices : Prices n us
+  pub column-prices : Prices n vs
+
 -- Sizes, ranges, names, and prices that are fair: feasible, and tight on the pairing.
 pub record Proven (n : ℕ) (costs : List ℤ) (cols rows : List ℕ) (us vs : List ℤ) : Type 0 where
   pub sizes : Sizes n costs cols rows

@@ -3,7 +3,7 @@ ghost use mathlib.Core.Path.{_≡_};
 ghost use mathlib.Core.Bool.{not};
 ghost use Prim.Native.Nat.{ℕ, _*_, _≤_, _<_};
 ghost use lib.Dec.{eqb};
-ghost use lib.IntN.{_+ℤ_};
+ghost use lib.IntN.{pos, _+ℤ_, _-ℤ_};
 ghost use lib.Signed.{ltZ};
 ghost use lib.ListN.{length};
 ghost use Rattle.ints.specs.Parts.{Within};
@@ -12,12 +12,12 @@ ghost use Rattle.lists.specs.Permutations.{at};
 ghost use Rattle.assignment.specs.Pairings.{signedAt};
 ghost use Rattle.matrix.specs.Answers.{valuesOf};
 ghost use Rattle.matrix.specs.Asked.{Listed, Shaped};
-ghost use Rattle.matrix.specs.Limits.{side, K};
+ghost use Rattle.matrix.specs.Limits.{K};
 ghost use Rattle.assignment.specs.Pairings.{square};
 ghost use Rattle.matrix.specs.Verdicts.{Passes, _then_};
-ghost use Rattle.checker.specs.Tests.{rowsNamed, overIn, underCosts, differ, loose, tightOn};
+ghost use Rattle.checker.specs.Tests.{rowsNamed, slack, overIn, underCosts, loose, tightOn};
 ghost use Rattle.checker.specs.Check.{priceTests, proofTests, checks, check};
-ghost use Rattle.checker.specs.Proven.{Prices};
+ghost use Rattle.checker.specs.Proven.{Prices, Priced};
 use matrix::Answer;
 use matrix::Verdict;
 use matrix::refusals;
@@ -55,30 +55,31 @@ fn rows_named(before: Verdict, n: usize, cols: &[u32], rows: &[u32]) -> Verdict
     tests::fails_if(i < n, refusals::ROW_NOT_NAMED, i)
 }
 
-// The test of one place for refusal 9: row price + column price over the cost.
-fn over_cost(cost: i32, u: i64, v: i64) -> bool
+// The test of one place: its slack, the cost minus both prices.
+fn slack(cost: i32, u: i64, v: i64) -> i64
     requires { ⌜ Within (10 * K) u × Within (10 * K) v ⌝ }
-    ensures { λ r. ⌜ r ≡ ltZ cost (u +ℤ v) ⌝ }
+    ensures { λ r. ⌜ r ≡ cost -ℤ (u +ℤ v) ⌝ }
 {
-    (cost as i64) < u + v
+    let both = u + v;
+    cost as i64 - both
 }
 
-// The test of one place for refusal 10: row price + column price is not the cost.
-fn not_cost(cost: i32, u: i64, v: i64) -> bool
-    requires { ⌜ Within (10 * K) u × Within (10 * K) v ⌝ }
-    ensures { λ r. ⌜ r ≡ differ (u +ℤ v) cost ⌝ }
+// The slack of place (i, j) of a square night.
+fn slack_at(n: usize, costs: &[i32], us: &[i64], vs: &[i64], i: usize, j: usize) -> i64
+    requires { ⌜ (i < n) × (j < n) × Priced n (now costs) (now us) (now vs) ⌝ }
+    ensures { λ r. ⌜ r ≡ slack (square n (now (costs .entry))) (now (us .entry)) (now (vs .entry)) i j ⌝ }
 {
-    u + v != cost as i64
+    slack(costs[i * n + j], us[i], vs[j])
 }
 
 // Refusal 9 in one row: the first column at which the prices are over the cost, or the row's length.
 fn first_column_over(row: &[i32], u: i64, vs: &[i64]) -> usize
     requires { ⌜ Within (10 * K) u × Prices (length (now row)) (now vs) ⌝ }
-    ensures { λ r. ⌜ r ≡ first (length (now (row .entry))) (λ j. ltZ (signedAt (now (row .entry)) j) (u +ℤ signedAt (now (vs .entry)) j)) ⌝ }
+    ensures { λ r. ⌜ r ≡ first (length (now (row .entry))) (λ j. ltZ (signedAt (now (row .entry)) j -ℤ (u +ℤ signedAt (now (vs .entry)) j)) (pos 0)) ⌝ }
 {
     let mut j = 0;
     while j < row.len() {
-        if over_cost(row[j], u, vs[j]) {
+        if slack(row[j], u, vs[j]) < 0 {
             return j;
         }
         j += 1;
@@ -104,7 +105,7 @@ fn first_row_over(n: usize, costs: &[i32], us: &[i64], vs: &[i64]) -> usize
 
 // Test 9.
 fn under_costs(before: Verdict, n: usize, costs: &[i32], us: &[i64], vs: &[i64]) -> Verdict
-    requires { ⌜ (Passes before → (n ≤ side) × (length (now costs) ≡ n * n) × Prices n (now us) × Prices n (now vs)) ⌝ }
+    requires { ⌜ (Passes before → Priced n (now costs) (now us) (now vs)) ⌝ }
     ensures { λ r. ⌜ r ≡ (before then underCosts (square n (now (costs .entry))) (now (us .entry)) (now (vs .entry))) ⌝ }
 {
     match before {
@@ -119,7 +120,16 @@ fn under_costs(before: Verdict, n: usize, costs: &[i32], us: &[i64], vs: &[i64])
     }
     let row = row(costs, n, i);
     let j = first_column_over(row, us[i], vs);
-    tests::fails_if(true, refusals::PRICES_OVER_COST, i * n + j)
+    let slack = slack_at(n, costs, us, vs, i, j);
+    tests::fails_by(true, refusals::PRICES_OVER_COST, i * n + j, slack)
+}
+
+// The slack of the paired place of row i.
+fn paired_slack(n: usize, costs: &[i32], cols: &[u32], us: &[i64], vs: &[i64], i: usize) -> i64
+    requires { ⌜ (i < n) × Listed n (now costs) n (now cols) × Prices n (now us) × Prices n (now vs) ⌝ }
+    ensures { λ r. ⌜ r ≡ slack (square n (now (costs .entry))) (now (us .entry)) (now (vs .entry)) i (at (now (cols .entry)) i) ⌝ }
+{
+    slack_at(n, costs, us, vs, i, cols[i] as usize)
 }
 
 // Refusal 10: the first row whose paired place has prices that are not the cost, or n.
@@ -127,15 +137,11 @@ fn first_row_loose(n: usize, costs: &[i32], cols: &[u32], us: &[i64], vs: &[i64]
     requires { ⌜ Listed n (now costs) n (now cols) × Prices n (now us) × Prices n (now vs) ⌝ }
     ensures { λ r. ⌜ r ≡ first n (loose (square n (now (costs .entry))) (now (cols .entry)) (now (us .entry)) (now (vs .entry))) ⌝ }
 {
-    let mut start = 0;
     let mut i = 0;
     while i < n {
-        let j = cols[i] as usize;
-        let at = start + j;
-        if not_cost(costs[at], us[i], vs[j]) {
+        if paired_slack(n, costs, cols, us, vs, i) != 0 {
             return i;
         }
-        start += n;
         i += 1;
     }
     i
@@ -160,7 +166,11 @@ fn tight_on(
         Verdict::Passed => {}
     }
     let i = first_row_loose(n, costs, cols, us, vs);
-    tests::fails_if(i < n, refusals::PRICES_NOT_COST, i)
+    if n <= i {
+        return Verdict::Passed;
+    }
+    let slack = paired_slack(n, costs, cols, us, vs, i);
+    tests::fails_by(true, refusals::PRICES_NOT_COST, i, slack)
 }
 
 // Tests 8, 9, 10: no two prices are added before every price has been tested.

@@ -3,12 +3,17 @@ use Prim.Native.Nat.{_+_, _*_}
 use Rattle.matrix.specs.Answers.{Values}
 use Rattle.lapjv.specs.Solve.{Lent}
 use Rattle.lapjv.specs.Values.{SolvedValues, Told}
+use Rattle.face.specs.declared.Checked.{Checked}
 use Rattle.face.specs.declared.Solution.{Solution}
 use Rattle.face.specs.declared.Totalled.{Totalled}
 
 -- A total, or a refusal.
 abbrev pub totalled : Values → Totalled
 totalled v = record { refusal = v .number + 256 * v .place; total = v .total }
+
+-- A total, or a refusal with its slack.
+abbrev pub checked : Values → Checked
+checked v = record { refusal = v .number + 256 * v .place; total = v .total; slack = v .slack }
 
 -- A total with the six counts, or a refusal.
 abbrev pub solution : SolvedValues → Solution

@@ -8,15 +8,23 @@ ghost use Rattle.lapjv.specs.Solve.{lentOf, solve};
 ghost use Rattle.lapjv.specs.Values.{solvedValues, toldOf};
 ghost use Rattle.lapjv.specs.Asked.{TellableSolved};
 ghost use Rattle.sheet.specs.Settle.{Delivery, pair};
-ghost use Rattle.face.specs.Face.{totalled, solution, Handed, handed};
+ghost use Rattle.face.specs.Face.{totalled, checked, solution, Handed, handed};
 use lapjv::Solved;
 use matrix::Answer;
 
-// A total, or a refusal and 0. The refusal is 0 or number + 256*place.
+// What `cost` answers: a total, or a refusal and 0. The refusal is 0 or number + 256*place.
 #[repr(C)]
 pub struct Totalled {
     pub refusal: u64,
     pub total: i64,
+}
+
+// What the checker answers: a total, or a refusal and the slack that it carries.
+#[repr(C)]
+pub struct Checked {
+    pub refusal: u64,
+    pub total: i64,
+    pub slack: i64,
 }
 
 // A total and the six counts, or a refusal and zeros.
@@ -32,7 +40,7 @@ pub struct Solution {
     pub columns_scanned: u64,
 }
 
-// What a C caller gets of an answer.
+// What a C caller gets of the answer of `cost`.
 fn told(answer: Answer) -> Totalled
     requires { ⌜ TellableIn answer ⌝ }
     ensures { λ r. ⌜ r ≡ totalled (valuesOf answer) ⌝ }
@@ -54,6 +62,25 @@ pub extern "C" fn bristlefrost_cost(n: usize, costs: &[i32], listed: &[u32]) -> 
     told(matrix::cost(n, costs, listed))
 }
 
+// What a C caller gets of the checker's answer.
+fn told_checked(answer: Answer) -> Checked
+    requires { ⌜ TellableIn answer ⌝ }
+    ensures { λ r. ⌜ r ≡ checked (valuesOf answer) ⌝ }
+{
+    match answer {
+        Answer::Total(total) => Checked {
+            refusal: 0,
+            total,
+            slack: 0,
+        },
+        Answer::Refused(refusal) => Checked {
+            refusal: matrix::refusals::code(refusal),
+            total: 0,
+            slack: matrix::refusals::slack(refusal),
+        },
+    }
+}
+
 // The checker.
 #[no_mangle]
 pub extern "C" fn bristlefrost_check(
@@ -63,10 +90,10 @@ pub extern "C" fn bristlefrost_check(
     rows: &[u32],
     row_prices: &[i64],
     col_prices: &[i64],
-) -> Totalled
-    ensures { λ r. ⌜ r ≡ totalled (valuesOf (check n (now (costs .entry)) (now (cols .entry)) (now (rows .entry)) (now («row_prices» .entry)) (now («col_prices» .entry)))) ⌝ }
+) -> Checked
+    ensures { λ r. ⌜ r ≡ checked (valuesOf (check n (now (costs .entry)) (now (cols .entry)) (now (rows .entry)) (now («row_prices» .entry)) (now («col_prices» .entry)))) ⌝ }
 {
-    told(checker::check(n, costs, cols, rows, row_prices, col_prices))
+    told_checked(checker::check(n, costs, cols, rows, row_prices, col_prices))
 }
 
 // What a C caller gets of the solver's answer.

@@ -5,6 +5,7 @@ use mathlib.Core.Bool.{true≢false}
 use mathlib.Core.List.{List}
 use Prim.Native.Nat.{ℕ}
 use lib.IntN.{ℤ}
+use Rattle.matrix.proofs.Determined.{refusal-determined}
 use Rattle.rules.specs.declared.Counts.{Counts}
 use Rattle.lapjv.specs.declared.Solved.{Solved}
 use Rattle.lapjv.specs.declared.Solved.the-variants.{Paired, Refused}
@@ -17,7 +18,7 @@ solved-values-determine (Paired s) (Paired t) e =
 solved-values-determine (Paired s) (Refused r) e = absurd (true≢false (ap (λ (v : SolvedValues). v .accepted) e))
 solved-values-determine (Refused q) (Paired t) e = absurd (true≢false (sym (ap (λ (v : SolvedValues). v .accepted) e)))
 solved-values-determine (Refused q) (Refused r) e =
-    ap₂ (λ (n p : ℕ). Refused (record { number = n; place = p })) (ap (λ (v : SolvedValues). v .number) e) (ap (λ (v : SolvedValues). v .place) e)
+    ap Refused (refusal-determined q r (ap (λ (v : SolvedValues). v .number) e) (ap (λ (v : SolvedValues). v .place) e) (ap (λ (v : SolvedValues). v .slack) e))
 
 pub told-determines : (outcome other : Outcome) → toldOf outcome ≡ toldOf other → outcome ≡ other
 told-determines outcome other e =

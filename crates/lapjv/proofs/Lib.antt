@@ -5,5 +5,6 @@ pub mod Reducing
 pub mod Pairing
 pub mod Solving
 pub mod Codes
+pub mod Bare
 pub mod Determined
 pub mod Surcharge

@@ -10,7 +10,7 @@ use Rattle.layout.specs.Values.{bytesOf, valueOf}
 use Rattle.layout.specs.Fields.{fields}
 use Rattle.layout.specs.Sheets.{sheetOf}
 use Rattle.matrix.specs.Limits.{K}
-use Rattle.matrix.specs.Verdicts.{_then_, failsIf, failsAt}
+use Rattle.matrix.specs.Verdicts.{_then_, failsBy, failsAtBy}
 use Rattle.rules.specs.Lowest.{twoLowest, lowest, leastBut}
 use Rattle.rules.specs.Block.{block}
 use Rattle.rules.specs.Columns.{free, claims, transfers, columnReduction}
@@ -45,7 +45,7 @@ n8 : output (sheetOf [] 3 (map pos (3 ∷ 1 ∷ 0 ∷ 0 ∷ 0 ∷ 2 ∷ 4 ∷ 1 
     ∷ 49 ∷ 32 ∷ 48 ∷ 32 ∷ 48 ∷ 10
     ∷ 50 ∷ 32 ∷ 49 ∷ 32 ∷ 49 ∷ 10
     ∷ []
-unfolding digits turns upward downward until first table sum flatMap bytesOf valueOf fields _then_ failsIf failsAt K sheetSide sheetMost sheetTests read acceptedLine rowLine rowLines refusedLine output twoLowest lowest leastBut block free claims transfers columnReduction looks rowReduction scan lastFree searchBlocks search newPrices flips augments augmentation stages run
+unfolding digits turns upward downward until first table sum flatMap bytesOf valueOf fields _then_ failsBy failsAtBy K sheetSide sheetMost sheetTests read acceptedLine rowLine rowLines refusedLine output twoLowest lowest leastBut block free claims transfers columnReduction looks rowReduction scan lastFree searchBlocks search newPrices flips augments augmentation stages run
 n8 = refl
 
 -- A pair that must not be made: `accepted 1 total 1000000000`, `0 0 1000000000 barred`.
@@ -53,10 +53,10 @@ barred : output (sheetOf [] 1 (pos 1000000000 ∷ []))
     ≡ 97 ∷ 99 ∷ 99 ∷ 101 ∷ 112 ∷ 116 ∷ 101 ∷ 100 ∷ 32 ∷ 49 ∷ 32 ∷ 116 ∷ 111 ∷ 116 ∷ 97 ∷ 108 ∷ 32 ∷ 49 ∷ 48 ∷ 48 ∷ 48 ∷ 48 ∷ 48 ∷ 48 ∷ 48 ∷ 48 ∷ 48 ∷ 10
     ∷ 48 ∷ 32 ∷ 48 ∷ 32 ∷ 49 ∷ 48 ∷ 48 ∷ 48 ∷ 48 ∷ 48 ∷ 48 ∷ 48 ∷ 48 ∷ 48 ∷ 32 ∷ 98 ∷ 97 ∷ 114 ∷ 114 ∷ 101 ∷ 100 ∷ 10
     ∷ []
-unfolding digits turns upward downward until first table sum flatMap bytesOf valueOf fields _then_ failsIf failsAt K sheetSide sheetMost sheetTests read acceptedLine rowLine rowLines refusedLine output twoLowest lowest leastBut block free claims transfers columnReduction looks rowReduction scan lastFree searchBlocks search newPrices flips augments augmentation stages run
+unfolding digits turns upward downward until first table sum flatMap bytesOf valueOf fields _then_ failsBy failsAtBy K sheetSide sheetMost sheetTests read acceptedLine rowLine rowLines refusedLine output twoLowest lowest leastBut block free claims transfers columnReduction looks rowReduction scan lastFree searchBlocks search newPrices flips augments augmentation stages run
 barred = refl
 
 -- No bytes at all: `refused 11 place 0`.
 empty : output [] ≡ 114 ∷ 101 ∷ 102 ∷ 117 ∷ 115 ∷ 101 ∷ 100 ∷ 32 ∷ 49 ∷ 49 ∷ 32 ∷ 112 ∷ 108 ∷ 97 ∷ 99 ∷ 101 ∷ 32 ∷ 48 ∷ 10 ∷ []
-unfolding digits _then_ failsIf failsAt sheetMost sheetTests read refusedLine output
+unfolding digits _then_ failsBy failsAtBy sheetMost sheetTests read refusedLine output
 empty = refl

@@ -1,6 +1,7 @@
 pub mod SmallLimits
 pub mod First
 pub mod Verdicts
+pub mod Bare
 pub mod Places
 pub mod Bounds
 pub mod Codes

@@ -1,5 +1,6 @@
--- The scope's refusals: number and place of each.
+-- The scope's refusals: number and place of each, and the slack that it carries.
 use Prim.Native.Nat.{ℕ, _+_, _*_}
+use lib.IntN.{ℤ}
 use Rattle.matrix.specs.declared.Refusal.{Refusal}
 
 -- The scope's numbers, each by a name and under the words of its "When".
@@ -79,6 +80,10 @@ numberOf refusal = refusal .number
 -- The scope's "Place": "0 where none is named".
 abbrev pub placeOf : Refusal → ℕ
 placeOf refusal = refusal .place
+
+-- "Refusals 9 and 10 carry that signed number, all other refusals carry 0": the slack of the place named.
+abbrev pub slackOf : Refusal → ℤ
+slackOf refusal = refusal .slack
 
 -- "It gets 0, or number + 256*place": a refusal as one number.
 abbrev pub codeOf : Refusal → ℕ

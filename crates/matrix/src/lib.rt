@@ -13,10 +13,11 @@ pub mod refusals;
 pub mod rows;
 pub mod tests;
 
-// A refusal: the scope's number, and its place, 0 where it names none.
+// A refusal: the scope's number; its place, 0 where it names none; and the slack of that place, 0 where none was tested.
 pub struct Refusal {
     pub number: u64,
     pub place: usize,
+    pub slack: i64,
 }
 
 // What a test says of an input.

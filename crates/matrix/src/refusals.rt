@@ -1,6 +1,6 @@
 // The refusals' numbers, and a refusal as one number.
 ghost use mathlib.Core.Path.{_≡_};
-ghost use Rattle.matrix.specs.Refusals.{numberOf, placeOf, codeOf};
+ghost use Rattle.matrix.specs.Refusals.{numberOf, placeOf, slackOf, codeOf};
 ghost use Rattle.matrix.specs.Asked.{Tellable};
 use crate::Refusal;
 
@@ -51,6 +51,13 @@ pub fn place(refusal: Refusal) -> usize
     ensures { λ r. ⌜ r ≡ placeOf refusal ⌝ }
 {
     refusal.place
+}
+
+// The slack that a refusal carries.
+pub fn slack(refusal: Refusal) -> i64
+    ensures { λ r. ⌜ r ≡ slackOf refusal ⌝ }
+{
+    refusal.slack
 }
 
 // A refusal as one number. Places are far below 2^48.

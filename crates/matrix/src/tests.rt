@@ -10,7 +10,7 @@ ghost use Rattle.lists.specs.Runs.{first};
 ghost use Rattle.lists.specs.Permutations.{at};
 ghost use Rattle.assignment.specs.Pairings.{signedAt};
 ghost use Rattle.matrix.specs.Limits.{side, K};
-ghost use Rattle.matrix.specs.Verdicts.{Passes, _then_, failsIf};
+ghost use Rattle.matrix.specs.Verdicts.{Passes, _then_, failsBy, failsIf};
 ghost use Rattle.matrix.specs.Tests.{short, outside, sideWithin, costsFill, listsLong, shaped, listShort, roomsLong, costsWithin, columnsInside, pricesWithin};
 use crate::Refusal;
 use crate::Verdict;
@@ -27,14 +27,25 @@ fn outside(x: i64, limit: i64) -> bool
     x < -limit || limit < x
 }
 
-// Refused where the test holds.
+// Refused where the test holds, with a slack.
+pub fn fails_by(test: bool, number: u64, place: usize, slack: i64) -> Verdict
+    ensures { λ r. ⌜ r ≡ failsBy number place slack test ⌝ }
+{
+    if test {
+        return Verdict::Fails(Refusal {
+            number,
+            place,
+            slack,
+        });
+    }
+    Verdict::Passed
+}
+
+// Refused where the test holds, with slack 0.
 pub fn fails_if(test: bool, number: u64, place: usize) -> Verdict
     ensures { λ r. ⌜ r ≡ failsIf number place test ⌝ }
 {
-    if test {
-        return Verdict::Fails(Refusal { number, place });
-    }
-    Verdict::Passed
+    fails_by(test, number, place, 0)
 }
 
 // Test 1.

@@ -91,6 +91,14 @@ pub fn checked(answer: Answer) {
     }
 }
 
+// A slack, where there is one.
+fn slack(z: i64) {
+    if z != 0 {
+        io::write_all(1, b" slack");
+        signed(z);
+    }
+}
+
 // The answer of a night of the checker, or of `cost`.
 pub fn answer(answer: Answer) {
     match answer {
@@ -103,6 +111,7 @@ pub fn answer(answer: Answer) {
             number(matrix::refusals::number(refusal));
             io::write_all(1, b" place");
             number(matrix::refusals::place(refusal) as u64);
+            slack(matrix::refusals::slack(refusal));
         }
     }
 }

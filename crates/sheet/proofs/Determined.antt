@@ -3,6 +3,7 @@ use mathlib.Core.Path.{_≡_, sym, ap, ap₂, _∙_}
 use mathlib.Core.Bool.{true≢false}
 use mathlib.Core.List.{List}
 use Prim.Native.Nat.{ℕ}
+use Rattle.matrix.proofs.Determined.{refusal-determined}
 use Rattle.sheet.specs.declared.State.{State}
 use Rattle.sheet.specs.declared.Reply.{Reply}
 use Rattle.sheet.specs.declared.Reply.the-variants.{Accepted, Refused}
@@ -18,7 +19,7 @@ reply-values-determine (Accepted m s) (Accepted n t) e = ap₂ Accepted (ap (λ 
 reply-values-determine (Accepted m s) (Refused r) e = absurd (true≢false (ap (λ (v : ReplyValues). v .accepted) e))
 reply-values-determine (Refused q) (Accepted n t) e = absurd (true≢false (sym (ap (λ (v : ReplyValues). v .accepted) e)))
 reply-values-determine (Refused q) (Refused r) e =
-    ap₂ (λ (n p : ℕ). Refused (record { number = n; place = p })) (ap (λ (v : ReplyValues). v .number) e) (ap (λ (v : ReplyValues). v .place) e)
+    ap Refused (refusal-determined q r (ap (λ (v : ReplyValues). v .number) e) (ap (λ (v : ReplyValues). v .place) e) (ap (λ (v : ReplyValues). v .slack) e))
 
 pub settled-values-determine : (a b : Settled) → settledValues a ≡ settledValues b → a ≡ b
 settled-values-determine a b e =

@@ -1,5 +1,6 @@
 pub mod Limits
 pub mod Passing
+pub mod Bare
 pub mod Sheets
 pub mod Solver
 pub mod Pairing

@@ -33,7 +33,8 @@
  *   16  slip room under 18n+20                                      0
  *   17  sheet over 65,536 bytes                                     0
  * Lists are numbered 1 columns by row, 2 rows by column, 3 row prices, 4 column prices. A refusal has total 0
- * and counts 0 and changes nothing that was lent. */
+ * and counts 0 and changes nothing that was lent. With 9 and 10 comes the slack of the place named, its cost minus
+ * both its prices: below 0 with a 9, above 0 with a 10. All others have slack 0. */
 
 #ifndef BRISTLEFROST_H
 #define BRISTLEFROST_H
@@ -78,7 +79,14 @@ typedef struct {
     uint64_t columns_scanned; /* columns whose row was used in a scan */
 } bristlefrost_solved;
 
-/* The answer of check and cost. */
+/* The checker's answer. */
+typedef struct {
+    uint64_t refusal;
+    int64_t total;
+    int64_t slack; /* of refusals 9 and 10 */
+} bristlefrost_checked;
+
+/* The answer of cost. */
 typedef struct {
     uint64_t refusal;
     int64_t total;
@@ -99,7 +107,7 @@ bristlefrost_solved bristlefrost_solve(
 
 /* Accepts a pairing with its prices, and answers its total; accepted means that no pairing has a lower one. Each
  * list has at least n entries and the first n are read. Refusals 1 2 3 5 6 7 8 9 10. */
-bristlefrost_total bristlefrost_check(
+bristlefrost_checked bristlefrost_check(
     size_t n,
     const int32_t *costs, size_t costs_len,
     const uint32_t *cols, size_t cols_len,

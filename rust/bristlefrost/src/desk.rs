@@ -59,7 +59,9 @@ impl std::error::Error for Doubt {}
 /// let shared = Slip { columns: vec![0, 0], ..slip.clone() };
 /// assert_eq!(audit(&night, &shared), Err(Doubt::Refused(Refusal::RowNotNamed { row: 1 })));
 /// let crossed = Slip { columns: vec![1, 0], ..slip };
-/// assert_eq!(audit(&night, &crossed), Err(Doubt::Refused(Refusal::PricesNotCost { row: 0 })));
+/// let doubt = audit(&night, &crossed).unwrap_err();
+/// assert_eq!(doubt, Doubt::Refused(Refusal::PricesNotCost { row: 0, slack: 8 }));
+/// assert!(doubt.to_string().ends_with("; row 0: 8 below its cost"));
 /// # Ok::<(), Box<dyn std::error::Error>>(())
 /// ```
 pub fn audit(night: &Sheet, slip: &Slip) -> Result<(), Doubt> {

@@ -22,6 +22,13 @@ pub struct Total {
     pub total: i64,
 }
 
+#[repr(C)]
+pub struct Checked {
+    pub refusal: u64,
+    pub total: i64,
+    pub slack: i64,
+}
+
 extern "C" {
     fn bristlefrost_solve(
         n: usize,
@@ -53,7 +60,7 @@ extern "C" {
         row_prices_len: usize,
         col_prices: *const i64,
         col_prices_len: usize,
-    ) -> Total;
+    ) -> Checked;
 
     fn bristlefrost_cost(
         n: usize,
@@ -96,7 +103,7 @@ pub fn check(
     rows: &[u32],
     row_prices: &[i64],
     column_prices: &[i64],
-) -> Total {
+) -> Checked {
     // Safety: every pointer and length come from one slice, and nothing is written.
     unsafe {
         bristlefrost_check(

@@ -21,9 +21,9 @@
 //! let (u, v) = (&night.row_prices, &night.column_prices);
 //! assert_eq!(bristlefrost::check(3, &costs, &[1, 0, 2], &[1, 0, 2], u, v), Ok(1));
 //!
-//! // One that costs more is refused.
+//! // One that costs more is refused: the prices of row 0 are 2 below the cost of its pair.
 //! let refused = bristlefrost::check(3, &costs, &[0, 1, 2], &[0, 1, 2], u, v);
-//! assert_eq!(refused, Err(bristlefrost::Refusal::PricesNotCost { row: 0 }));
+//! assert_eq!(refused, Err(bristlefrost::Refusal::PricesNotCost { row: 0, slack: 2 }));
 //! # Ok::<(), bristlefrost::Refusal>(())
 //! ```
 //!
@@ -159,7 +159,7 @@ pub fn solve(side: usize, costs: &[i32]) -> Result<Night, Refusal> {
 /// ```
 pub fn solve_into(side: usize, costs: &[i32], lent: Lent<'_>) -> Result<Paired, Refusal> {
     let solved = face::solve(side, costs, lent);
-    Refusal::read(solved.refusal)?;
+    Refusal::read(solved.refusal, 0)?;
     Ok(Paired {
         total: solved.total,
         free_rows: solved.free_rows,
@@ -180,7 +180,11 @@ pub fn solve_into(side: usize, costs: &[i32], lent: Lent<'_>) -> Result<Paired, 
 /// let costs = [1, 5, 6, 2];
 /// assert_eq!(check(2, &costs, &[0, 1], &[0, 1], &[1, 2], &[0, 0]), Ok(3));
 /// assert_eq!(check(2, &costs, &[0, 1], &[1, 0], &[1, 2], &[0, 0]), Err(Refusal::RowNotNamed { row: 0 }));
-/// assert_eq!(check(2, &costs, &[0, 1], &[0, 1], &[1, 7], &[0, 0]), Err(Refusal::PricesOverCost { place: 2 }));
+///
+/// let refused = check(2, &costs, &[0, 1], &[0, 1], &[1, 7], &[0, 0]);
+/// assert_eq!(refused, Err(Refusal::PricesOverCost { place: 2, slack: -1 }));
+/// let said = "refused 9 place 2: row price + column price is over the cost; place 2: 1 over its cost";
+/// assert_eq!(refused.unwrap_err().to_string(), said);
 /// ```
 pub fn check(
     side: usize,
@@ -191,7 +195,7 @@ pub fn check(
     column_prices: &[i64],
 ) -> Result<i64, Refusal> {
     let answer = face::check(side, costs, columns, rows, row_prices, column_prices);
-    Refusal::read(answer.refusal)?;
+    Refusal::read(answer.refusal, answer.slack)?;
     Ok(answer.total)
 }
 
@@ -208,7 +212,7 @@ pub fn check(
 /// ```
 pub fn cost(side: usize, costs: &[i32], listed: &[u32]) -> Result<i64, Refusal> {
     let answer = face::cost(side, costs, listed);
-    Refusal::read(answer.refusal)?;
+    Refusal::read(answer.refusal, 0)?;
     Ok(answer.total)
 }
 
@@ -251,5 +255,5 @@ pub fn sheet(sheet: &[u8]) -> Result<Vec<u8>, Refusal> {
 /// assert_eq!(slip[34..], [0x53, 0x4C, 0x49, 0x50, 9, 9]);
 /// ```
 pub fn sheet_into(sheet: &[u8], slip: &mut [u8]) -> Result<(), Refusal> {
-    Refusal::read(face::sheet(sheet, slip))
+    Refusal::read(face::sheet(sheet, slip), 0)
 }

@@ -1,4 +1,4 @@
-//! The refusals by name, with their numbers and places. Each has the same name in the proved crates and in the C header.
+//! The refusals by name, with their numbers, places and slacks. Each has the same name in the proved crates and in the C header.
 
 use std::fmt;
 
@@ -60,11 +60,15 @@ pub enum Refusal {
     PricesOverCost {
         /// The first such cost.
         place: u64,
+        /// That cost minus both prices: below 0.
+        slack: i64,
     },
     /// 10: on a pair that sum is not the cost.
     PricesNotCost {
         /// The first such row.
         row: u64,
+        /// The cost of its pair minus both prices: above 0.
+        slack: i64,
     },
     /// 11: the sheet has under 12 bytes, or a wrong mark.
     NoMark,
@@ -90,8 +94,8 @@ pub enum Refusal {
 }
 
 impl Refusal {
-    /// Reads the archive's answer, 0 or number + 256*place.
-    pub(crate) fn read(code: u64) -> Result<(), Refusal> {
+    /// Reads the archive's answer, 0 or number + 256*place, and the slack that the checker answers with it.
+    pub(crate) fn read(code: u64, slack: i64) -> Result<(), Refusal> {
         let (number, place) = ((code % 256) as u8, code / 256);
         let refusal = match (number, place) {
             (0, 0) => return Ok(()),
@@ -107,8 +111,8 @@ impl Refusal {
             (6, _) => Refusal::ColumnOutside { row: place },
             (7, _) => Refusal::RowNotNamed { row: place },
             (8, _) => Refusal::PriceOutside { place },
-            (9, _) => Refusal::PricesOverCost { place },
-            (10, _) => Refusal::PricesNotCost { row: place },
+            (9, _) => Refusal::PricesOverCost { place, slack },
+            (10, _) => Refusal::PricesNotCost { row: place, slack },
             (11, 0) => Refusal::NoMark,
             (12, 0) => Refusal::EditionUnknown,
             (13, 0) => Refusal::SheetSideOver,
@@ -152,9 +156,19 @@ impl Refusal {
             Refusal::RoomShort(room) => room as u64 + 1,
             Refusal::CostOutside { place }
             | Refusal::PriceOutside { place }
-            | Refusal::PricesOverCost { place }
+            | Refusal::PricesOverCost { place, .. }
             | Refusal::Other { place, .. } => place,
-            Refusal::ColumnOutside { row } | Refusal::RowNotNamed { row } | Refusal::PricesNotCost { row } => row,
+            Refusal::ColumnOutside { row } | Refusal::RowNotNamed { row } | Refusal::PricesNotCost { row, .. } => {
+                row
+            }
+            _ => 0,
+        }
+    }
+
+    /// The cost of the place named minus both its prices: below 0 with a 9, above 0 with a 10, and 0 with all others.
+    pub fn slack(&self) -> i64 {
+        match *self {
+            Refusal::PricesOverCost { slack, .. } | Refusal::PricesNotCost { slack, .. } => slack,
             _ => 0,
         }
     }
@@ -182,7 +196,12 @@ impl fmt::Display for Refusal {
             Refusal::SheetOver => "the sheet is over 65,536 bytes",
             Refusal::Other { .. } => "a number without a meaning",
         };
-        write!(out, "refused {} place {}: {meaning}", self.number(), self.place())
+        write!(out, "refused {} place {}: {meaning}", self.number(), self.place())?;
+        match *self {
+            Refusal::PricesOverCost { place, slack } => write!(out, "; place {place}: {} over its cost", -slack),
+            Refusal::PricesNotCost { row, slack } => write!(out, "; row {row}: {slack} below its cost"),
+            _ => Ok(()),
+        }
     }
 }
 

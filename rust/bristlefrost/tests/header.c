@@ -16,12 +16,12 @@ int main(void) {
     if (night.free_rows != 1 || night.looks_one != 1 || night.left_one != 1) return 6;
     if (night.looks_two != 1 || night.rows_left != 1 || night.columns_scanned != 1) return 7;
 
-    bristlefrost_total checked =
+    bristlefrost_checked checked =
         bristlefrost_check(3, costs, 9, cols, 3, rows, 3, row_prices, 3, col_prices, 3);
-    if (checked.refusal != 0 || checked.total != 1) return 8;
+    if (checked.refusal != 0 || checked.total != 1 || checked.slack != 0) return 8;
     const uint32_t other[3] = {0, 1, 2};
     checked = bristlefrost_check(3, costs, 9, other, 3, other, 3, row_prices, 3, col_prices, 3);
-    if (checked.refusal != BRISTLEFROST_PRICES_NOT_COST || checked.total != 0) return 9;
+    if (checked.refusal != BRISTLEFROST_PRICES_NOT_COST || checked.total != 0 || checked.slack != 2) return 9;
 
     bristlefrost_total summed = bristlefrost_cost(3, costs, 9, other, 2);
     if (summed.refusal != 0 || summed.total != 3) return 10;

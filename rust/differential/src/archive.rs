@@ -181,10 +181,14 @@ pub fn solve(
 /// Lends the checker these lists and compares its answer.
 pub fn check(n: usize, costs: &[i32], lists: &Lists) -> Result<u64, String> {
     let (columns, rows, u, v) = (&lists.columns, &lists.rows, &lists.row_prices, &lists.column_prices);
-    let right = told(refusals::checker(n, costs, columns, rows, u, v));
+    let answer = refusals::checker(n, costs, columns, rows, u, v);
+    let (slack, right) = (refusals::slack(&answer, n, costs, columns, u, v), told(answer));
     let found = face::check(n, costs, columns, rows, u, v);
     expect("check", &(found.refusal, found.total), &right)?;
-    expect("the wrapper's check", &wrapped(bristlefrost::check(n, costs, columns, rows, u, v)), &right)?;
+    expect("the slack", &found.slack, &slack)?;
+    let again = bristlefrost::check(n, costs, columns, rows, u, v);
+    expect("the wrapper's slack", &again.err().map_or(0, |refusal| refusal.slack()), &slack)?;
+    expect("the wrapper's check", &wrapped(again), &right)?;
     Ok(right.0)
 }
 

@@ -75,6 +75,23 @@ pub fn checker(
     Ok((0..n).map(|i| i64::from(costs[i * n + paired(i)])).sum())
 }
 
+/// The slack that the checker's answer carries: with 9 and 10 the cost of the place named minus both its prices, else 0.
+pub fn slack(
+    answer: &Result<i64, Refused>,
+    n: usize,
+    costs: &[i32],
+    columns: &[u32],
+    row_prices: &[i64],
+    column_prices: &[i64],
+) -> i64 {
+    let (i, j) = match *answer {
+        Err((9, place)) => (place as usize / n, place as usize % n),
+        Err((10, row)) => (row as usize, columns[row as usize] as usize),
+        _ => return 0,
+    };
+    i64::from(costs[i * n + j]) - row_prices[i] - column_prices[j]
+}
+
 /// `cost`: 1, 2, 3, 5, 6. Accepts with the total over the listed rows.
 pub fn cost(n: usize, costs: &[i32], listed: &[u32]) -> Result<i64, Refused> {
     side_and_costs(n, costs)?;

@@ -19,6 +19,13 @@ pub struct Total {
     total: i64,
 }
 
+#[repr(C)]
+pub struct Checked {
+    refusal: u64,
+    total: i64,
+    slack: i64,
+}
+
 /// The night that was paired last, and its answer.
 static LAST: Mutex<Option<(Vec<i32>, rules::Answer)>> = Mutex::new(None);
 
@@ -133,24 +140,32 @@ pub unsafe extern "C" fn bristlefrost_check(
     row_prices_len: usize,
     col_prices: *const i64,
     col_prices_len: usize,
-) -> Total {
+) -> Checked {
     let costs = from_raw_parts(costs, costs_len);
     let (cols, rows) = (from_raw_parts(cols, cols_len), from_raw_parts(rows, rows_len));
     let row_prices = from_raw_parts(row_prices, row_prices_len);
     let col_prices = from_raw_parts(col_prices, col_prices_len);
-    let result = refusals::checker(n, costs, cols, rows, row_prices, col_prices);
+    let mut result = refusals::checker(n, costs, cols, rows, row_prices, col_prices);
     if cfg!(feature = "refusals-out-of-order") && matches!(result, Err((9, _))) {
         // A 10 on an earlier row hides the 9.
         let tight =
             |i: usize| row_prices[i] + col_prices[cols[i] as usize] == i64::from(costs[i * n + cols[i] as usize]);
         if let Some(row) = (0..n).find(|&i| !tight(i)) {
-            return answer(Err((10, row as u64)));
+            result = Err((10, row as u64));
         }
     }
     if cfg!(feature = "accepts-all") && matches!(result, Err((9 | 10, _))) {
-        return answer(refusals::cost(n, costs, &cols[..n]));
+        result = refusals::cost(n, costs, &cols[..n]);
     }
-    answer(result)
+    let mut slack = refusals::slack(&result, n, costs, cols, row_prices, col_prices);
+    if cfg!(feature = "slack-reversed") {
+        slack = -slack;
+    }
+    if cfg!(feature = "slack-with-eight") && matches!(result, Err((8, _))) {
+        slack = 1;
+    }
+    let Total { refusal, total } = answer(result);
+    Checked { refusal, total, slack }
 }
 
 /// # Safety

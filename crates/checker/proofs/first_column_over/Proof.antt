@@ -3,7 +3,7 @@ use mathlib.Core.Path.{_≡_, sym, ap, ap₂, _∙_}
 use Prim.Native.Nat.{_≤_, _-_}
 use native.Mathlib.Omega.{arith}
 use borrow.Author.Needs.{needs}
-use lib.IntN.{ℤ, _+ℤ_}
+use lib.IntN.{ℤ, pos, _+ℤ_, _-ℤ_}
 use lib.ListN.{length}
 use lib.Signed.{ltZ}
 use mir.Syntax.{w32, w64}
@@ -34,35 +34,37 @@ same s = ap (λ (z : ℤ). first (length (s .args .row .now)) (overAt (s .args .
 loop-holds : tie.Need-loop-holds Inv-loop μ-loop
 loop-holds c = (omega arith, clear-start _)
 
-mul-over-cost : tie.Need-mul-over-cost Inv-loop μ-loop
-mul-over-cost c = search needs
+mul-slack : tie.Need-mul-slack Inv-loop μ-loop
+mul-slack c = search needs
 
-shared-slice-copy-out-over-cost : tie.Need-shared-slice-copy-out-over-cost Inv-loop μ-loop
-shared-slice-copy-out-over-cost c = search needs
+shared-slice-copy-out-slack : tie.Need-shared-slice-copy-out-slack Inv-loop μ-loop
+shared-slice-copy-out-slack c = search needs
 
-mul-over-cost-2 : tie.Need-mul-over-cost-2 Inv-loop μ-loop
-mul-over-cost-2 c = search needs
+mul-slack-2 : tie.Need-mul-slack-2 Inv-loop μ-loop
+mul-slack-2 c = search needs
 
-shared-slice-copy-out-over-cost-2 : tie.Need-shared-slice-copy-out-over-cost-2 Inv-loop μ-loop
-shared-slice-copy-out-over-cost-2 c = search needs
+shared-slice-copy-out-slack-2 : tie.Need-shared-slice-copy-out-slack-2 Inv-loop μ-loop
+shared-slice-copy-out-slack-2 c = search needs
 
-over-cost-requires : tie.Need-over-cost-requires Inv-loop μ-loop
-over-cost-requires c κs =
+slack-requires : tie.Need-slack-requires Inv-loop μ-loop
+slack-requires c κs =
     let s = c .before .before .before .before in
     let j = c .before .before .before .loop .j in (
       rw (toZ-ofZ (s .fits .u)) (s .pre .0),
-      rw (read-back w64 (signedAt (s .args .vs .now) j) (c .over-cost-arg2 .given)) (s .pre .1 .within j (omega arith)),
+      rw (read-back w64 (signedAt (s .args .vs .now) j) (c .slack-arg2 .given)) (s .pre .1 .within j (omega arith)),
     )
 
--- what the call answers is the test at j
-tested : (c : tie.After-over-cost Inv-loop μ-loop)
-    → c .over-cost .result ≡ overAt (c .before .before .before .before .before .args .row .now) (held (c .before .before .before .before .before)) (c .before .before .before .before .before .args .vs .now) (c .before .before .before .before .loop .j)
+-- what the call answers is below 0 where the prices are over the cost at j
+tested : (c : tie.After-slack Inv-loop μ-loop)
+    → ltZ (toZ w64 (ofZ w64 (c .slack .result))) (pos 0) ≡ overAt (c .before .before .before .before .before .args .row .now) (held (c .before .before .before .before .before)) (c .before .before .before .before .before .args .vs .now) (c .before .before .before .before .loop .j)
 tested c =
     let s = c .before .before .before .before .before in
     let j = c .before .before .before .before .loop .j in
-    c .over-cost .ensures
-    ∙ ap₂ ltZ (read-back w32 (signedAt (s .args .row .now) j) (c .before .before .over-cost-arg .given))
-    (ap (λ (z : ℤ). held s +ℤ z) (read-back w64 (signedAt (s .args .vs .now) j) (c .before .over-cost-arg2 .given)))
+    ap (λ (z : ℤ). ltZ z (pos 0))
+    (read-back w64 (c .slack .result) (c .slack .ok)
+    ∙ c .slack .ensures
+    ∙ ap₂ _-ℤ_ (read-back w32 (signedAt (s .args .row .now) j) (c .before .before .slack-arg .given))
+    (ap (λ (z : ℤ). held s +ℤ z) (read-back w64 (signedAt (s .args .vs .now) j) (c .before .slack-arg2 .given))))
 
 returns : tie.Need-returns Inv-loop μ-loop
 returns c =
@@ -99,11 +101,11 @@ first-column-over-spec =
     Inv-loop
     μ-loop
     loop-holds
-    mul-over-cost
-    shared-slice-copy-out-over-cost
-    mul-over-cost-2
-    shared-slice-copy-out-over-cost-2
-    over-cost-requires
+    mul-slack
+    shared-slice-copy-out-slack
+    mul-slack-2
+    shared-slice-copy-out-slack-2
+    slack-requires
     returns
     add-j
     loop-less

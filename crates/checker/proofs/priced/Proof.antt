@@ -22,7 +22,7 @@ prices-within-requires : tie.Need-prices-within-requires
 prices-within-requires c κs = λ e. let s = c .before .pre e in (s .0 .small, s .0 .small, s .1, s .2)
 
 under-costs-requires : tie.Need-under-costs-requires
-under-costs-requires c κs = λ e. let p = within c e in (p .0 .small, p .0 .squared, p .1, p .2)
+under-costs-requires c κs = λ e. let p = within c e in record { small = p .0 .small; squared = p .0 .squared; row-prices = p .1; column-prices = p .2 }
 
 tight-on-requires : tie.Need-tight-on-requires
 tight-on-requires c κs = λ e. within (c .before) (then-iff _ _ .0 (sym (c .under-costs .ensures) ∙ e) .0)

@@ -1,15 +1,13 @@
--- `fails_if` refuses where its test holds. Assumes nothing.
-use Rattle.matrix.specs.Verdicts.{failsIf}
+-- `fails_if` refuses where its test holds, with slack 0. Assumes nothing.
+use borrow.Author.Needs.{needs}
 use Rattle.matrix.proofs.tests.fails_if.Statement.{statement}
 use Rattle.matrix.proofs.tests.fails_if.Tie as tie
 
-returns : tie.Need-returns
-unfolding failsIf
-returns c = rw (c .if1 .taken)
+fails-by-requires : tie.Need-fails-by-requires
+fails-by-requires c κs = search needs
 
-returns-2 : tie.Need-returns-2
-unfolding failsIf
-returns-2 c = rw (c .if1 .left)
+returns : tie.Need-returns
+returns c = c .fails-by .ensures
 
 pub fails-if-spec : {M : Type 1} → statement M
-fails-if-spec = tie.close (tie.spec returns returns-2)
+fails-if-spec = tie.close (tie.spec fails-by-requires returns)

@@ -11,7 +11,7 @@ use lib.ListN.{length}
 use Rattle.layout.specs.Values.{valueOf}
 use Rattle.layout.specs.Trailers.{sheetMark, distanceOf, sideOf, editionOf, unmarked}
 use Rattle.layout.specs.Slips.{slipLength}
-use Rattle.matrix.specs.Verdicts.{_then_, failsIf}
+use Rattle.matrix.specs.Verdicts.{_then_, failsBy}
 use Rattle.sheet.specs.Reading.{sheetSide, sheetMost, sheetTests}
 use Rattle.sheet.proofs.Limits.{sheetSide-small}
 use Rattle.sheet.proofs.Passing.{has-trailer}
@@ -62,25 +62,34 @@ within c = le-ltb _ (distanceOf (c .before .before .before .before .before .befo
 sheet-most-requires : tie.Need-sheet-most-requires
 sheet-most-requires c κs = search needs
 
+fails-if-requires : tie.Need-fails-if-requires
+fails-if-requires c κs = search needs
+
 returns : tie.Need-returns
-unfolding sheetTests _then_ failsIf
-returns c = rw (lt-ltb sheetMost (length (c .before .before .before .args .sheet .now)) (omega (arith, c .before .sheet-most .ensures)))
+unfolding sheetTests _then_ failsBy
+returns c = c .fails-if .ensures ∙ rw (lt-ltb sheetMost (length (c .before .before .before .before .args .sheet .now)) (omega (arith, c .before .before .sheet-most .ensures)))
 
 unmarked-requires : tie.Need-unmarked-requires
 unmarked-requires c κs = search needs
 
+fails-if-requires-2 : tie.Need-fails-if-requires-2
+fails-if-requires-2 c κs = search needs
+
 returns-2 : tie.Need-returns-2
-unfolding sheetTests _then_ failsIf
-returns-2 c = rw (not-over (c .before .before), ap (λ (m : ℕ). unmarked m (c .before .before .before .before .before .args .sheet .now)) (sym mark) ∙ sym (c .before .unmarked .ensures) ∙ c .if2 .taken)
+unfolding sheetTests _then_ failsBy
+returns-2 c = c .fails-if2 .ensures ∙ rw (not-over (c .before .before .before), ap (λ (m : ℕ). unmarked m (c .before .before .before .before .before .before .args .sheet .now)) (sym mark) ∙ sym (c .before .before .unmarked .ensures) ∙ c .before .if2 .taken)
 
 edition-of-requires : tie.Need-edition-of-requires
 edition-of-requires c κs = long c
 
+fails-if-requires-3 : tie.Need-fails-if-requires-3
+fails-if-requires-3 c κs = search needs
+
 returns-3 : tie.Need-returns-3
-unfolding sheetTests _then_ failsIf
+unfolding sheetTests _then_ failsBy
 returns-3 c =
-    let d = c .before .before in
-    rw (not-over (d .before .before), marked d, ne-eqb (editionOf (d .before .before .before .before .before .args .sheet .now)) 1 (λ e. c .if3 .taken (c .before .edition-of .ensures ∙ e)))
+    let d = c .before .before .before in
+    c .fails-if3 .ensures ∙ rw (not-over (d .before .before), marked d, ne-eqb (editionOf (d .before .before .before .before .before .args .sheet .now)) 1 (λ e. c .before .if3 .taken (c .before .before .edition-of .ensures ∙ e)))
 
 side-of-requires : tie.Need-side-of-requires
 side-of-requires c κs = long (c .before .before)
@@ -88,12 +97,15 @@ side-of-requires c κs = long (c .before .before)
 sheet-side-requires : tie.Need-sheet-side-requires
 sheet-side-requires c κs = search needs
 
+fails-if-requires-4 : tie.Need-fails-if-requires-4
+fails-if-requires-4 c κs = search needs
+
 returns-4 : tie.Need-returns-4
-unfolding sheetTests _then_ failsIf
+unfolding sheetTests _then_ failsBy
 returns-4 c =
-    let d = c .before .before .before in
+    let d = c .before .before .before .before in
     let e = d .before .before in
-    rw (not-over (e .before .before), marked e, first-edition d, lt-ltb sheetSide (sideOf (e .before .before .before .before .before .args .sheet .now)) (omega (arith, c .before .sheet-side .ensures, c .before .before .side-of .ensures .0)))
+    c .fails-if4 .ensures ∙ rw (not-over (e .before .before), marked e, first-edition d, lt-ltb sheetSide (sideOf (e .before .before .before .before .before .args .sheet .now)) (omega (arith, c .before .before .sheet-side .ensures, c .before .before .before .side-of .ensures .0)))
 
 distance-of-requires : tie.Need-distance-of-requires
 distance-of-requires c κs = long (c .before .before .before .before .before)
@@ -104,26 +116,32 @@ mul-if5 c = omega (arith, squares (c .before))
 mul-if5-2 : tie.Need-mul-if5-2
 mul-if5-2 c = omega (arith, squares (c .before))
 
+fails-if-requires-5 : tie.Need-fails-if-requires-5
+fails-if-requires-5 c κs = search needs
+
 returns-5 : tie.Need-returns-5
-unfolding sheetTests _then_ failsIf
+unfolding sheetTests _then_ failsBy
 returns-5 c =
-    let f = c .before .before in
+    let f = c .before .before .before in
     let d = f .before .before .before in
     let e = d .before .before in
     let sheet = e .before .before .before .before .before .args .sheet .now in
-    rw (not-over (e .before .before), marked e, first-edition d, side-kept f, ne-eqb (distanceOf sheet) (4 * (sideOf sheet * sideOf sheet)) (λ g. omega (arith, c .if5 .taken, c .before .distance-of .ensures .0, distance-due (f .before .before))))
+    c .fails-if5 .ensures ∙ rw (not-over (e .before .before), marked e, first-edition d, side-kept f, ne-eqb (distanceOf sheet) (4 * (sideOf sheet * sideOf sheet)) (λ g. omega (arith, c .before .if5 .taken, c .before .before .distance-of .ensures .0, distance-due (f .before .before))))
 
 sub-if6 : tie.Need-sub-if6
 sub-if6 c = long (c .before .before .before .before .before .before .before)
 
+fails-if-requires-6 : tie.Need-fails-if-requires-6
+fails-if-requires-6 c κs = search needs
+
 returns-6 : tie.Need-returns-6
-unfolding sheetTests _then_ failsIf
+unfolding sheetTests _then_ failsBy
 returns-6 c =
-    let g = c .before in
+    let g = c .before .before in
     let f = g .before .before in
     let d = f .before .before .before in
     let e = d .before .before in
-    rw (not-over (e .before .before), marked e, first-edition d, side-kept f, distance-kept g, lt-ltb (length (e .before .before .before .before .before .args .sheet .now) - 12) (distanceOf (e .before .before .before .before .before .args .sheet .now)) (omega (arith, g .before .distance-of .ensures .0)))
+    c .fails-if6 .ensures ∙ rw (not-over (e .before .before), marked e, first-edition d, side-kept f, distance-kept g, lt-ltb (length (e .before .before .before .before .before .args .sheet .now) - 12) (distanceOf (e .before .before .before .before .before .args .sheet .now)) (omega (arith, g .before .distance-of .ensures .0)))
 
 mul-if7 : tie.Need-mul-if7
 mul-if7 c = omega (arith, few (c .before .before .before))
@@ -131,18 +149,21 @@ mul-if7 c = omega (arith, few (c .before .before .before))
 add-if7 : tie.Need-add-if7
 add-if7 c = omega (arith, few (c .before .before .before))
 
+fails-if-requires-7 : tie.Need-fails-if-requires-7
+fails-if-requires-7 c κs = search needs
+
 returns-7 : tie.Need-returns-7
-unfolding sheetTests _then_ failsIf
+unfolding sheetTests _then_ failsBy
 returns-7 c =
-    let h = c .before in
+    let h = c .before .before in
     let g = h .before in
     let f = g .before .before in
     let d = f .before .before .before in
     let e = d .before .before in
-    rw (not-over (e .before .before), marked e, first-edition d, side-kept f, distance-kept g, within h, lt-ltb (e .before .before .before .before .before .args .room) (slipLength (sideOf (e .before .before .before .before .before .args .sheet .now))) (omega (arith, f .before .before .side-of .ensures .0)))
+    c .fails-if7 .ensures ∙ rw (not-over (e .before .before), marked e, first-edition d, side-kept f, distance-kept g, within h, lt-ltb (e .before .before .before .before .before .args .room) (slipLength (sideOf (e .before .before .before .before .before .args .sheet .now))) (omega (arith, f .before .before .side-of .ensures .0)))
 
 returns-8 : tie.Need-returns-8
-unfolding sheetTests _then_ failsIf
+unfolding sheetTests _then_ failsBy
 returns-8 c =
     let h = c .before in
     let g = h .before in
@@ -156,21 +177,28 @@ tests-spec =
     tie.close
     (tie.spec
     sheet-most-requires
+    fails-if-requires
     returns
     unmarked-requires
+    fails-if-requires-2
     returns-2
     edition-of-requires
+    fails-if-requires-3
     returns-3
     side-of-requires
     sheet-side-requires
+    fails-if-requires-4
     returns-4
     distance-of-requires
     mul-if5
     mul-if5-2
+    fails-if-requires-5
     returns-5
     sub-if6
+    fails-if-requires-6
     returns-6
     mul-if7
     add-if7
+    fails-if-requires-7
     returns-7
     returns-8)

@@ -47,16 +47,20 @@ impl Night {
 
     pub fn line(&self) -> String {
         let (n, costs, name) = (self.n, self.costs.entries(), self.name());
-        let answer = match &self.lists {
-            Lists::Cost(listed) => refusals::cost(n, &costs, &listed.entries()),
+        let (answer, slack) = match &self.lists {
+            Lists::Cost(listed) => (refusals::cost(n, &costs, &listed.entries()), 0),
             Lists::Checker { columns, rows, row_prices, column_prices } => {
                 let (columns, rows) = (columns.entries(), rows.entries());
-                refusals::checker(n, &costs, &columns, &rows, &row_prices.entries(), &column_prices.entries())
+                let (u, v) = (row_prices.entries(), column_prices.entries());
+                let answer = refusals::checker(n, &costs, &columns, &rows, &u, &v);
+                let slack = refusals::slack(&answer, n, &costs, &columns, &u, &v);
+                (answer, slack)
             }
         };
         match answer {
             Ok(total) => format!("{name} accepted total {total}"),
-            Err((number, place)) => format!("{name} refused {number} place {place}"),
+            Err((number, place)) if slack == 0 => format!("{name} refused {number} place {place}"),
+            Err((number, place)) => format!("{name} refused {number} place {place} slack {slack}"),
         }
     }
 }
@@ -155,19 +159,21 @@ const OF_PRICES: [(&str, i32, [i64; 3], [i64; 3]); 12] = [
     ("K + 1 in the middle and prices out of range", MOST + 1, [1, -P - 1, 1], [0, 0, P + 1]),
 ];
 
-/// Name, row price, column price, on side 1 with cost 0.
-const OF_ENDS: [(&str, i64, i64); 11] = [
-    ("10K and -10K", P, -P),
-    ("-10K and 10K", -P, P),
-    ("-10K and -10K", -P, -P),
-    ("10K and 10K", P, P),
-    ("10K + 1 and -10K - 1", P + 1, -P - 1),
-    ("10K and -10K - 1", P, -P - 1),
-    ("the largest and the largest", i64::MAX, i64::MAX),
-    ("the largest and the least", i64::MAX, i64::MIN),
-    ("the least and the least", i64::MIN, i64::MIN),
-    ("0 and the least", 0, i64::MIN),
-    ("0 and the largest", 0, i64::MAX),
+/// Name, cost, row price, column price, on side 1.
+const OF_ENDS: [(&str, i32, i64, i64); 13] = [
+    ("10K and -10K", 0, P, -P),
+    ("-10K and 10K", 0, -P, P),
+    ("-10K and -10K", 0, -P, -P),
+    ("10K and 10K", 0, P, P),
+    ("cost K, -10K and -10K", MOST, -P, -P),
+    ("cost -K, 10K and 10K", -MOST, P, P),
+    ("10K + 1 and -10K - 1", 0, P + 1, -P - 1),
+    ("10K and -10K - 1", 0, P, -P - 1),
+    ("the largest and the largest", 0, i64::MAX, i64::MAX),
+    ("the largest and the least", 0, i64::MAX, i64::MIN),
+    ("the least and the least", 0, i64::MIN, i64::MIN),
+    ("0 and the least", 0, 0, i64::MIN),
+    ("0 and the largest", 0, 0, i64::MAX),
 ];
 
 /// Name, side, the last of 1,024 times 1,024 costs; each other is K.
@@ -219,7 +225,7 @@ pub fn of_prices() -> Vec<Night> {
     let prices = OF_PRICES.map(|(name, middle, u, v)| {
         checked((name, 3, &[3, 1, 0, 0, middle, 2, 4, 1, 0]), [&[1, 0, 2]; 2], [&u, &v])
     });
-    let ends = OF_ENDS.map(|(name, u, v)| checked((name, 1, &[0]), [&[0]; 2], [&[u], &[v]]));
+    let ends = OF_ENDS.map(|(name, cost, u, v)| checked((name, 1, &[cost]), [&[0]; 2], [&[u], &[v]]));
     pairings.into_iter().chain(prices).chain(ends).collect()
 }
 
