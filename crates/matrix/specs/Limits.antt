@@ -1,9 +1,9 @@
 -- The limits. Laws cite side and K by name; proofs/SmallLimits.antt, the function that answers each, and computed examples open them.
 use Prim.Native.Nat.{ℕ, _^_}
 
--- "Side n: 0 to 1,024".
+-- "Side n: 0 to" 4,096.
 unfoldable pub side : ℕ
-side = 1024
+side = 4096
 
 -- "K = 1,000,000,000. Costs are 32-bit signed, in -K..K".
 unfoldable pub K : ℕ

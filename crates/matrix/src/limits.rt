@@ -8,7 +8,7 @@ ghost use Rattle.matrix.specs.Limits.{side, K};
 pub fn side() -> usize
     ensures { λ r. ⌜ r ≡ side ⌝ }
 {
-    1024
+    4096
 }
 
 // As `side`.

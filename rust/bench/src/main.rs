@@ -4,7 +4,8 @@
 //!     bench [--seed S] [--matrices M] [--rounds R] [--largest N]
 //!
 //! M matrices of each kind and side (3) are solved R times each (5), by the crate and by the archive in turn, after
-//! one round that is not counted; sides over N (1,024) are left out. layouts.sh runs it in several layouts.
+//! one round that is not counted; sides over N (4,096) are left out, and for i*j those over 1,024, since its time
+//! grows with the cube of the side. layouts.sh runs it in several layouts.
 //!
 //! What is timed: the crate's `lapjv` on a matrix of f64 that is made beforehand; the archive's solver on a slice
 //! of i32, into lists that are allocated once for each matrix beforehand. Nobody clears those lists between runs;
@@ -16,22 +17,22 @@ mod sheets;
 use std::process::ExitCode;
 use std::time::{Duration, Instant};
 
-use bristlefrost::Lent;
+use bristlefrost::{Lent, LARGEST_SIDE};
 use differential::nights::Random;
 use differential::{command, oracle, K};
 
-/// A kind of matrix: its name, and the cost at (i, j).
-type Kind = (&'static str, fn(&mut Random, usize, usize) -> i64);
+/// A kind of matrix: its name, the largest side at which it is timed, and the cost at (i, j).
+type Kind = (&'static str, usize, fn(&mut Random, usize, usize) -> i64);
 
 const KINDS: [Kind; 5] = [
-    ("random 0..10^6", |random, _, _| random.between(0, 1_000_000)),
-    ("random 0..10^9", |random, _, _| random.between(0, K)),
-    ("tied 0..3", |random, _, _| random.between(0, 3)),
-    ("-K or K", |random, _, _| random.pick(&[-K, K])),
-    ("i*j", |_, i, j| (i * j) as i64),
+    ("random 0..10^6", LARGEST_SIDE, |random, _, _| random.between(0, 1_000_000)),
+    ("random 0..10^9", LARGEST_SIDE, |random, _, _| random.between(0, K)),
+    ("tied 0..3", LARGEST_SIDE, |random, _, _| random.between(0, 3)),
+    ("-K or K", LARGEST_SIDE, |random, _, _| random.pick(&[-K, K])),
+    ("i*j", 1024, |_, i, j| (i * j) as i64),
 ];
 
-const SIDES: [usize; 4] = [64, 256, 512, 1024];
+const SIDES: [usize; 6] = [64, 256, 512, 1024, 2048, LARGEST_SIDE];
 
 // What is linked behind this lies BENCH_SHIFT bytes further on (build.rs).
 std::arch::global_asm!(concat!(".globl bench_shift\nbench_shift:\n.space ", env!("BENCH_SHIFT")));
@@ -49,7 +50,7 @@ struct Settings {
 }
 
 fn settings() -> Result<Settings, String> {
-    let mut settings = Settings { seed: 1, matrices: 3, rounds: 5, largest: 1024 };
+    let mut settings = Settings { seed: 1, matrices: 3, rounds: 5, largest: LARGEST_SIDE as u64 };
     command::numbers(&mut [
         ("--seed", &mut settings.seed),
         ("--matrices", &mut settings.matrices),
@@ -62,7 +63,7 @@ fn settings() -> Result<Settings, String> {
 }
 
 /// The costs of one matrix of a kind.
-fn costs((_, cost): &Kind, random: &mut Random, n: usize) -> Vec<i32> {
+fn costs((_, _, cost): &Kind, random: &mut Random, n: usize) -> Vec<i32> {
     (0..n * n).map(|place| cost(random, place / n, place % n) as i32).collect()
 }
 
@@ -180,7 +181,7 @@ fn run() -> Result<(), String> {
     println!("|---|---|---|---|---|---|---|");
     let mut random = Random::new(settings.seed);
     for n in SIDES.into_iter().filter(|&n| n as u64 <= settings.largest) {
-        for kind in &KINDS {
+        for kind in KINDS.iter().filter(|&&(_, largest, _)| n <= largest) {
             println!("{}", line(&settings, &mut random, kind, n)?);
         }
     }

@@ -1,4 +1,4 @@
-/* Least-cost pairing of n rows with n columns, over the archive libface.a. n is the side, at most 1,024; rows and
+/* Least-cost pairing of n rows with n columns, over the archive libface.a. n is the side, at most 4,096; rows and
  * columns count from 0. The place of row i and column j is i*n+j: row order.
  *
  * A price is a number for each row and each column such that row price + column price is at most the cost
@@ -15,7 +15,7 @@
  * Nothing is kept after the call returns. Nothing else is asked: any side, length and number is answered.
  *
  * A refusal is 0 where the input was accepted, else number + 256*place:
- *    1  side over 1,024                                             place 0
+ *    1  side over 4,096                                             place 0
  *    2  not exactly n*n costs                                       0
  *    3  an output or list shorter than n (cost: longer than n)      the first such, by its number
  *    4  work room too short                                         1 indices, 2 numbers

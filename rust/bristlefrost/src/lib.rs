@@ -2,7 +2,7 @@
 //! prove it. The work is done by the archive libface.a, whose functions are proved; this crate lends it slices
 //! and reads its answers.
 //!
-//! The side is the number of rows, and of columns, at most 1,024. Costs are side * side numbers in row order, each
+//! The side is the number of rows, and of columns, at most 4,096. Costs are side * side numbers in row order, each
 //! within -1,000,000,000..1,000,000,000.
 //!
 //! A price is a number for each row and each column such that row price + column price is at most the cost everywhere,
@@ -42,7 +42,7 @@ pub use paper::{Sheet, Slip, Unfit, BARRED};
 pub use refusal::{List, Refusal, Room};
 
 /// The largest side.
-pub const LARGEST_SIDE: usize = 1024;
+pub const LARGEST_SIDE: usize = 4096;
 
 /// The largest side on a sheet.
 pub const LARGEST_SHEET_SIDE: usize = paper::LARGEST_SIDE;

@@ -28,7 +28,7 @@ pub enum Room {
 #[derive(Clone, Copy, Debug, PartialEq, Eq)]
 #[non_exhaustive]
 pub enum Refusal {
-    /// 1: the side is over 1,024.
+    /// 1: the side is over 4,096.
     SideOver,
     /// 2: there are not exactly side * side costs.
     CostsLength,
@@ -177,7 +177,7 @@ impl Refusal {
 impl fmt::Display for Refusal {
     fn fmt(&self, out: &mut fmt::Formatter<'_>) -> fmt::Result {
         let meaning = match self {
-            Refusal::SideOver => "the side is over 1,024",
+            Refusal::SideOver => "the side is over 4,096",
             Refusal::CostsLength => "there are not exactly side * side costs",
             Refusal::ListLength(_) => "a list's length does not fit the side",
             Refusal::RoomShort(_) => "a work room is too short",

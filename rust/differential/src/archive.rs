@@ -294,7 +294,7 @@ fn limit(what: &str, found: u64, right: u64) -> Result<(), String> {
     expect(what, &found, &right)
 }
 
-/// The limits themselves: K, 1,024, 64 and 65,536, accepted at and refused past.
+/// The limits themselves: K, 4,096, 64 and 65,536, accepted at and refused past.
 pub fn limits(random: &mut Random) -> Result<(), String> {
     let k = K as i32;
     for (cost, code) in [(k, 0), (-k, 0), (k + 1, 5), (-k - 1, 5)] {
@@ -302,8 +302,9 @@ pub fn limits(random: &mut Random) -> Result<(), String> {
         limit("a sheet's cost at its limit", sheet(random, &sheets::sheet(&[], 1, &[cost]), 38)?, code)?;
     }
 
-    let full = vec![7; 1025 * 1025];
-    for (n, code) in [(1024, 0), (1025, 1)] {
+    const SIDE: usize = refusals::LARGEST_SIDE;
+    let full = vec![7; (SIDE + 1) * (SIDE + 1)];
+    for (n, code) in [(SIDE - 1, 0), (SIDE, 0), (SIDE + 1, 1)] {
         limit("side at its limit", solve(random, n, &full[..n * n], [n, n, n, n, 4 * n, n], None)?, code)?;
         let identity: Vec<u32> = (0..n as u32).collect();
         let lists = Lists {
@@ -317,10 +318,12 @@ pub fn limits(random: &mut Random) -> Result<(), String> {
         limit("checker's side at its limit", check(n, &full[..n * n], &lists)?, code)?;
         limit("cost's side at its limit", cost(n, &full[..n * n], &identity)?, code)?;
     }
-    let mut last = full[..1024 * 1024].to_vec();
-    last[1024 * 1024 - 1] = k + 1;
-    let lengths = [1024, 1024, 1024, 1024, 4096, 1024];
-    limit("the last cost is bad", solve(random, 1024, &last, lengths, None)?, 5 + 256 * (1024 * 1024 - 1))?;
+    let places = SIDE * SIDE;
+    let mut last = full;
+    last.truncate(places);
+    last[places - 1] = k + 1;
+    let lengths = [SIDE, SIDE, SIDE, SIDE, 4 * SIDE, SIDE];
+    limit("the last cost is bad", solve(random, SIDE, &last, lengths, None)?, 5 + 256 * (places as u64 - 1))?;
 
     for (n, code) in [(64, 0), (65, 13)] {
         let bytes = sheets::sheet(&[], n, &vec![-3; n * n]);

@@ -3,10 +3,12 @@
 
 use crate::archive::{self, Lists, Met};
 use crate::nights::{Random, FAMILIES};
+use crate::refusals::LARGEST_SIDE;
 use crate::{rules, K};
 
 /// Sides that stand at or beyond a limit.
-const SIDES: [usize; 7] = [1024, 1025, 1026, 65_536, 1 << 32, usize::MAX / 2, usize::MAX];
+const SIDES: [usize; 7] =
+    [LARGEST_SIDE, LARGEST_SIDE + 1, LARGEST_SIDE + 2, 65_536, 1 << 32, usize::MAX / 2, usize::MAX];
 
 /// Costs outside -K..K, and at its ends.
 fn far_cost(random: &mut Random) -> i32 {

@@ -1,10 +1,11 @@
 //! Compares the crate lapjv 0.3.0 with document 01's rules, night by night, and with the feature `archive` the
 //! archive with both.
 //!
-//!     differential [--seed S] [--count N] [--large L] [--full 1] [--sheets B]
+//!     differential [--seed S] [--count N] [--large L] [--limit M] [--full 1] [--sheets B]
 //!
 //! S is where the random nights begin (1), N how many of sides to 64 are run (20,000), and L how many of each
-//! of the sides 100, 256, 512, 1,023 and 1,024 (2). Small sides over few values are run in full each time; with
+//! of the sides 100, 256, 512, 1,023 and 1,024 (2); M is how many are run of side 4,096, the limit, with costs
+//! 0..10^6, with costs 0..3, and with costs -K or K (0). Small sides over few values are run in full each time; with
 //! --full side 3 over 0..5 too, ten million nights. The archive is also given N damaged nights and lists, those at
 //! the limits, every small damage to one sheet, and B random sheets (20,000), most of them damaged. Last come nights
 //! with amounts on columns and on rows: small ones in full, N / 8 of sides to 64, and L / 5, rounded up, of each of
@@ -14,6 +15,7 @@ use std::process::ExitCode;
 
 use differential::compared::Compared;
 use differential::nights::{self, Every, Random, FAMILIES};
+use differential::refusals::LARGEST_SIDE;
 #[cfg(feature = "archive")]
 use differential::{archive, damage, torn};
 use differential::{command, oracle, surcharges, K};
@@ -23,17 +25,19 @@ struct Settings {
     seed: u64,
     count: u64,
     large: u64,
+    limit: u64,
     full: u64,
     #[cfg_attr(not(feature = "archive"), allow(dead_code))]
     sheets: u64,
 }
 
 fn settings() -> Result<Settings, String> {
-    let mut settings = Settings { seed: 1, count: 20_000, large: 2, full: 0, sheets: 20_000 };
+    let mut settings = Settings { seed: 1, count: 20_000, large: 2, limit: 0, full: 0, sheets: 20_000 };
     command::numbers(&mut [
         ("--seed", &mut settings.seed),
         ("--count", &mut settings.count),
         ("--large", &mut settings.large),
+        ("--limit", &mut settings.limit),
         ("--full", &mut settings.full),
         ("--sheets", &mut settings.sheets),
     ])?;
@@ -116,6 +120,19 @@ fn large(compared: &mut Compared, settings: &Settings) -> Result<usize, String> 
     Ok(nights)
 }
 
+/// Nights of the largest side.
+fn at_the_limit(compared: &mut Compared, settings: &Settings) -> Result<usize, String> {
+    let mut random = Random::new(settings.seed ^ 0x6D_6F_73_74);
+    let mut nights = 0;
+    for _ in 0..settings.limit {
+        for family in FAMILIES.iter().filter(|family| ["0..10^6", "0..3", "-K or K"].contains(&family.name)) {
+            compared.night(LARGEST_SIDE, &(family.costs)(&mut random, LARGEST_SIDE), family.name)?;
+            nights += 1;
+        }
+    }
+    Ok(nights)
+}
+
 fn run() -> Result<(), String> {
     let settings = settings()?;
     if !oracle::AT_HAND {
@@ -133,6 +150,7 @@ fn run() -> Result<(), String> {
     println!("{} small nights in full: {sides}", every(&mut compared, &settings)?);
     println!("{} random nights of sides to 64, seed {seed}: {sides}", random(&mut compared, &settings)?);
     println!("{} random nights of sides 100 to 1024, seed {seed}: {sides}", large(&mut compared, &settings)?);
+    println!("{} random nights of side {LARGEST_SIDE}, seed {seed}: {sides}", at_the_limit(&mut compared, &settings)?);
     damaged(&mut compared, &settings)?;
     let (count, large) = (settings.count / 8, settings.large.div_ceil(5));
     for line in surcharges::run(&mut compared, seed, count, large)? {

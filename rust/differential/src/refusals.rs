@@ -7,7 +7,7 @@ use crate::K;
 pub type Refused = (u64, u64);
 
 /// The largest side.
-pub const LARGEST_SIDE: usize = 1024;
+pub const LARGEST_SIDE: usize = 4096;
 
 fn refuse(holds: bool, number: u64, place: usize) -> Result<(), Refused> {
     if holds {

@@ -69,7 +69,7 @@ impl Night {
 const N8: &[i32] = document::NIGHTS[8].costs;
 
 /// Name, side, costs, listed columns.
-const OF_COST: [(&str, usize, &[i32], &[u32]); 24] = [
+const OF_COST: [(&str, usize, &[i32], &[u32]); 25] = [
     ("cost of N8, columns 2 0 1", 3, N8, &[2, 0, 1]),
     ("cost of N8, columns 1 0 2", 3, N8, &[1, 0, 2]),
     ("cost of N8, columns 0 0 0, no permutation", 3, N8, &[0, 0, 0]),
@@ -92,7 +92,8 @@ const OF_COST: [(&str, usize, &[i32], &[u32]); 24] = [
     ("cost, side 0", 0, &[], &[]),
     ("cost, side 0, one cost", 0, &[0], &[]),
     ("cost, side 0, one column", 0, &[], &[0]),
-    ("cost, side 1,025, no costs", 1025, &[], &[0, 1, 2]),
+    ("cost, side 4,096, no costs", 4096, &[], &[0, 1, 2]),
+    ("cost, side 4,097, no costs", 4097, &[], &[0, 1, 2]),
     ("cost, the largest side", usize::MAX, &[0; 10], &[0, 1, 2]),
 ];
 
@@ -121,12 +122,13 @@ const OF_LENGTHS: [(&str, [usize; 5]); 20] = [
 ];
 
 /// Name, side, how many costs are lent, and how many entries of each list. An entry would be refused, were it read.
-const OF_SIDES: [(&str, usize, usize, usize); 6] = [
+const OF_SIDES: [(&str, usize, usize, usize); 7] = [
     ("the empty night", 0, 0, 0),
     ("the empty night, entries not read", 0, 0, 1),
     ("side 0, one cost", 0, 1, 1),
     ("side 1, no entries", 1, 1, 0),
-    ("side 1,025, one cost", 1025, 1, 1),
+    ("side 4,096, one cost", 4096, 1, 1),
+    ("side 4,097, one cost", 4097, 1, 1),
     ("the largest side", usize::MAX, 0, 0),
 ];
 
@@ -180,7 +182,7 @@ const OF_ENDS: [(&str, i32, i64, i64); 13] = [
 const OF_LIMIT: [(&str, usize, i32); 3] = [
     ("side 1,024, every cost K", 1024, MOST),
     ("side 1,024, K + 1 in the last place", 1024, MOST + 1),
-    ("side 1,025, K + 1 in the last place", 1025, MOST + 1),
+    ("side 4,097, K + 1 in the last place", 4097, MOST + 1),
 ];
 
 /// A night of `cost` on exactly these costs and columns.
@@ -229,7 +231,8 @@ pub fn of_prices() -> Vec<Night> {
     pairings.into_iter().chain(prices).chain(ends).collect()
 }
 
-/// Nights of the checker and of `cost` at the side's limit, the pairing from last to first.
+/// Nights of the checker and of `cost` as large as the program holds, and past the side's limit, the pairing from last
+/// to first.
 pub fn at_the_limit() -> Vec<Night> {
     let pairing = Lent::exactly(&(0..1024).rev().collect::<Vec<u32>>());
     let of_both = OF_LIMIT.map(|(name, n, last)| {

@@ -54,7 +54,7 @@ fn replay(list: &str) -> Result<Replay, String> {
     replay.checks(checks::of_cost(), "of `cost`");
     replay.checks(checks::of_lengths(), "of the checker with too few, enough and too many entries");
     replay.checks(checks::of_prices(), "of the checker with every other refusal, N9 and N10 among them");
-    replay.checks(checks::at_the_limit(), "of the checker and of `cost` at the side's limit");
+    replay.checks(checks::at_the_limit(), "of the checker and of `cost` of side 1,024 and past the limit");
     solver::on_paper(&mut replay, &document::NIGHTS, "of document 01, N0 to N8")?;
     solver::on_paper(&mut replay, &document::SURCHARGED, "without and with an amount on a row")?;
     solver::of_list(&mut replay, &text).map_err(|wrong| format!("{list}: {wrong}"))?;

@@ -2,6 +2,7 @@
 
 use differential::listed::{self, words};
 use differential::nights::Random;
+use differential::refusals::LARGEST_SIDE;
 use differential::{checks, document, refusals, K};
 
 use crate::frame::{Costs, Input, Kind, Lent};
@@ -155,7 +156,7 @@ pub fn outside(replay: &mut Replay) -> Result<(), String> {
     Ok(())
 }
 
-/// Sides at and past the limit. The costs of the largest are repeated from a few.
+/// Sides as large as the program holds, and past the limit. The costs of the largest are repeated from a few.
 pub fn at_the_limit(replay: &mut Replay) -> Result<(), String> {
     let few: Vec<i32> = Random::new(1).numbers(1013, -K, K).iter().map(|&cost| cost as i32).collect();
     replay.decided(&Night::new(1023, &[0]))?;
@@ -170,13 +171,16 @@ pub fn at_the_limit(replay: &mut Replay) -> Result<(), String> {
     for short in 0..6 {
         replay.decided(&full.clone().shorter(1 << short, 1))?;
     }
-    let over = Night::new(1025, &[7]);
+    let at = Night { n: LARGEST_SIDE, ..Night::new(1024, &[7]) };
+    replay.decided(&at)?;
+    replay.decided(&at.lending(0))?;
+    let over = Night { n: LARGEST_SIDE + 1, ..Night::new(1024, &[7]) };
     replay.decided(&over)?;
     replay.decided(&over.clone().with(0, LIMIT + 1))?;
     replay.decided(&over.clone().lending(1))?;
-    replay.decided(&over.clone().lending(0).shorter(63, 1025))?;
+    replay.decided(&over.clone().lending(0).shorter(63, 1024))?;
     replay.decided(&Night { n: u32::MAX as usize, ..over.clone().lending(0) })?;
     replay.decided(&Night { n: usize::MAX, ..over.lending(0) })?;
-    replay.kind("of sides 1,023 to 1,025 and past them");
+    replay.kind("of sides 1,023 and 1,024 and at and past the limit");
     Ok(())
 }
