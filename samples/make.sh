@@ -29,4 +29,5 @@ done
 { head -c 16900 /dev/zero; printf '\004\102\000\000\101\000\001\000MTCH'; } | keep side-65.sheet
 { head -c -12 one.sheet; printf '\005\000\000\000'; tail -c 8 one.sheet; } | keep distance-one-off.sheet
 tail -c 47 n8.sheet | keep cut-off.sheet
+{ printf '# One guest\n'; tail -c 16 one.sheet; } | keep line-end.sheet
 { head -c -20 ends.sheet; printf '\001\312\232\073'; tail -c 16 ends.sheet; } | keep over-k.sheet

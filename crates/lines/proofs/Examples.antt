@@ -18,7 +18,7 @@ use Rattle.rules.specs.Rows.{looks, rowReduction}
 use Rattle.rules.specs.Search.{scan, lastFree, searchBlocks, search, newPrices}
 use Rattle.rules.specs.Augmentation.{flips, augments, augmentation}
 use Rattle.rules.specs.Run.{stages, run}
-use Rattle.sheet.specs.Reading.{sheetSide, sheetMost, sheetTests, read}
+use Rattle.sheet.specs.Reading.{sheetSide, sheetMost, noteMost, sheetTests, read}
 use Rattle.lines.specs.Decimal.{digits, decimal, signedDecimal}
 use Rattle.lines.specs.Lines.{acceptedLine, rowLine, rowLines, refusedLine, output}
 
@@ -45,7 +45,7 @@ n8 : output (sheetOf [] 3 (map pos (3 ∷ 1 ∷ 0 ∷ 0 ∷ 0 ∷ 2 ∷ 4 ∷ 1 
     ∷ 49 ∷ 32 ∷ 48 ∷ 32 ∷ 48 ∷ 10
     ∷ 50 ∷ 32 ∷ 49 ∷ 32 ∷ 49 ∷ 10
     ∷ []
-unfolding digits turns upward downward until first table sum flatMap bytesOf valueOf fields _then_ failsBy failsAtBy K sheetSide sheetMost sheetTests read acceptedLine rowLine rowLines refusedLine output twoLowest lowest leastBut block free claims transfers columnReduction looks rowReduction scan lastFree searchBlocks search newPrices flips augments augmentation stages run
+unfolding digits turns upward downward until first table sum flatMap bytesOf valueOf fields _then_ failsBy failsAtBy K sheetSide sheetMost noteMost sheetTests read acceptedLine rowLine rowLines refusedLine output twoLowest lowest leastBut block free claims transfers columnReduction looks rowReduction scan lastFree searchBlocks search newPrices flips augments augmentation stages run
 n8 = refl
 
 -- A pair that must not be made: `accepted 1 total 1000000000`, `0 0 1000000000 barred`.
@@ -53,7 +53,7 @@ barred : output (sheetOf [] 1 (pos 1000000000 ∷ []))
     ≡ 97 ∷ 99 ∷ 99 ∷ 101 ∷ 112 ∷ 116 ∷ 101 ∷ 100 ∷ 32 ∷ 49 ∷ 32 ∷ 116 ∷ 111 ∷ 116 ∷ 97 ∷ 108 ∷ 32 ∷ 49 ∷ 48 ∷ 48 ∷ 48 ∷ 48 ∷ 48 ∷ 48 ∷ 48 ∷ 48 ∷ 48 ∷ 10
     ∷ 48 ∷ 32 ∷ 48 ∷ 32 ∷ 49 ∷ 48 ∷ 48 ∷ 48 ∷ 48 ∷ 48 ∷ 48 ∷ 48 ∷ 48 ∷ 48 ∷ 32 ∷ 98 ∷ 97 ∷ 114 ∷ 114 ∷ 101 ∷ 100 ∷ 10
     ∷ []
-unfolding digits turns upward downward until first table sum flatMap bytesOf valueOf fields _then_ failsBy failsAtBy K sheetSide sheetMost sheetTests read acceptedLine rowLine rowLines refusedLine output twoLowest lowest leastBut block free claims transfers columnReduction looks rowReduction scan lastFree searchBlocks search newPrices flips augments augmentation stages run
+unfolding digits turns upward downward until first table sum flatMap bytesOf valueOf fields _then_ failsBy failsAtBy K sheetSide sheetMost noteMost sheetTests read acceptedLine rowLine rowLines refusedLine output twoLowest lowest leastBut block free claims transfers columnReduction looks rowReduction scan lastFree searchBlocks search newPrices flips augments augmentation stages run
 barred = refl
 
 -- No bytes at all: `refused 11 place 0`.

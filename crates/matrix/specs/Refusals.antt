@@ -73,6 +73,10 @@ SlipRoomShort = 16
 abbrev pub SheetOver : ℕ
 SheetOver = 17
 
+-- "a sheet whose note is over 4,096 bytes or holds a byte outside 32 to 126"
+abbrev pub NoteUnfit : ℕ
+NoteUnfit = 21
+
 -- The scope's "No." of a refusal.
 abbrev pub numberOf : Refusal → ℕ
 numberOf refusal = refusal .number

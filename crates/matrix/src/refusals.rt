@@ -39,6 +39,8 @@ pub const SLIP_ROOM_SHORT: u64 = 16;
 
 pub const SHEET_OVER: u64 = 17;
 
+pub const NOTE_UNFIT: u64 = 21;
+
 // The scope's number of a refusal.
 pub fn number(refusal: Refusal) -> u64
     ensures { λ r. ⌜ r ≡ numberOf refusal ⌝ }

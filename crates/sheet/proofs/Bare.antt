@@ -8,7 +8,7 @@ use Rattle.matrix.specs.Tests.{costsWithin}
 use Rattle.matrix.proofs.Verdicts.{bare-then, bare-if, bare-at}
 use Rattle.sheet.specs.Reading.{sheetTests}
 
--- The seven tests before the costs, and that of the costs.
+-- The tests before the costs, and that of the costs.
 pub sheet-bare : (room : ℕ) (sheet : List ℕ) (costs : List ℤ) → (bare (sheetTests room sheet) ≡ sheetTests room sheet) × (bare (costsWithin costs) ≡ costsWithin costs)
 unfolding sheetTests
 sheet-bare room sheet costs = (
@@ -16,8 +16,8 @@ sheet-bare room sheet costs = (
       (bare-then _ _
       (bare-then _ _
       (bare-then _ _ (bare-then _ _ (bare-then _ _ (bare-if _ _ _ _) (bare-if _ _ _ _)) (bare-if _ _ _ _)) (bare-if _ _ _ _))
-      (bare-if _ _ _ _))
-      (bare-if _ _ _ _))
+      (bare-then _ _ (bare-if _ _ _ _) (bare-if _ _ _ _)))
+      (bare-at _ _ _ _ _))
       (bare-if _ _ _ _),
   bare-at _ _ _ _ _,
 )

@@ -23,29 +23,39 @@ use Rattle.matrix.specs.declared.Verdict.{Verdict}
 use Rattle.matrix.specs.declared.Verdict.the-variants.{Passed, Fails}
 use Rattle.matrix.specs.declared.Refusal.{Refusal}
 use Rattle.matrix.proofs.Verdicts as verdicts
-use Rattle.matrix.proofs.Verdicts.{then-small, failsIf-small, failsAt-small}
+use Rattle.matrix.proofs.Verdicts.{then-iff, then-small, failsIf-small, failsAt-small}
 use Rattle.matrix.proofs.Passed.{costs-within}
 use Rattle.lapjv.specs.Answers.{answer}
 use Rattle.sheet.specs.declared.State.{State}
 use Rattle.sheet.specs.declared.Reply.the-variants.{Accepted, Refused}
 use Rattle.sheet.specs.declared.Settled.{Settled}
-use Rattle.sheet.specs.Reading.{sheetSide, costsOf, sheetTests, Read, refused, night, nightIf, readIf, read}
+use Rattle.sheet.specs.Reading.{sheetSide, sheetMost, costsOf, trailed, pointed, unfit, noteFit, sheetTests, Read, refused, night, nightIf, readIf, read}
 use Rattle.sheet.specs.Settle.{fresh, settledAs, Delivery, pairedAs}
-use Rattle.sheet.proofs.Limits.{sheetSide-small}
-use Rattle.sheet.proofs.Passing.{tests-passed, costs-found}
+use Rattle.sheet.proofs.Limits.{sheetSide-small, sheetMost-small}
+use Rattle.sheet.proofs.Passing.{trailed-passed, tests-passed, costs-found}
 
 -- ---- what was read
+
+trailed-small : (sheet : List ℕ) → verdicts.Small (trailed sheet)
+trailed-small sheet =
+    then-small _ _
+    (then-small _ _ (then-small _ _ (failsIf-small _ _ _ (lit< tt) (λ e. lit< tt)) (λ e. failsIf-small _ _ _ (lit< tt) (λ e. lit< tt))) (λ e. failsIf-small _ _ _ (lit< tt) (λ e. lit< tt)))
+    (λ e. failsIf-small _ _ _ (lit< tt) (λ e. lit< tt))
+
+pointed-small : (sheet : List ℕ) → verdicts.Small (pointed sheet)
+pointed-small sheet = then-small _ _ (failsIf-small _ _ _ (lit< tt) (λ e. lit< tt)) (λ e. failsIf-small _ _ _ (lit< tt) (λ e. lit< tt))
+
+-- A position of the note is one of the sheet, which is short.
+note-small : (sheet : List ℕ) → length sheet ≤ sheetMost → verdicts.Small (noteFit sheet)
+note-small sheet short = failsAt-small _ (λ k. k) _ (unfit sheet) (lit< tt) (λ k l. omega (arith, sheetMost-small))
 
 tests-small : (room : ℕ) (sheet : List ℕ) → verdicts.Small (sheetTests room sheet)
 unfolding sheetTests
 tests-small room sheet =
     then-small _ _
     (then-small _ _
-    (then-small _ _
-    (then-small _ _ (then-small _ _ (then-small _ _ (failsIf-small _ _ _ (lit< tt) (λ e. lit< tt)) (λ e. failsIf-small _ _ _ (lit< tt) (λ e. lit< tt))) (λ e. failsIf-small _ _ _ (lit< tt) (λ e. lit< tt)))
-    (λ e. failsIf-small _ _ _ (lit< tt) (λ e. lit< tt)))
-    (λ e. failsIf-small _ _ _ (lit< tt) (λ e. lit< tt)))
-    (λ e. failsIf-small _ _ _ (lit< tt) (λ e. lit< tt)))
+    (then-small _ _ (trailed-small sheet) (λ e. pointed-small sheet))
+    (λ e. note-small sheet (trailed-passed sheet (then-iff _ _ .0 e .0) .2)))
     (λ e. failsIf-small _ _ _ (lit< tt) (λ e. lit< tt))
 
 -- What is known of a night that was read: state and room are large enough, and its costs are a square of costs in -K..K.

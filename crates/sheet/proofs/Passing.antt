@@ -1,4 +1,4 @@
--- What the seven tests say of a sheet that passes them. Assumes nothing.
+-- What the tests before the costs say of a sheet that passes them. Assumes nothing.
 use mathlib.Core.Path.{_≡_, refl, ap}
 use mathlib.Core.Bool.{Bool, true, false, _||_}
 use mathlib.Core.List.{List}
@@ -11,7 +11,7 @@ use Rattle.layout.specs.Sheets.{costsAt}
 use Rattle.layout.specs.Slips.{slipLength}
 use Rattle.matrix.specs.Verdicts.{Passes}
 use Rattle.matrix.proofs.Verdicts.{then-iff, failsIf-iff}
-use Rattle.sheet.specs.Reading.{sheetSide, costsOf, sheetTests}
+use Rattle.sheet.specs.Reading.{sheetSide, sheetMost, costsOf, trailed, pointed, sheetTests}
 
 -- A sheet that is not refused by 11 has a trailer.
 pub has-trailer : (mark : ℕ) (sheet : List ℕ) → unmarked mark sheet ≡ false → 12 ≤ length sheet
@@ -20,6 +20,26 @@ has-trailer mark sheet e = ltb-false (length sheet) 12 (left _ _ e)
     left : (a b : Bool) → a || b ≡ false → a ≡ false
     left true b f = f
     left false b f = refl
+
+-- 17, 11, 12, 13.
+pub trailed-passed : (sheet : List ℕ) → Passes (trailed sheet) → (12 ≤ length sheet) × (sideOf sheet ≤ sheetSide) × (length sheet ≤ sheetMost)
+trailed-passed sheet p =
+    let t13 = then-iff _ _ .0 p in
+    let t12 = then-iff _ _ .0 (t13 .0) in
+    let t11 = then-iff _ _ .0 (t12 .0) in (
+      has-trailer _ sheet (failsIf-iff _ _ _ .0 (t11 .1)),
+      ltb-false sheetSide (sideOf sheet) (failsIf-iff _ _ _ .0 (t13 .1)),
+      ltb-false sheetMost (length sheet) (failsIf-iff _ _ _ .0 (t11 .0)),
+    )
+
+-- 14, 15.
+pub pointed-passed : (sheet : List ℕ) → 12 ≤ length sheet → Passes (pointed sheet)
+    → (distanceOf sheet ≡ 4 * (sideOf sheet * sideOf sheet)) × (distanceOf sheet + 12 ≤ length sheet)
+pointed-passed sheet long p =
+    let t15 = then-iff _ _ .0 p in (
+      eqb-true _ _ (not-false _ (failsIf-iff _ _ _ .0 (t15 .0))),
+      omega (arith, ltb-false (length sheet - 12) (distanceOf sheet) (failsIf-iff _ _ _ .0 (t15 .1))),
+    )
 
 module _ (room : ℕ) (sheet : List ℕ) where
   abbrev n : ℕ
@@ -35,20 +55,17 @@ module _ (room : ℕ) (sheet : List ℕ) where
   pub tests-passed : Passes (sheetTests room sheet) → SheetPassed
   unfolding sheetTests
   tests-passed p =
-      let t7 = then-iff _ _ .0 p in
-      let t6 = then-iff _ _ .0 (t7 .0) in
-      let t5 = then-iff _ _ .0 (t6 .0) in
-      let t4 = then-iff _ _ .0 (t5 .0) in
-      let t3 = then-iff _ _ .0 (t4 .0) in
-      let t2 = then-iff _ _ .0 (t3 .0) in
-      let far : distanceOf sheet ≡ 4 * (n * n) = eqb-true _ _ (not-false _ (failsIf-iff _ _ _ .0 (t5 .1))) in
-      let long = has-trailer _ sheet (failsIf-iff _ _ _ .0 (t2 .1)) in
+      let t16 = then-iff _ _ .0 p in
+      let t21 = then-iff _ _ .0 (t16 .0) in
+      let t15 = then-iff _ _ .0 (t21 .0) in
+      let ends = trailed-passed sheet (t15 .0) in
+      let points = pointed-passed sheet (ends .0) (t15 .1) in
       record {
-        ended = long;
-        small = ltb-false sheetSide n (failsIf-iff _ _ _ .0 (t4 .1));
-        distance = far;
-        inside = omega (arith, ltb-false (length sheet - 12) (distanceOf sheet) (failsIf-iff _ _ _ .0 (t6 .1)), long);
-        roomy = ltb-false room (slipLength n) (failsIf-iff _ _ _ .0 (t7 .1));
+        ended = ends .0;
+        small = ends .1;
+        distance = points .0;
+        inside = omega (arith, points .0, points .1);
+        roomy = ltb-false room (slipLength n) (failsIf-iff _ _ _ .0 (t16 .1));
       }
 
   -- The costs are where the side says.

@@ -32,6 +32,8 @@
  *   15  distance exceeds the bytes before the trailer               0
  *   16  slip room under 18n+20                                      0
  *   17  sheet over 65,536 bytes                                     0
+ *   21  a note (all bytes before the first cost) over 4,096 bytes,  the first such position, 4,096 for a longer note
+ *       or with a byte outside 32 to 126                            whose first 4,096 bytes are good
  * Lists are numbered 1 columns by row, 2 rows by column, 3 row prices, 4 column prices. A refusal has total 0
  * and counts 0 and changes nothing that was lent. With 9 and 10 comes the slack of the place named, its cost minus
  * both its prices: below 0 with a 9, above 0 with a 10. All others have slack 0. */
@@ -64,7 +66,8 @@ enum {
     BRISTLEFROST_DISTANCE_WRONG = 14,
     BRISTLEFROST_DISTANCE_PAST_BYTES = 15,
     BRISTLEFROST_SLIP_ROOM_SHORT = 16,
-    BRISTLEFROST_SHEET_OVER = 17
+    BRISTLEFROST_SHEET_OVER = 17,
+    BRISTLEFROST_NOTE_UNFIT = 21
 };
 
 /* The solver's answer: the refusal, the least total, and the six counts. */

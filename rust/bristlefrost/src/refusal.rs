@@ -84,6 +84,11 @@ pub enum Refusal {
     SlipRoomShort,
     /// 17: the sheet is over 65,536 bytes.
     SheetOver,
+    /// 21: the sheet's note, all bytes before its first cost, is over 4,096 bytes or has one outside 32 to 126.
+    NoteUnfit {
+        /// The first such position, 4,096 for a longer note whose first 4,096 bytes are good.
+        place: u64,
+    },
     /// A number without a meaning, which the archive never answers.
     Other {
         /// The number.
@@ -120,12 +125,13 @@ impl Refusal {
             (15, 0) => Refusal::DistancePastBytes,
             (16, 0) => Refusal::SlipRoomShort,
             (17, 0) => Refusal::SheetOver,
+            (21, _) => Refusal::NoteUnfit { place },
             _ => Refusal::Other { number, place },
         };
         Err(refusal)
     }
 
-    /// The refusal's number, 1 to 17.
+    /// The refusal's number.
     pub fn number(&self) -> u8 {
         match *self {
             Refusal::SideOver => 1,
@@ -145,6 +151,7 @@ impl Refusal {
             Refusal::DistancePastBytes => 15,
             Refusal::SlipRoomShort => 16,
             Refusal::SheetOver => 17,
+            Refusal::NoteUnfit { .. } => 21,
             Refusal::Other { number, .. } => number,
         }
     }
@@ -157,6 +164,7 @@ impl Refusal {
             Refusal::CostOutside { place }
             | Refusal::PriceOutside { place }
             | Refusal::PricesOverCost { place, .. }
+            | Refusal::NoteUnfit { place }
             | Refusal::Other { place, .. } => place,
             Refusal::ColumnOutside { row } | Refusal::RowNotNamed { row } | Refusal::PricesNotCost { row, .. } => {
                 row
@@ -194,6 +202,7 @@ impl fmt::Display for Refusal {
             Refusal::DistancePastBytes => "the sheet's distance exceeds the bytes before the trailer",
             Refusal::SlipRoomShort => "the slip's room is under 18 * side + 20 bytes",
             Refusal::SheetOver => "the sheet is over 65,536 bytes",
+            Refusal::NoteUnfit { .. } => "the sheet's note is over 4,096 bytes or has a byte outside 32 to 126",
             Refusal::Other { .. } => "a number without a meaning",
         };
         write!(out, "refused {} place {}: {meaning}", self.number(), self.place())?;

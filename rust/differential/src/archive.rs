@@ -8,7 +8,7 @@ use bristlefrost::{face, Lent, Paired, Refusal};
 use crate::checks::{self, expect};
 use crate::nights::Random;
 use crate::rules::{self, Answer};
-use crate::{refusals, sheets, K};
+use crate::{refusals, sheets, torn, K};
 
 /// How often each entry answered each number; 0 is acceptance.
 #[derive(Default)]
@@ -24,7 +24,7 @@ impl Met {
         ("solve", &[0, 1, 2, 3, 4, 5]),
         ("check", &[0, 1, 2, 3, 5, 6, 7, 8, 9, 10]),
         ("cost", &[0, 1, 2, 3, 5, 6]),
-        ("sheet", &[0, 17, 11, 12, 13, 14, 15, 16, 5]),
+        ("sheet", &[0, 17, 11, 12, 13, 14, 15, 21, 16, 5]),
     ];
 
     /// One line for each entry; an error where a number was never met.
@@ -266,17 +266,24 @@ pub fn night(random: &mut Random, met: &mut Met, n: usize, costs: &[i32], answer
     checks::cost(n, costs, &listed)?;
 
     if n <= 64 {
-        let note: Vec<u8> = (0..random.below(40)).map(|_| random.number() as u8).collect();
+        let length = random.below(40);
+        let note = torn::note(random, length);
         let room = 18 * n + 20 + random.below(4);
-        met.note("sheet", sheet(random, &sheets::sheet(&note, n, costs), room)?);
-        paper(&note, n, costs, answer)?;
+        let code = sheet(random, &sheets::sheet(&note, n, costs), room)?;
+        met.note("sheet", code);
+        paper(&note, n, costs, answer, code)?;
     }
     Ok(())
 }
 
-/// A night through the wrapper's sheet and slip: the sheet's bytes, the slip, and that the slip is accepted.
-fn paper(note: &[u8], n: usize, costs: &[i32], answer: &Answer) -> Result<(), String> {
+/// A night through the wrapper's sheet and slip: the sheet's bytes, the slip, and that the slip is accepted; or that the
+/// wrapper makes no sheet with a note that the archive refused.
+fn paper(note: &[u8], n: usize, costs: &[i32], answer: &Answer, code: u64) -> Result<(), String> {
     let built = bristlefrost::Sheet::new(n, costs).and_then(|sheet| sheet.noted(note));
+    let unfit = |place: u64| Err(bristlefrost::Unfit::Note { place: place as usize });
+    if code % 256 == 21 {
+        return expect("the wrapper's sheet with such a note", &built, &unfit(code / 256));
+    }
     let built = built.map_err(|unfit| unfit.to_string())?;
     expect("the wrapper's sheet's bytes", &built.bytes(), &sheets::sheet(note, n, costs))?;
     let slip = bristlefrost::pair(&built).map_err(|refusal| refusal.to_string())?;
@@ -335,9 +342,9 @@ pub fn limits(random: &mut Random) -> Result<(), String> {
         )?;
     }
     let costs = [1, 5, 6, 2];
-    for (length, code) in [(65_536, 0), (65_537, 17)] {
-        let bytes = sheets::sheet(&vec![1; length - 28], 2, &costs);
-        limit("a sheet's length at its limit", sheet(random, &bytes, 56)?, code)?;
+    for (length, code) in [(4096, 0), (4097, 21 + 256 * 4096), (65_508, 21 + 256 * 4096), (65_509, 17)] {
+        let bytes = sheets::sheet(&vec![b'x'; length], 2, &costs);
+        limit("a note's and a sheet's length at their limits", sheet(random, &bytes, 56)?, code)?;
     }
     limit("an empty sheet", sheet(random, &[], 100)?, 11)?;
     limit("a sheet of side 0", sheet(random, &sheets::sheet(&[], 0, &[]), 20)?, 0)?;

@@ -108,7 +108,7 @@ pub struct Sheet {
     pub costs: Vec<i32>,
 }
 
-/// A sheet: 17, 11, 12, 13, 14, 15, 16, 5.
+/// A sheet: 17, 11, 12, 13, 14, 15, 21, 16, 5.
 pub fn sheet(bytes: &[u8], slip_room: usize) -> Result<Sheet, Refused> {
     refuse(bytes.len() > 65_536, 17, 0)?;
     refuse(bytes.len() < 12, 11, 0)?;
@@ -121,6 +121,8 @@ pub fn sheet(bytes: &[u8], slip_room: usize) -> Result<Sheet, Refused> {
     refuse(n > 64, 13, 0)?;
     refuse(distance != 4 * n * n, 14, 0)?;
     refuse(distance > before.len(), 15, 0)?;
+    let note = &before[..before.len() - distance];
+    refuse_first(21, note.iter().enumerate().map(|(k, byte)| k >= 4096 || !(32..=126).contains(byte)))?;
     refuse(slip_room < 18 * n + 20, 16, 0)?;
     let bytes_of_costs = before[before.len() - distance..].chunks(4);
     let costs: Vec<i32> = bytes_of_costs.map(|four| i32::from_le_bytes(four.try_into().unwrap())).collect();

@@ -6,8 +6,14 @@ use crate::damage::Night;
 use crate::nights::Random;
 use crate::sheets;
 
-fn bytes(random: &mut Random, count: usize) -> Vec<u8> {
-    (0..count).map(|_| random.number() as u8).collect()
+/// A note for people; one in eight has some other byte.
+pub fn note(random: &mut Random, count: usize) -> Vec<u8> {
+    let mut note: Vec<u8> = (0..count).map(|_| random.between(32, 126) as u8).collect();
+    if count > 0 && random.below(8) == 0 {
+        let place = random.below(count);
+        note[place] = random.pick(&[0, 9, 10, 13, 31, 127, 128, 255]) as u8;
+    }
+    note
 }
 
 /// Compares one sheet; a failure names the sheet's end.
@@ -20,7 +26,7 @@ fn compare(random: &mut Random, met: &mut Met, sheet: &[u8], room: usize) -> Res
     Ok(())
 }
 
-/// One sheet of side 3 with notes of every length to 400, cut off at every place from either end, with every bit
+/// One sheet of side 3 with notes of every length to 400 and about 4,096, with every byte at either end of a note, cut off at every place from either end, with every bit
 /// turned, with distances about the right one, and for slip rooms of every length to past its own.
 pub fn every(random: &mut Random, met: &mut Met) -> Result<usize, String> {
     let costs = [3, 1, 0, 0, 0, 2, 4, 1, 0];
@@ -30,11 +36,21 @@ pub fn every(random: &mut Random, met: &mut Met) -> Result<usize, String> {
         sheets += 1;
         compare(random, met, sheet, room)
     };
-    for length in 0..=400 {
-        let note = bytes(random, length);
+    for length in (0..=400).chain(4090..=4100) {
+        let note = note(random, length);
         test(random, &sheets::sheet(&note, 3, &costs), room)?;
+        test(random, &sheets::sheet(&vec![b'~'; length], 3, &costs), room)?;
     }
-    let note = bytes(random, 9);
+    for byte in 0..=255 {
+        for length in [1, 2, 4096, 4097] {
+            for place in [0, length - 1] {
+                let mut note = vec![b' '; length];
+                note[place] = byte;
+                test(random, &sheets::sheet(&note, 3, &costs), room)?;
+            }
+        }
+    }
+    let note = note(random, 9);
     let whole = sheets::sheet(&note, 3, &costs);
     for cut in 0..=whole.len() {
         test(random, &whole[cut..], room)?;
@@ -88,9 +104,9 @@ fn damage(random: &mut Random, sheet: &mut Vec<u8>) {
 pub fn one(random: &mut Random, met: &mut Met) -> Result<(), String> {
     let n = if random.below(16) == 0 { random.below(65) } else { random.below(4) + random.below(4) };
     let night = Night::of_side(random, n);
-    let length = if random.below(8) == 0 { 400 } else { 8 };
-    let length = random.below(length + 1);
-    let note = bytes(random, length);
+    let longest = random.pick(&[8, 8, 8, 8, 8, 8, 400, 5000]) as usize;
+    let length = random.below(longest + 1);
+    let note = note(random, length);
     let mut sheet = sheets::sheet(&note, n, &night.costs);
     for _ in 0..random.below(4) {
         damage(random, &mut sheet);

@@ -1,6 +1,6 @@
 //! Sheets and slips, for whoever makes a sheet or reads a slip. Nothing is paired here.
 //!
-//! A sheet is any note, the costs in row order (4 bytes each) and a trailer of 12 bytes that points back to the first
+//! A sheet is a note for people, the costs in row order (4 bytes each) and a trailer of 12 bytes that points back to the first
 //! cost. A slip is the columns by row (2 bytes each), row prices and column prices (8 each), the total (8) and such a
 //! trailer. All are little-endian.
 
@@ -16,6 +16,9 @@ pub const BARRED: i32 = 1_000_000_000;
 
 /// The most bytes of a sheet.
 pub const LONGEST_SHEET: usize = 65_536;
+
+/// The most bytes of a note.
+pub const LONGEST_NOTE: usize = 4096;
 
 const TRAILER: usize = 12;
 const EDITION: u16 = 1;
@@ -59,7 +62,12 @@ pub enum Unfit {
         /// The first such, row * side + column.
         place: usize,
     },
-    /// The sheet has over 65,536 bytes, its note included.
+    /// The note is over 4,096 bytes or has a byte outside 32 to 126.
+    Note {
+        /// The first such position, 4,096 for a longer note whose first 4,096 bytes are good.
+        place: usize,
+    },
+    /// The bytes are over 65,536.
     Long,
     /// The bytes are not those of a sheet: what is wrong with them.
     Sheet(&'static str),
@@ -78,6 +86,9 @@ impl fmt::Display for Unfit {
             Unfit::NotSquare { side, costs } => write!(f, "{side} rows want {} costs, not {costs}", side * side),
             Unfit::Side(side) => write!(f, "side {side} is over {LARGEST_SIDE}"),
             Unfit::Cost { place } => write!(f, "the cost at place {place} is outside -{BARRED}..{BARRED}"),
+            Unfit::Note { place } => {
+                write!(f, "place {place}: the note is over {LONGEST_NOTE} bytes or has a byte outside 32 to 126")
+            }
             Unfit::Long => write!(f, "a sheet of over {LONGEST_SHEET} bytes"),
             Unfit::Sheet(what) => write!(f, "not a sheet: {what}"),
             Unfit::Slip(what) => write!(f, "not a slip: {what}"),
@@ -150,7 +161,7 @@ fn row(line: usize, text: &str) -> Result<Vec<i32>, Unfit> {
     words.map(cost).collect()
 }
 
-/// A night to be paired: its costs and a note that nobody reads.
+/// A night to be paired: its costs and a note for people.
 #[derive(Clone, Debug, PartialEq, Eq)]
 pub struct Sheet {
     side: usize,
@@ -190,27 +201,29 @@ impl Sheet {
         &self.costs
     }
 
-    /// The same sheet with this note in front.
+    /// The same sheet with this note in front: at most 4,096 bytes, each in 32 to 126.
     pub fn noted(self, note: &[u8]) -> Result<Sheet, Unfit> {
-        if note.len() + 4 * self.costs.len() + TRAILER > LONGEST_SHEET {
-            return Err(Unfit::Long);
+        let unfit = |(place, byte): (usize, &u8)| place >= LONGEST_NOTE || !(32..=126).contains(byte);
+        if let Some(place) = note.iter().enumerate().position(unfit) {
+            return Err(Unfit::Note { place });
         }
         Ok(Sheet { note: note.to_vec(), ..self })
     }
 
     /// A sheet from a table: a line for each row, its costs apart by blanks or by a comma, `barred` for a pair that
-    /// must not be made. A line that begins with '#' goes into the note; an empty line is passed over.
+    /// must not be made. Lines that begin with '#' make the note, with a blank between them; an empty line is passed
+    /// over.
     ///
     /// ```
     /// let sheet = paper::Sheet::from_table("# two guests\n1, barred\n-3 2\n")?;
-    /// assert_eq!(sheet, paper::Sheet::new(2, &[1, paper::BARRED, -3, 2])?.noted(b"# two guests\n")?);
+    /// assert_eq!(sheet, paper::Sheet::new(2, &[1, paper::BARRED, -3, 2])?.noted(b"# two guests")?);
     /// # Ok::<(), paper::Unfit>(())
     /// ```
     pub fn from_table(table: &str) -> Result<Sheet, Unfit> {
-        let (mut rows, mut costs, mut note) = (Vec::new(), Vec::new(), String::new());
+        let (mut rows, mut costs, mut note) = (Vec::new(), Vec::new(), Vec::new());
         for (line, text) in (1..).zip(table.lines()) {
             if text.starts_with('#') {
-                note = note + text + "\n";
+                note.push(text);
             } else if !text.trim().is_empty() {
                 let row = row(line, text)?;
                 rows.push((line, row.len()));
@@ -221,7 +234,7 @@ impl Sheet {
         if let Some(&(line, costs)) = rows.iter().find(|(_, costs)| *costs != side) {
             return Err(Unfit::Row { line, costs, side });
         }
-        Sheet::new(side, &costs)?.noted(note.as_bytes())
+        Sheet::new(side, &costs)?.noted(note.join(" ").as_bytes())
     }
 
     /// The sheet's bytes.

@@ -95,8 +95,12 @@ fn unfit_tables_and_slips_are_told() {
     assert_eq!(Sheet::from_table("1 2\n3 x"), Err(Unfit::Word { line: 2, word: String::from("x") }));
     assert_eq!(Sheet::from_table("1000000001"), Err(Unfit::Cost { place: 0 }));
     assert_eq!(Sheet::new(65, &[0; 65 * 65]), Err(Unfit::Side(65)));
-    assert!(Sheet::new(1, &[7]).unwrap().noted(&[0; 65_520]).is_ok());
-    assert_eq!(Sheet::new(1, &[7]).unwrap().noted(&[0; 65_521]), Err(Unfit::Long));
+    let one = || Sheet::new(1, &[7]).unwrap();
+    assert!(one().noted(&[b'~'; 4096]).is_ok());
+    assert_eq!(one().noted(&[b' '; 4097]), Err(Unfit::Note { place: 4096 }));
+    assert_eq!(one().noted(b"card\n"), Err(Unfit::Note { place: 4 }));
+    assert_eq!(Sheet::from_table("# caf\u{e9}\n1\n"), Err(Unfit::Note { place: 5 }));
+    assert_eq!(Sheet::read(&vec![b'x'; 65_537]), Err(Unfit::Long));
     assert_eq!(Slip::read(&[0; 11]), Err(Unfit::Slip("under 12 bytes")));
     let empty = [0, 0, 0, 0, 0, 0, 0, 0, 8, 0, 0, 0, 0, 0, 1, 0, 0x53, 0x4C, 0x49, 0x50];
     assert_eq!(Slip::read(&empty).map(|slip| slip.total), Ok(0));
