@@ -1,5 +1,6 @@
 #!/bin/sh
-# Makes each sample's sheet: from its table by the program paper, and what paper refuses to make by hand.
+# Makes each sample's sheet: from its table by the program paper, from its lists of references by the program slip, and what paper refuses to make by
+# hand.
 set -eu
 cd "$(dirname "$0")"
 trap 'rm -f new' EXIT
@@ -23,6 +24,10 @@ for table in *.table; do
     (cd ../rust && cargo run --offline --quiet -p paper -- sheet) <"$table" >new
     mv new "${table%.table}.sheet"
 done
+
+# The scores are the archive's: `rt staticlib face` first, or its directory in BRISTLEFROST_LIB.
+(cd ../rust && cargo run --offline --quiet -p bristlefrost -- score ../samples/look-alikes.firsts ../samples/look-alikes.seconds) |
+    keep look-alikes.sheet
 
 # A trailer is the distance (4 bytes), the side (2), the edition (2) and MTCH.
 { head -c -6 one.sheet; printf '\002\000MTCH'; } | keep edition-2.sheet

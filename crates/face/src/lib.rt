@@ -3,6 +3,8 @@ ghost use mathlib.Core.Path.{_≡_};
 ghost use Rattle.matrix.specs.Cost.{cost};
 ghost use Rattle.matrix.specs.Answers.{valuesOf};
 ghost use Rattle.matrix.specs.Asked.{TellableIn};
+ghost use Rattle.score.specs.Score.{score};
+ghost use Rattle.score.specs.ScoreSheet.{Filled, scoreSheet};
 ghost use Rattle.checker.specs.Check.{check};
 ghost use Rattle.lapjv.specs.Solve.{lentOf, solve};
 ghost use Rattle.lapjv.specs.Values.{solvedValues, toldOf};
@@ -12,7 +14,7 @@ ghost use Rattle.face.specs.Face.{totalled, checked, solution, Handed, h
 use lapjv::Solved;
 use matrix::Answer;
 
-// What `cost` answers: a total, or a refusal and 0. The refusal is 0 or number + 256*place.
+// What `cost` and `score` answer: a total, or a refusal and 0. The refusal is 0 or number + 256*place.
 #[repr(C)]
 pub struct Totalled {
     pub refusal: u64,
@@ -40,7 +42,7 @@ pub struct Solution {
     pub columns_scanned: u64,
 }
 
-// What a C caller gets of the answer of `cost`.
+// What a C caller gets of the answer of `cost` or `score`.
 fn told(answer: Answer) -> Totalled
     requires { ⌜ TellableIn answer ⌝ }
     ensures { λ r. ⌜ r ≡ totalled (valuesOf answer) ⌝ }
@@ -160,4 +162,20 @@ pub extern "C" fn bristlefrost_sheet(sheet: &[u8], slip: &mut [u8]) -> u64
     ensures { λ r. ⌜ _≡_ {A = Delivery} (record { number = r; slip = now (slip .exit) }) (pair (now (sheet .entry)) (now (slip .entry))) ⌝ }
 {
     sheet::pair(sheet, slip)
+}
+
+// The score of two references.
+#[no_mangle]
+pub extern "C" fn bristlefrost_score(first: &[u8], second: &[u8]) -> Totalled
+    ensures { λ r. ⌜ r ≡ totalled (valuesOf (score (now (first .entry)) (now (second .entry)))) ⌝ }
+{
+    told(score::score(first, second))
+}
+
+// Two lists of references, and the room of the sheet of their scores: 0, or number + 256*place.
+#[no_mangle]
+pub extern "C" fn bristlefrost_score_sheet(firsts: &[u8], seconds: &[u8], sheet: &mut [u8]) -> u64
+    ensures { λ r. ⌜ _≡_ {A = Filled} (record { number = r; sheet = now (sheet .exit) }) (scoreSheet (now (firsts .entry)) (now (seconds .entry)) (now (sheet .entry))) ⌝ }
+{
+    score::score_sheet(firsts, seconds, sheet)
 }

@@ -9,7 +9,7 @@ use Rattle.lists.specs.Sums.{sum}
 use Rattle.layout.specs.Values.{bytesOf, valueOf}
 use Rattle.layout.specs.Fields.{fields}
 use Rattle.layout.specs.Sheets.{sheetOf}
-use Rattle.matrix.specs.Limits.{K}
+use Rattle.matrix.specs.Limits.{sheetSide, K}
 use Rattle.matrix.specs.Verdicts.{_then_, failsBy, failsAtBy}
 use Rattle.rules.specs.Lowest.{twoLowest, lowest, leastBut}
 use Rattle.rules.specs.Block.{block}
@@ -18,7 +18,7 @@ use Rattle.rules.specs.Rows.{looks, rowReduction}
 use Rattle.rules.specs.Search.{scan, lastFree, searchBlocks, search, newPrices}
 use Rattle.rules.specs.Augmentation.{flips, augments, augmentation}
 use Rattle.rules.specs.Run.{stages, run}
-use Rattle.sheet.specs.Reading.{sheetSide, sheetMost, noteMost, sheetTests, read}
+use Rattle.sheet.specs.Reading.{sheetMost, noteMost, sheetTests, read}
 use Rattle.lines.specs.Decimal.{digits, decimal, signedDecimal}
 use Rattle.lines.specs.Lines.{acceptedLine, rowLine, rowLines, refusedLine, output}
 

@@ -8,6 +8,7 @@ use lib.IntN.{ℤ}
 use lib.ListN.{length, take, drop}
 use lib.Seq.{take-at}
 use Rattle.matrix.specs.declared.Refusal.{Refusal}
+use Rattle.matrix.proofs.SmallLimits.{sheetSide-within}
 use Rattle.lapjv.specs.Answers.{answer}
 use Rattle.lapjv.proofs.Owed.{answer-owes}
 use Rattle.sheet.specs.declared.Reply.the-variants.{Accepted, Refused}
@@ -15,7 +16,6 @@ use Rattle.sheet.specs.declared.State.{State}
 use Rattle.sheet.specs.declared.Settled.{Settled}
 use Rattle.sheet.specs.Reading.{Read, refused, night}
 use Rattle.sheet.specs.Settle.{fresh, settledAs}
-use Rattle.sheet.proofs.Limits.{sheetSide-within}
 use Rattle.sheet.proofs.Pairing.{ReadRight}
 use Rattle.lines.specs.Lines.{acceptedLine, rowLines, refusedLine, linesAs}
 use Rattle.lines.specs.Asked.{Rows}

@@ -8,11 +8,11 @@ use lib.ListN.{length, drop}
 use Rattle.lists.specs.Permutations.{at}
 use Rattle.layout.specs.Slips.{slipLength}
 use Rattle.assignment.specs.Pairings.{signedAt}
-use Rattle.matrix.specs.Limits.{K}
+use Rattle.matrix.specs.Limits.{sheetSide, K}
 use Rattle.matrix.specs.Refusals.{numberOf, placeOf}
 use Rattle.matrix.specs.declared.Refusal.{Refusal}
 use Rattle.lapjv.specs.Answers.{answer}
-use Rattle.sheet.specs.Reading.{sheetSide, Read, refused, night, read}
+use Rattle.sheet.specs.Reading.{Read, refused, night, read}
 use Rattle.lines.specs.Decimal.{decimal, signedDecimal}
 
 -- "accepted "

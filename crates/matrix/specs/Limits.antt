@@ -1,9 +1,13 @@
--- The limits. Laws cite side and K by name; proofs/SmallLimits.antt, the function that answers each, and computed examples open them.
+-- The limits. Laws cite them by name; proofs/SmallLimits.antt, the function that answers each, and computed examples open them.
 use Prim.Native.Nat.{ℕ, _^_}
 
 -- "Side n: 0 to" 4,096.
 unfoldable pub side : ℕ
 side = 4096
+
+-- "on a sheet, 0 to 64."
+unfoldable pub sheetSide : ℕ
+sheetSide = 64
 
 -- "K = 1,000,000,000. Costs are 32-bit signed, in -K..K".
 unfoldable pub K : ℕ

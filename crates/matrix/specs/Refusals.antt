@@ -65,13 +65,21 @@ DistanceWrong = 14
 abbrev pub DistancePastBytes : ℕ
 DistancePastBytes = 15
 
--- "slip room under 18n+20"
+-- "slip room under 18n+20", "sheet room under 4*n*n + 12"
 abbrev pub SlipRoomShort : ℕ
 SlipRoomShort = 16
 
 -- "sheet over 65,536 bytes"
 abbrev pub SheetOver : ℕ
 SheetOver = 17
+
+-- "A wrong length", "Lists of unequal length, or not of whole references"
+abbrev pub ReferenceLength : ℕ
+ReferenceLength = 18
+
+-- "a wrong character"
+abbrev pub CharacterUnknown : ℕ
+CharacterUnknown = 19
 
 -- "a sheet whose note is over 4,096 bytes or holds a byte outside 32 to 126"
 abbrev pub NoteUnfit : ℕ

@@ -2,13 +2,20 @@
 ghost use mathlib.Core.Path.{_≡_};
 ghost use Prim.Native.Nat.{_*_};
 ghost use lib.IntN.{pos};
-ghost use Rattle.matrix.specs.Limits.{side, K};
+ghost use Rattle.matrix.specs.Limits.{side, sheetSide, K};
 
 // The number once more, beside specs/Limits.antt: code cannot read a definition. The promise holds the two together.
 pub fn side() -> usize
     ensures { λ r. ⌜ r ≡ side ⌝ }
 {
     4096
+}
+
+// As `side`.
+pub fn sheet_side() -> usize
+    ensures { λ r. ⌜ r ≡ sheetSide ⌝ }
+{
+    64
 }
 
 // As `side`.

@@ -39,6 +39,10 @@ pub const SLIP_ROOM_SHORT: u64 = 16;
 
 pub const SHEET_OVER: u64 = 17;
 
+pub const REFERENCE_LENGTH: u64 = 18;
+
+pub const CHARACTER_UNKNOWN: u64 = 19;
+
 pub const NOTE_UNFIT: u64 = 21;
 
 // The scope's number of a refusal.

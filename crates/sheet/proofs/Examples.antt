@@ -12,7 +12,7 @@ use Rattle.layout.specs.Fields.{fields}
 use Rattle.layout.specs.Trailers.{sheetMark, trailer}
 use Rattle.layout.specs.Sheets.{sheetOf}
 use Rattle.layout.specs.Slips.{slipOf}
-use Rattle.matrix.specs.Limits.{K}
+use Rattle.matrix.specs.Limits.{sheetSide, K}
 use Rattle.matrix.specs.Verdicts.{_then_, failsBy, failsAtBy}
 use Rattle.rules.specs.Lowest.{twoLowest, lowest, leastBut}
 use Rattle.rules.specs.Block.{block}
@@ -21,7 +21,7 @@ use Rattle.rules.specs.Rows.{looks, rowReduction}
 use Rattle.rules.specs.Search.{scan, lastFree, searchBlocks, search, newPrices}
 use Rattle.rules.specs.Augmentation.{flips, augments, augmentation}
 use Rattle.rules.specs.Run.{stages, run}
-use Rattle.sheet.specs.Reading.{sheetSide, sheetMost, noteMost, sheetTests, night, read}
+use Rattle.sheet.specs.Reading.{sheetMost, noteMost, sheetTests, night, read}
 use Rattle.sheet.specs.Settle.{pair}
 
 -- "Side 1, cost 7, no note, is `07 00 00 00 04 00 00 00 01 00 01 00 4D 54 43 48`."

@@ -1,13 +1,7 @@
--- How large a sheet's limits are: all that proofs need of their values. Assumes nothing.
+-- How long a sheet and its note may be: all that proofs need of it. Assumes nothing.
 use Prim.Native.Nat.{_+_, _^_, _≤_}
 use native.Mathlib.Omega.{arith}
-use Rattle.matrix.specs.Limits.{side}
-use Rattle.sheet.specs.Reading.{sheetSide, sheetMost, noteMost}
-
--- A sheet's side is one for which the state has room.
-pub sheetSide-small : sheetSide ≤ 64
-unfolding sheetSide
-sheetSide-small = omega arith
+use Rattle.sheet.specs.Reading.{sheetMost, noteMost}
 
 -- A place on a sheet is told by few bytes.
 pub sheetMost-small : sheetMost ≤ 2 ^ 16
@@ -18,8 +12,3 @@ sheetMost-small = omega arith
 pub sheetMost-large : noteMost + 16384 + 12 ≤ sheetMost
 unfolding sheetMost noteMost
 sheetMost-large = omega arith
-
--- The solver takes it.
-pub sheetSide-within : sheetSide ≤ side
-unfolding sheetSide side
-sheetSide-within = omega arith

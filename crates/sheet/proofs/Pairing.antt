@@ -14,7 +14,7 @@ use Rattle.layout.specs.Trailers.{sideOf}
 use Rattle.layout.specs.Slips.{slipOf, slipLength}
 use Rattle.layout.proofs.Fields.{length-fields}
 use Rattle.assignment.specs.Pairings.{signedAt}
-use Rattle.matrix.specs.Limits.{K}
+use Rattle.matrix.specs.Limits.{sheetSide, K}
 use Rattle.matrix.specs.Refusals.{codeOf}
 use Rattle.matrix.specs.Asked.{Tellable}
 use Rattle.matrix.specs.Verdicts.{Passes}
@@ -22,6 +22,7 @@ use Rattle.matrix.specs.Tests.{costsWithin}
 use Rattle.matrix.specs.declared.Verdict.{Verdict}
 use Rattle.matrix.specs.declared.Verdict.the-variants.{Passed, Fails}
 use Rattle.matrix.specs.declared.Refusal.{Refusal}
+use Rattle.matrix.proofs.SmallLimits.{sheetSide-small}
 use Rattle.matrix.proofs.Verdicts as verdicts
 use Rattle.matrix.proofs.Verdicts.{then-iff, then-small, failsIf-small, failsAt-small}
 use Rattle.matrix.proofs.Passed.{costs-within}
@@ -29,9 +30,9 @@ use Rattle.lapjv.specs.Answers.{answer}
 use Rattle.sheet.specs.declared.State.{State}
 use Rattle.sheet.specs.declared.Reply.the-variants.{Accepted, Refused}
 use Rattle.sheet.specs.declared.Settled.{Settled}
-use Rattle.sheet.specs.Reading.{sheetSide, sheetMost, costsOf, trailed, pointed, unfit, noteFit, sheetTests, Read, refused, night, nightIf, readIf, read}
+use Rattle.sheet.specs.Reading.{sheetMost, costsOf, trailed, pointed, unfit, noteFit, sheetTests, Read, refused, night, nightIf, readIf, read}
 use Rattle.sheet.specs.Settle.{fresh, settledAs, Delivery, pairedAs}
-use Rattle.sheet.proofs.Limits.{sheetSide-small, sheetMost-small}
+use Rattle.sheet.proofs.Limits.{sheetMost-small}
 use Rattle.sheet.proofs.Passing.{trailed-passed, tests-passed, costs-found}
 
 -- ---- what was read

@@ -9,9 +9,10 @@ use lib.ListN.{length}
 use Rattle.layout.specs.Trailers.{distanceOf, sideOf, unmarked}
 use Rattle.layout.specs.Sheets.{costsAt}
 use Rattle.layout.specs.Slips.{slipLength}
+use Rattle.matrix.specs.Limits.{sheetSide}
 use Rattle.matrix.specs.Verdicts.{Passes}
 use Rattle.matrix.proofs.Verdicts.{then-iff, failsIf-iff}
-use Rattle.sheet.specs.Reading.{sheetSide, sheetMost, costsOf, trailed, pointed, sheetTests}
+use Rattle.sheet.specs.Reading.{sheetMost, costsOf, trailed, pointed, sheetTests}
 
 -- A sheet that is not refused by 11 has a trailer.
 pub has-trailer : (mark : ℕ) (sheet : List ℕ) → unmarked mark sheet ≡ false → 12 ≤ length sheet

@@ -17,13 +17,13 @@ use Rattle.layout.specs.Sheets.{sheetOf, costsAt}
 use Rattle.layout.specs.Slips.{slipLength}
 use Rattle.layout.proofs.Sheets.{sheet-length, sheet-distance, sheet-side, sheet-edition, sheet-mark, sheet-costs}
 use Rattle.assignment.specs.Pairings.{signedAt}
-use Rattle.matrix.specs.Limits.{K}
+use Rattle.matrix.specs.Limits.{sheetSide, K}
 use Rattle.matrix.specs.Verdicts.{Passes}
-use Rattle.matrix.proofs.SmallLimits.{K-small}
+use Rattle.matrix.proofs.SmallLimits.{sheetSide-small, K-small}
 use Rattle.matrix.proofs.Verdicts.{then-iff, failsIf-iff, failsAt-iff}
 use Rattle.matrix.proofs.Passed.{costs-within}
-use Rattle.sheet.specs.Reading.{sheetSide, sheetMost, noteMost, costsOf, noteLength, unprintable, unfit, trailed, pointed, noteFit, sheetTests, nightIf, readIf, costsTested, night, read, Built}
-use Rattle.sheet.proofs.Limits.{sheetSide-small, sheetMost-large}
+use Rattle.sheet.specs.Reading.{sheetMost, noteMost, costsOf, noteLength, unprintable, unfit, trailed, pointed, noteFit, sheetTests, nightIf, readIf, costsTested, night, read, Built}
+use Rattle.sheet.proofs.Limits.{sheetMost-large}
 
 -- A cost in -K..K fits four bytes.
 fits-four : (z : ℤ) → Within K z → mag z < 256 ^ 4 / 2

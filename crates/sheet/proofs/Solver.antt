@@ -12,20 +12,21 @@ use Rattle.layout.specs.Trailers.{sideOf}
 use Rattle.layout.specs.Sheets.{costsAt}
 use Rattle.layout.proofs.Fields.{length-fields}
 use Rattle.layout.proofs.Stores.{sets-front}
+use Rattle.matrix.specs.Limits.{sheetSide}
 use Rattle.matrix.specs.Verdicts.{Passes}
 use Rattle.matrix.specs.Tests.{costsWithin}
 use Rattle.matrix.specs.declared.Verdict.{Verdict}
 use Rattle.matrix.specs.declared.Verdict.the-variants.{Passed, Fails}
+use Rattle.matrix.proofs.SmallLimits.{sheetSide-small, sheetSide-within}
 use Rattle.matrix.proofs.Verdicts.{then-iff, passed-then}
 use Rattle.matrix.proofs.Passed.{shaped-iff, rooms-long}
 use Rattle.lapjv.specs.Solve as lapjv
 use Rattle.lapjv.specs.Solve.{Outcome, solve}
 use Rattle.sheet.specs.declared.State.{State}
 use Rattle.sheet.specs.declared.Settled.{Settled}
-use Rattle.sheet.specs.Reading.{sheetSide, sheetTests, nightIf, readIf, costsTested, read}
+use Rattle.sheet.specs.Reading.{sheetTests, nightIf, readIf, costsTested, read}
 use Rattle.sheet.specs.Settle.{fresh, lent, stateOf, settledAs, settled}
 use Rattle.sheet.specs.Steps.{readInto, settledBy, solvedIn}
-use Rattle.sheet.proofs.Limits.{sheetSide-small, sheetSide-within}
 use Rattle.sheet.proofs.Passing.{tests-passed, costs-found}
 
 module _ (n : ℕ) (costs : List ℤ) (size : length costs ≡ n * n) (small : n ≤ sheetSide) where

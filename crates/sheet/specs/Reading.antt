@@ -13,17 +13,13 @@ use Rattle.layout.specs.Trailers.{sheetMark, distanceOf, sideOf, editionOf, unm
 use Rattle.layout.specs.Sheets.{sheetOf, costsAt}
 use Rattle.layout.specs.Slips.{slipLength}
 use Rattle.assignment.specs.Pairings.{signedAt}
-use Rattle.matrix.specs.Limits.{K}
+use Rattle.matrix.specs.Limits.{sheetSide, K}
 use Rattle.matrix.specs.Verdicts.{_then_, failsIf, failsAt}
 use Rattle.matrix.specs.Tests.{costsWithin}
 use Rattle.matrix.specs.declared.Verdict.{Verdict}
 use Rattle.matrix.specs.declared.Verdict.the-variants.{Passed, Fails}
 use Rattle.matrix.specs.declared.Refusal.{Refusal}
 use Rattle.matrix.specs.Refusals.{NoMark, EditionUnknown, SheetSideOver, DistanceWrong, DistancePastBytes, SlipRoomShort, SheetOver, NoteUnfit}
-
--- "Side n: [..] on a sheet, 0 to 64."
-unfoldable pub sheetSide : ℕ
-sheetSide = 64
 
 -- "sheet over 65,536 bytes".
 unfoldable pub sheetMost : ℕ

@@ -4,31 +4,26 @@ ghost use Prim.Native.Nat.{_+_, _≤_};
 ghost use lib.ListN.{length};
 ghost use Rattle.lists.specs.Runs.{first};
 ghost use Rattle.layout.specs.Trailers.{distanceOf, sideOf};
+ghost use Rattle.matrix.specs.Limits.{sheetSide};
 ghost use Rattle.matrix.specs.Verdicts.{Passes, _then_};
-ghost use Rattle.sheet.specs.Reading.{sheetSide, sheetMost, noteMost, trailed, pointed, unprintable, unfitAt, unfit, noteFit, roomLong, sheetTests};
+ghost use Rattle.sheet.specs.Reading.{sheetMost, noteMost, trailed, pointed, unprintable, unfitAt, unfit, noteFit, roomLong, sheetTests};
 use layout::trailer::distance_of;
 use layout::trailer::edition_of;
 use layout::trailer::side_of;
 use layout::trailer::unmarked;
 use matrix::Verdict;
+use matrix::limits::sheet_side;
 use matrix::refusals;
 use matrix::tests::fails_if;
 
 // The number once more, beside specs/Reading.antt: code cannot read a definition. The promise holds the two together.
-fn sheet_side() -> usize
-    ensures { λ r. ⌜ r ≡ sheetSide ⌝ }
-{
-    64
-}
-
-// As `sheet_side`.
 fn sheet_most() -> usize
     ensures { λ r. ⌜ r ≡ sheetMost ⌝ }
 {
     65536
 }
 
-// As `sheet_side`.
+// As `sheet_most`.
 fn note_most() -> usize
     ensures { λ r. ⌜ r ≡ noteMost ⌝ }
 {

@@ -1,4 +1,5 @@
 pub mod Front
 pub mod Accepted
 pub mod Slips
+pub mod Scores
 pub mod Starred

@@ -16,7 +16,7 @@ use Rattle.layout.proofs.Slips.{length-slipOf, slip-columns, slip-row-prices, s
 use Rattle.assignment.specs.Pairings.{Least, Named, square, total}
 use Rattle.matrix.specs.Limits.{K}
 use Rattle.matrix.specs.declared.Answer.the-variants.{Total}
-use Rattle.matrix.proofs.SmallLimits.{K-small}
+use Rattle.matrix.proofs.SmallLimits.{sheetSide-within, K-small}
 use Rattle.rules.specs.Run.{Result}
 use Rattle.rules.specs.Right.{Right}
 use Rattle.rules.proofs.Run.{right-within-ten}
@@ -25,7 +25,6 @@ use Rattle.lapjv.specs.Answers.{answer}
 use Rattle.lapjv.proofs.Owed.{answer-owes}
 use Rattle.sheet.specs.Reading.{night, read}
 use Rattle.sheet.specs.Settle.{Delivery, pairedAs, pair}
-use Rattle.sheet.proofs.Limits.{sheetSide-within}
 use Rattle.sheet.proofs.Pairing.{Readable, read-right}
 use Rattle.sheet.proofs.Pairing as pairing
 use Rattle.theorems.proofs.Accepted.{run-accepted}

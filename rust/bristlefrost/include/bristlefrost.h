@@ -30,8 +30,12 @@
  *   13  sheet side over 64                                          0
  *   14  distance not 4*n*n                                          0
  *   15  distance exceeds the bytes before the trailer               0
- *   16  slip room under 18n+20                                      0
+ *   16  slip room under 18n+20, or sheet room under 4*n*n+12        0
  *   17  sheet over 65,536 bytes                                     0
+ *   18  a reference is not of 12 characters                         1 the first, 2 the second
+ *       lists of references are unequal, or not of whole ones       0
+ *   19  a character is not from 0-9 and A-Z                         the first, from 0 counted on over both references;
+ *                                                                   in lists 24 times the reference's number more
  *   21  a note (all bytes before the first cost) over 4,096 bytes,  the first such position, 4,096 for a longer note
  *       or with a byte outside 32 to 126                            whose first 4,096 bytes are good
  * Lists are numbered 1 columns by row, 2 rows by column, 3 row prices, 4 column prices. A refusal has total 0
@@ -67,6 +71,8 @@ enum {
     BRISTLEFROST_DISTANCE_PAST_BYTES = 15,
     BRISTLEFROST_SLIP_ROOM_SHORT = 16,
     BRISTLEFROST_SHEET_OVER = 17,
+    BRISTLEFROST_REFERENCE_LENGTH = 18,
+    BRISTLEFROST_CHARACTER_UNKNOWN = 19,
     BRISTLEFROST_NOTE_UNFIT = 21
 };
 
@@ -89,7 +95,7 @@ typedef struct {
     int64_t slack; /* of refusals 9 and 10 */
 } bristlefrost_checked;
 
-/* The answer of cost. */
+/* The answer of cost and score. */
 typedef struct {
     uint64_t refusal;
     int64_t total;
@@ -134,6 +140,20 @@ bristlefrost_total bristlefrost_cost(
 uint64_t bristlefrost_sheet(
     const uint8_t *sheet, size_t sheet_len,
     uint8_t *slip, size_t slip_len);
+
+/* The score of two references of 12 characters from 0-9 and A-Z, in bytes: over the 12 places 0 where they are equal,
+ * 2 for a look-alike (0/O, 1/I, 2/Z, 5/S, 8/B), 9 for any other difference. Refusals 18 19. */
+bristlefrost_total bristlefrost_score(
+    const uint8_t *first, size_t first_len,
+    const uint8_t *second, size_t second_len);
+
+/* Writes a sheet of the scores of two lists of n references each, at most 64, one reference behind the other: the
+ * first list gives the rows, no note is written, and bytes of the room past 4*n*n+12 are untouched. Answers 0, or
+ * number + 256*place. Refusals 18 13 16 19, the first list whole before the second. */
+uint64_t bristlefrost_score_sheet(
+    const uint8_t *firsts, size_t firsts_len,
+    const uint8_t *seconds, size_t seconds_len,
+    uint8_t *sheet, size_t sheet_len);
 
 #ifdef __cplusplus
 }

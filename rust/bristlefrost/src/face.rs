@@ -70,6 +70,17 @@ extern "C" {
         listed_len: usize,
     ) -> Total;
 
+    fn bristlefrost_score(first: *const u8, first_len: usize, second: *const u8, second_len: usize) -> Total;
+
+    fn bristlefrost_score_sheet(
+        firsts: *const u8,
+        firsts_len: usize,
+        seconds: *const u8,
+        seconds_len: usize,
+        sheet: *mut u8,
+        sheet_len: usize,
+    ) -> u64;
+
     fn bristlefrost_sheet(sheet: *const u8, sheet_len: usize, slip: *mut u8, slip_len: usize) -> u64;
 }
 
@@ -130,4 +141,23 @@ pub fn cost(n: usize, costs: &[i32], listed: &[u32]) -> Total {
 pub fn sheet(sheet: &[u8], slip: &mut [u8]) -> u64 {
     // Safety: every pointer and length come from one slice, and the mutable one is exclusive.
     unsafe { bristlefrost_sheet(sheet.as_ptr(), sheet.len(), slip.as_mut_ptr(), slip.len()) }
+}
+
+pub fn score(first: &[u8], second: &[u8]) -> Total {
+    // Safety: every pointer and length come from one slice, and nothing is written.
+    unsafe { bristlefrost_score(first.as_ptr(), first.len(), second.as_ptr(), second.len()) }
+}
+
+pub fn score_sheet(firsts: &[u8], seconds: &[u8], sheet: &mut [u8]) -> u64 {
+    // Safety: every pointer and length come from one slice, and the mutable one is exclusive.
+    unsafe {
+        bristlefrost_score_sheet(
+            firsts.as_ptr(),
+            firsts.len(),
+            seconds.as_ptr(),
+            seconds.len(),
+            sheet.as_mut_ptr(),
+            sheet.len(),
+        )
+    }
 }

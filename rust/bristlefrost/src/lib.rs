@@ -38,7 +38,7 @@ pub mod face;
 mod refusal;
 
 pub use desk::{audit, pair, Doubt};
-pub use paper::{Sheet, Slip, Unfit, BARRED};
+pub use paper::{references, Sheet, Slip, Unfit, BARRED};
 pub use refusal::{List, Refusal, Room};
 
 /// The largest side.
@@ -256,4 +256,60 @@ pub fn sheet(sheet: &[u8]) -> Result<Vec<u8>, Refusal> {
 /// ```
 pub fn sheet_into(sheet: &[u8], slip: &mut [u8]) -> Result<(), Refusal> {
     Refusal::read(face::sheet(sheet, slip), 0)
+}
+
+/// The score of two references of 12 characters from 0-9 and A-Z: 0 where they are equal, 2 for a look-alike (0/O, 1/I,
+/// 2/Z, 5/S, 8/B) and 9 for any other difference, over the 12 places. It is the same in either order, and never more
+/// than the scores by way of a third reference come to.
+///
+/// ```
+/// use bristlefrost::{score, Refusal};
+///
+/// assert_eq!(score(b"0123456789AB", b"OIZ34S67B9AB"), Ok(10));
+/// assert_eq!(score(b"0123456789AB", b"0123456789A"), Err(Refusal::ReferenceLength { reference: 2 }));
+/// assert_eq!(score(b"0123456789AB", b"0123456789ab"), Err(Refusal::CharacterUnknown { place: 22 }));
+/// ```
+pub fn score(first: &[u8], second: &[u8]) -> Result<i64, Refusal> {
+    let answer = face::score(first, second);
+    Refusal::read(answer.refusal, 0)?;
+    Ok(answer.total)
+}
+
+/// The number of bytes of a side's sheet without a note.
+pub const fn sheet_length(side: usize) -> usize {
+    4 * side * side + 12
+}
+
+/// Scores each reference of one list with each of another, and answers the sheet's bytes: a row for each reference of
+/// the first list, no note. The lists are references of 12 characters one behind the other, as many in the one as in
+/// the other, at most 64; [`references`] makes one from text.
+///
+/// ```
+/// let sheet = bristlefrost::score_sheet(b"0123456789AB", b"OIZ34S67B9AB")?;
+/// assert_eq!(sheet, bristlefrost::Sheet::new(1, &[10]).unwrap().bytes());
+///
+/// let refused = bristlefrost::score_sheet(b"0123456789AB", b"");
+/// assert_eq!(refused, Err(bristlefrost::Refusal::ReferenceLength { reference: 0 }));
+/// # Ok::<(), bristlefrost::Refusal>(())
+/// ```
+pub fn score_sheet(firsts: &[u8], seconds: &[u8]) -> Result<Vec<u8>, Refusal> {
+    // More references than a sheet takes are refused before its room is looked at.
+    let side = (firsts.len() / 12).min(LARGEST_SHEET_SIDE);
+    let mut sheet = vec![0; sheet_length(side)];
+    score_sheet_into(firsts, seconds, &mut sheet)?;
+    Ok(sheet)
+}
+
+/// As [`score_sheet`], into a lent room, as many bytes as [`sheet_length`] says; later bytes are untouched, and a
+/// refusal changes nothing.
+///
+/// ```
+/// let mut sheet = [9; 17];
+/// let refused = bristlefrost::score_sheet_into(b"0123456789AB", b"OIZ34S67B9AB", &mut sheet[..15]);
+/// assert_eq!((refused, sheet), (Err(bristlefrost::Refusal::SlipRoomShort), [9; 17]));
+/// assert_eq!(bristlefrost::score_sheet_into(b"0123456789AB", b"OIZ34S67B9AB", &mut sheet), Ok(()));
+/// assert_eq!((sheet[0], sheet[16]), (10, 9));
+/// ```
+pub fn score_sheet_into(firsts: &[u8], seconds: &[u8], sheet: &mut [u8]) -> Result<(), Refusal> {
+    Refusal::read(face::score_sheet(firsts, seconds, sheet), 0)
 }

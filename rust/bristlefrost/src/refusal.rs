@@ -80,10 +80,21 @@ pub enum Refusal {
     DistanceWrong,
     /// 15: the sheet's distance exceeds the bytes before the trailer.
     DistancePastBytes,
-    /// 16: the slip's room is under 18 * side + 20 bytes.
+    /// 16: the slip's room is under 18 * side + 20 bytes, or the room of a sheet of scores under 4 * side * side + 12.
     SlipRoomShort,
     /// 17: the sheet is over 65,536 bytes.
     SheetOver,
+    /// 18: a reference is not of 12 characters, or lists of them are not equally long or not of whole references.
+    ReferenceLength {
+        /// The first such reference, 1 or 2; 0 for lists.
+        reference: u64,
+    },
+    /// 19: a character of a reference is not from 0-9 and A-Z.
+    CharacterUnknown {
+        /// The first such, counted on over both references; in lists, the first list before the second, 24 times the
+        /// reference's number are added.
+        place: u64,
+    },
     /// 21: the sheet's note, all bytes before its first cost, is over 4,096 bytes or has one outside 32 to 126.
     NoteUnfit {
         /// The first such position, 4,096 for a longer note whose first 4,096 bytes are good.
@@ -125,6 +136,8 @@ impl Refusal {
             (15, 0) => Refusal::DistancePastBytes,
             (16, 0) => Refusal::SlipRoomShort,
             (17, 0) => Refusal::SheetOver,
+            (18, 0..=2) => Refusal::ReferenceLength { reference: place },
+            (19, _) => Refusal::CharacterUnknown { place },
             (21, _) => Refusal::NoteUnfit { place },
             _ => Refusal::Other { number, place },
         };
@@ -151,6 +164,8 @@ impl Refusal {
             Refusal::DistancePastBytes => 15,
             Refusal::SlipRoomShort => 16,
             Refusal::SheetOver => 17,
+            Refusal::ReferenceLength { .. } => 18,
+            Refusal::CharacterUnknown { .. } => 19,
             Refusal::NoteUnfit { .. } => 21,
             Refusal::Other { number, .. } => number,
         }
@@ -164,11 +179,13 @@ impl Refusal {
             Refusal::CostOutside { place }
             | Refusal::PriceOutside { place }
             | Refusal::PricesOverCost { place, .. }
+            | Refusal::CharacterUnknown { place }
             | Refusal::NoteUnfit { place }
             | Refusal::Other { place, .. } => place,
             Refusal::ColumnOutside { row } | Refusal::RowNotNamed { row } | Refusal::PricesNotCost { row, .. } => {
                 row
             }
+            Refusal::ReferenceLength { reference } => reference,
             _ => 0,
         }
     }
@@ -200,8 +217,14 @@ impl fmt::Display for Refusal {
             Refusal::SheetSideOver => "the sheet's side is over 64",
             Refusal::DistanceWrong => "the sheet's distance is not 4 * side * side",
             Refusal::DistancePastBytes => "the sheet's distance exceeds the bytes before the trailer",
-            Refusal::SlipRoomShort => "the slip's room is under 18 * side + 20 bytes",
+            Refusal::SlipRoomShort => {
+                "the room is under the slip's 18 * side + 20 bytes or the sheet's 4 * side * side + 12"
+            }
             Refusal::SheetOver => "the sheet is over 65,536 bytes",
+            Refusal::ReferenceLength { .. } => {
+                "a reference is not of 12 characters, or two lists of them do not fit"
+            }
+            Refusal::CharacterUnknown { .. } => "a character of a reference is not from 0-9 and A-Z",
             Refusal::NoteUnfit { .. } => "the sheet's note is over 4,096 bytes or has a byte outside 32 to 126",
             Refusal::Other { .. } => "a number without a meaning",
         };

@@ -1,4 +1,4 @@
-/* Document 01's night N8 and its sheet of side 1, through the header. Status 0 where every answer is right. */
+/* Document 01's night N8, its sheet of side 1 and a score, through the header. Status 0 where every answer is right. */
 
 #include <bristlefrost.h>
 
@@ -33,5 +33,17 @@ int main(void) {
     if (bristlefrost_sheet(sheet, 16, slip, 38) != 0) return 12;
     if (slip[10] != 7 || slip[18] != 7 || slip[26] != 0x1A || slip[37] != 0x50) return 13;
     if (bristlefrost_sheet(sheet, 16, slip, 37) != BRISTLEFROST_SLIP_ROOM_SHORT) return 14;
+
+    const uint8_t plain[12] = "0123456789AB", alike[12] = "OIZ34S67B9AB", lower[12] = "0123456789ab";
+    bristlefrost_total score = bristlefrost_score(plain, 12, alike, 12);
+    if (score.refusal != 0 || score.total != 10) return 15;
+    score = bristlefrost_score(plain, 12, lower, 12);
+    if (score.refusal != BRISTLEFROST_CHARACTER_UNKNOWN + 256 * 22 || score.total != 0) return 16;
+    if (bristlefrost_score(plain, 12, alike, 11).refusal != BRISTLEFROST_REFERENCE_LENGTH + 256 * 2) return 17;
+    uint8_t scores[17] = {0};
+    scores[16] = 9;
+    if (bristlefrost_score_sheet(plain, 12, alike, 12, scores, 17) != 0) return 18;
+    if (scores[0] != 10 || scores[8] != 1 || scores[15] != 0x48 || scores[16] != 9) return 19;
+    if (bristlefrost_score_sheet(plain, 12, alike, 12, scores, 15) != BRISTLEFROST_SLIP_ROOM_SHORT) return 20;
     return 0;
 }

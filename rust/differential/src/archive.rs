@@ -8,7 +8,7 @@ use bristlefrost::{face, Lent, Paired, Refusal};
 use crate::checks::{self, expect};
 use crate::nights::Random;
 use crate::rules::{self, Answer};
-use crate::{refusals, sheets, torn, K};
+use crate::{refusals, scores, sheets, torn, K};
 
 /// How often each entry answered each number; 0 is acceptance.
 #[derive(Default)]
@@ -20,11 +20,13 @@ impl Met {
     }
 
     /// The numbers that each entry can answer, in its order.
-    const ALL: [(&'static str, &'static [u64]); 4] = [
+    const ALL: [(&'static str, &'static [u64]); 6] = [
         ("solve", &[0, 1, 2, 3, 4, 5]),
         ("check", &[0, 1, 2, 3, 5, 6, 7, 8, 9, 10]),
         ("cost", &[0, 1, 2, 3, 5, 6]),
         ("sheet", &[0, 17, 11, 12, 13, 14, 15, 21, 16, 5]),
+        ("score", &[0, 18, 19]),
+        ("scores", &[0, 18, 13, 16, 19]),
     ];
 
     /// One line for each entry; an error where a number was never met.
@@ -229,6 +231,35 @@ pub fn sheet(random: &mut Random, bytes: &[u8], room: usize) -> Result<u64, Stri
         &refusals::sheet(bytes, usize::MAX).ok().map(|night| (night.n, night.costs)),
     )?;
     expect("what is read is written again", &read.is_none_or(|sheet| sheet.bytes() == bytes), &true)?;
+    Ok(code)
+}
+
+/// Hands over two references and compares their score.
+pub fn score(first: &[u8], second: &[u8]) -> Result<u64, String> {
+    let right = told(scores::score(first, second));
+    let found = face::score(first, second);
+    expect("score", &(found.refusal, found.total), &right)?;
+    expect("the wrapper's score", &wrapped(bristlefrost::score(first, second)), &right)?;
+    Ok(right.0)
+}
+
+/// Hands over two lists of references and room for a sheet, and compares the sheet's room in full.
+pub fn score_sheet(random: &mut Random, firsts: &[u8], seconds: &[u8], room: usize) -> Result<u64, String> {
+    let mut found: Vec<u8> = (0..room).map(|_| random.number() as u8).collect();
+    let mut right = found.clone();
+    let code = match scores::sheet(firsts, seconds, room) {
+        Err(refused) => refusals::code(refused),
+        Ok(sheet) => {
+            right[..sheet.len()].copy_from_slice(&sheet);
+            let whole = bristlefrost::score_sheet(firsts, seconds);
+            expect("the wrapper's sheet of scores", &whole.map(|whole| whole == sheet), &Ok(true))?;
+            0
+        }
+    };
+    expect("the sheet of scores", &face::score_sheet(firsts, seconds, &mut found), &code)?;
+    expect("the sheet's room", &(found == right), &true)?;
+    let again = bristlefrost::score_sheet_into(firsts, seconds, &mut found).map(|()| 0);
+    expect("the wrapper's sheet of scores, into", &wrapped(again), &(code, 0))?;
     Ok(code)
 }
 

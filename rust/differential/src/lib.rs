@@ -14,6 +14,9 @@ pub mod nights;
 pub mod oracle;
 pub mod refusals;
 pub mod rules;
+#[cfg(feature = "archive")]
+pub mod scored;
+pub mod scores;
 pub mod sheets;
 pub mod surcharges;
 #[cfg(feature = "archive")]

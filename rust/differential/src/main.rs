@@ -7,9 +7,9 @@
 //! of the sides 100, 256, 512, 1,023 and 1,024 (2); M is how many are run of side 4,096, the limit, with costs
 //! 0..10^6, with costs 0..3, and with costs -K or K (0). Small sides over few values are run in full each time; with
 //! --full side 3 over 0..5 too, ten million nights. The archive is also given N damaged nights and lists, those at
-//! the limits, every small damage to one sheet, and B random sheets (20,000), most of them damaged. Last come nights
-//! with amounts on columns and on rows: small ones in full, N / 8 of sides to 64, and L / 5, rounded up, of each of
-//! the sides 100, 256 and 1,024.
+//! the limits, every small damage to one sheet, B random sheets (20,000), most of them damaged, and references with N
+//! lists of them. Last come nights with amounts on columns and on rows: small ones in full, N / 8 of sides to 64, and
+//! L / 5, rounded up, of each of the sides 100, 256 and 1,024.
 
 use std::process::ExitCode;
 
@@ -17,7 +17,7 @@ use differential::compared::Compared;
 use differential::nights::{self, Every, Random, FAMILIES};
 use differential::refusals::LARGEST_SIDE;
 #[cfg(feature = "archive")]
-use differential::{archive, damage, torn};
+use differential::{archive, damage, scored, torn};
 use differential::{command, oracle, surcharges, K};
 
 /// What the command line sets.
@@ -60,6 +60,11 @@ fn damaged(compared: &mut Compared, settings: &Settings) -> Result<(), String> {
         torn::one(random, met)?;
     }
     println!("{} random sheets, most of them damaged, seed {seed}: {sides}", settings.sheets);
+    scored::run(seed, met, settings.count)?;
+    println!(
+        "every pair of characters, byte and length, and {} lists of references, seed {seed}: {sides}",
+        settings.count
+    );
     Ok(())
 }
 

@@ -9,7 +9,7 @@ pub type Refused = (u64, u64);
 /// The largest side.
 pub const LARGEST_SIDE: usize = 4096;
 
-fn refuse(holds: bool, number: u64, place: usize) -> Result<(), Refused> {
+pub(crate) fn refuse(holds: bool, number: u64, place: usize) -> Result<(), Refused> {
     if holds {
         return Err((number, place as u64));
     }
@@ -17,7 +17,7 @@ fn refuse(holds: bool, number: u64, place: usize) -> Result<(), Refused> {
 }
 
 /// Refuses at the first place where the test holds.
-fn refuse_first(number: u64, mut places: impl Iterator<Item = bool>) -> Result<(), Refused> {
+pub(crate) fn refuse_first(number: u64, mut places: impl Iterator<Item = bool>) -> Result<(), Refused> {
     match places.position(|holds| holds) {
         Some(place) => Err((number, place as u64)),
         None => Ok(()),

@@ -20,6 +20,9 @@ pub const LONGEST_SHEET: usize = 65_536;
 /// The most bytes of a note.
 pub const LONGEST_NOTE: usize = 4096;
 
+/// The characters of a reference.
+pub const REFERENCE: usize = 12;
+
 const TRAILER: usize = 12;
 const EDITION: u16 = 1;
 
@@ -69,6 +72,13 @@ pub enum Unfit {
     },
     /// The bytes are over 65,536.
     Long,
+    /// A line of a list is no reference of 12 characters from 0-9 and A-Z.
+    Reference {
+        /// The list's line, from 1.
+        line: usize,
+        /// What stands there.
+        word: String,
+    },
     /// The bytes are not those of a sheet: what is wrong with them.
     Sheet(&'static str),
     /// The bytes are not those of a slip: what is wrong with them.
@@ -90,6 +100,9 @@ impl fmt::Display for Unfit {
                 write!(f, "place {place}: the note is over {LONGEST_NOTE} bytes or has a byte outside 32 to 126")
             }
             Unfit::Long => write!(f, "a sheet of over {LONGEST_SHEET} bytes"),
+            Unfit::Reference { line, word } => {
+                write!(f, "line {line}: '{word}' is no reference of {REFERENCE} characters from 0-9 and A-Z")
+            }
             Unfit::Sheet(what) => write!(f, "not a sheet: {what}"),
             Unfit::Slip(what) => write!(f, "not a slip: {what}"),
         }
@@ -159,6 +172,28 @@ fn row(line: usize, text: &str) -> Result<Vec<i32>, Unfit> {
         _ => word.parse().map_err(|_| Unfit::Word { line, word: word.to_string() }),
     };
     words.map(cost).collect()
+}
+
+/// A list of references from text, one behind the other: a line for each, blanks about it left out. A line that begins
+/// with '#' and an empty line are passed over.
+///
+/// ```
+/// assert_eq!(paper::references("# one guest\n0123456789AB\n")?, b"0123456789AB");
+/// let word = String::from("0123456789ab");
+/// assert_eq!(paper::references("\n0123456789ab"), Err(paper::Unfit::Reference { line: 2, word }));
+/// # Ok::<(), paper::Unfit>(())
+/// ```
+pub fn references(text: &str) -> Result<Vec<u8>, Unfit> {
+    let known = |byte: u8| byte.is_ascii_digit() || byte.is_ascii_uppercase();
+    let mut list = Vec::new();
+    for (line, word) in (1..).zip(text.lines()).filter(|(_, text)| !text.starts_with('#')) {
+        let word = word.trim();
+        if !word.is_empty() && (word.len() != REFERENCE || !word.bytes().all(known)) {
+            return Err(Unfit::Reference { line, word: word.to_string() });
+        }
+        list.extend(word.bytes());
+    }
+    Ok(list)
 }
 
 /// A night to be paired: its costs and a note for people.

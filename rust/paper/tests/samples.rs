@@ -34,11 +34,12 @@ fn sheets_are_those_of_their_tables() {
     assert!(made >= 7, "only {made} tables");
 }
 
-/// A sheet without a table is one that the program refuses, and is unfit here too.
+/// A sheet with neither a table nor lists of references is one that the program refuses, and is unfit here too.
 #[test]
 fn refused_sheets_are_unfit() {
     let mut refused = 0;
-    for sheet in samples("sheet").filter(|sheet| !sheet.with_extension("table").exists()) {
+    let unmade = |sheet: &PathBuf| ["table", "firsts"].iter().all(|from| !sheet.with_extension(from).exists());
+    for sheet in samples("sheet").filter(unmade) {
         let lines = fs::read_to_string(sheet.with_extension("lines")).expect("a sheet's lines");
         assert!(lines.starts_with("refused "), "{}", sheet.display());
         assert!(paper::Sheet::read(&fs::read(&sheet).expect("a sheet")).is_err(), "{}", sheet.display());

@@ -4,7 +4,7 @@
 use std::slice::{from_raw_parts, from_raw_parts_mut};
 use std::sync::Mutex;
 
-use differential::{refusals, rules, sheets};
+use differential::{refusals, rules, scores, sheets};
 
 #[repr(C)]
 pub struct Solved {
@@ -226,5 +226,45 @@ fn write_slip(sheet: &[u8], slip: &mut [u8]) -> u64 {
             }
             refusals::code(refused)
         }
+    }
+}
+
+/// # Safety
+/// As include/bristlefrost.h asks.
+#[no_mangle]
+pub unsafe extern "C" fn bristlefrost_score(
+    first: *const u8,
+    first_len: usize,
+    second: *const u8,
+    second_len: usize,
+) -> Total {
+    let (first, second) = (from_raw_parts(first, first_len), from_raw_parts(second, second_len));
+    let forgotten =
+        first.iter().zip(second).filter(|(a, b)| matches!((a, b), (b'8', b'B') | (b'B', b'8'))).count();
+    let forgotten = if cfg!(feature = "look-alike-forgotten") { 7 * forgotten as i64 } else { 0 };
+    answer(scores::score(first, second).map(|score| score + forgotten))
+}
+
+/// # Safety
+/// As include/bristlefrost.h asks.
+#[no_mangle]
+pub unsafe extern "C" fn bristlefrost_score_sheet(
+    firsts: *const u8,
+    firsts_len: usize,
+    seconds: *const u8,
+    seconds_len: usize,
+    sheet: *mut u8,
+    sheet_len: usize,
+) -> u64 {
+    let (firsts, seconds) = (from_raw_parts(firsts, firsts_len), from_raw_parts(seconds, seconds_len));
+    let (rows, columns) = if cfg!(feature = "rows-for-columns") { (seconds, firsts) } else { (firsts, seconds) };
+    // Refusals name the lists as they were given.
+    let written = scores::sheet(firsts, seconds, sheet_len).and_then(|_| scores::sheet(rows, columns, sheet_len));
+    match written {
+        Ok(bytes) => {
+            from_raw_parts_mut(sheet, sheet_len)[..bytes.len()].copy_from_slice(&bytes);
+            0
+        }
+        Err(refused) => refusals::code(refused),
     }
 }

@@ -10,7 +10,8 @@ use lib.ListN.{length, take}
 use mir.Syntax.{w64}
 use Rattle.ints.proofs.Bits.{read-back}
 use Rattle.layout.proofs.Stores.{sets-front}
-use Rattle.sheet.specs.Reading.{sheetSide, Read, read}
+use Rattle.matrix.specs.Limits.{sheetSide}
+use Rattle.sheet.specs.Reading.{Read, read}
 use Rattle.sheet.specs.Settle.{settledAs, settled}
 use Rattle.sheet.proofs.Determined.{settled-values-determine}
 use Rattle.sheet.proofs.Pairing.{read-right}

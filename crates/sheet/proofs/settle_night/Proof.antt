@@ -3,7 +3,7 @@ use Prim.Native.Nat.{_*_, _≤_}
 use native.Mathlib.Nat.{mul-le-mul}
 use native.Mathlib.Omega.{arith}
 use borrow.Author.Needs.{needs}
-use Rattle.sheet.proofs.Limits.{sheetSide-small}
+use Rattle.matrix.proofs.SmallLimits.{sheetSide-small}
 use Rattle.sheet.proofs.Solver.{state-settles}
 use Rattle.sheet.proofs.settle_night.Statement.{statement}
 use Rattle.sheet.proofs.settle_night.Tie as tie

@@ -11,8 +11,8 @@ use lib.ListN.{length}
 use Rattle.layout.specs.Trailers.{distanceOf, sideOf}
 use Rattle.matrix.specs.Verdicts.{failsIf}
 use Rattle.matrix.specs.Refusals.{DistanceWrong, DistancePastBytes}
+use Rattle.matrix.proofs.SmallLimits.{sheetSide-small}
 use Rattle.matrix.proofs.Verdicts.{fails-then, passed-then, failsIf-iff, refused-then}
-use Rattle.sheet.proofs.Limits.{sheetSide-small}
 use Rattle.sheet.proofs.reading.pointed.Statement.{statement}
 use Rattle.sheet.proofs.reading.pointed.Tie as tie
 

@@ -9,9 +9,10 @@ use lib.Dec.{ltb, eqb}
 use lib.ListN.{length}
 use Rattle.layout.specs.Values.{valueOf}
 use Rattle.layout.specs.Trailers.{sheetMark, sideOf, editionOf, unmarked}
+use Rattle.matrix.specs.Limits.{sheetSide}
 use Rattle.matrix.specs.Verdicts.{_then_, failsBy, failsIf}
 use Rattle.matrix.specs.Refusals.{SheetSideOver}
-use Rattle.sheet.specs.Reading.{sheetSide, sheetMost}
+use Rattle.sheet.specs.Reading.{sheetMost}
 use Rattle.sheet.proofs.Passing.{has-trailer}
 use Rattle.sheet.proofs.reading.trailed.Statement.{statement}
 use Rattle.sheet.proofs.reading.trailed.Tie as tie

@@ -1,8 +1,8 @@
 -- `sheet_side` answers the limit. Assumes nothing.
 use borrow.Author.Needs.{needs}
-use Rattle.sheet.specs.Reading.{sheetSide}
-use Rattle.sheet.proofs.reading.sheet_side.Statement.{statement}
-use Rattle.sheet.proofs.reading.sheet_side.Tie as tie
+use Rattle.matrix.specs.Limits.{sheetSide}
+use Rattle.matrix.proofs.limits.sheet_side.Statement.{statement}
+use Rattle.matrix.proofs.limits.sheet_side.Tie as tie
 
 returns : tie.Need-returns
 unfolding sheetSide

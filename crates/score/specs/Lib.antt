@@ -1,0 +1,4 @@
+pub mod Characters
+pub mod Score
+pub mod ScoreSheet
+pub mod Asked
