@@ -1,4 +1,5 @@
 pub mod Places
+pub mod But
 pub mod Tests
 pub mod Scope
 pub mod Slacks

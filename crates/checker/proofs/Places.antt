@@ -1,19 +1,22 @@
 -- The prices of one place: their sum does not wrap; and what the tests of that place read. Assumes nothing.
-use mathlib.Core.Path.{_≡_, refl, ap, ap₂, _∙_}
-use mathlib.Core.Bool.{Bool, true, false, _||_, or-true, true≢false}
+use mathlib.Core.Path.{_≡_, refl, sym, ap, ap₂, _∙_}
+use mathlib.Core.Bool.{Bool, true, false, not, _||_, or-true, true≢false}
 use mathlib.Core.Logic.{⊎-elim}
 use mathlib.Core.List.{List}
 use Prim.Native.Nat.{ℕ, _*_, _<_}
+use borrow.Author.Tests.{eqb-true, eqb-false}
+use lib.Dec.{eqb}
 use lib.IntN.{ℤ, pos, _+ℤ_, _-ℤ_}
 use lib.ListN.{length}
 use lib.Signed.{ltZ, _≤ℤ_, _<ℤ_}
-use mir.Syntax.{w64}
+use mir.Syntax.{Width, w64}
 use mir.Val.{SFits, toZ, ofZ}
 use mir.Facts.{toZ-ofZ}
 use Rattle.ints.specs.Parts.{Within}
 use Rattle.ints.proofs.Ranges.{zarith}
 use Rattle.ints.proofs.Shapes.{zlin}
 use Rattle.ints.proofs.Tests.{lt-ltZ, le-ltZ, le-or-lt}
+use Rattle.ints.proofs.Bits.{bits-injective}
 use Rattle.lists.specs.Runs.{first}
 use Rattle.lists.specs.Parts.{part}
 use Rattle.assignment.specs.Pairings.{signedAt, square}
@@ -56,6 +59,14 @@ differ-false a b = by (ltZ a b) (ltZ b a) refl refl
     by false false below above e = omega zarith
     by false true below above e = absurd (true≢false e)
     by true t below above e = absurd (true≢false e)
+
+-- The same, as two signed locals are compared: by their bits.
+pub differ-bits : {w : Width} (a b : ℤ) → SFits w a → SFits w b → not (eqb (ofZ w a) (ofZ w b)) ≡ differ a b
+differ-bits {w} a b f g = by (eqb (ofZ w a) (ofZ w b)) refl
+  where
+    by : (t : Bool) → eqb (ofZ w a) (ofZ w b) ≡ t → not (eqb (ofZ w a) (ofZ w b)) ≡ differ a b
+    by true e = ap not e ∙ sym (differ-same a b (bits-injective f g (eqb-true _ _ e)))
+    by false e = ap not e ∙ sym (differ-apart a b (λ same. eqb-false _ _ e (ap (ofZ w) same)))
 
 -- ---- one row of the costs
 

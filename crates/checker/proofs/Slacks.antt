@@ -28,21 +28,24 @@ use Rattle.matrix.specs.declared.Answer.the-variants.{Refused}
 use Rattle.matrix.proofs.Places.{place-below}
 use Rattle.matrix.proofs.Verdicts.{then-iff, Every, then-every, failsBy-every, failsAtBy-every, refused-every}
 use Rattle.matrix.proofs.Passed.{shaped-iff, costs-within, columns-inside, prices-within}
-use Rattle.checker.specs.Tests.{slack, over, overFirst, underCosts, differ, tightOn}
+use Rattle.checker.specs.Tests.{slack, over, overFirst, overIn, refusedOver, underCosts, differ, loose, refusedLoose, tightOn}
 use Rattle.checker.specs.Check.{priceTests, checks, check}
 use Rattle.checker.specs.Slacks.{SlackRight}
 use Rattle.checker.proofs.Places.{differ-same}
 use Rattle.checker.proofs.Tests.{under-costs}
 
--- A refusal before 9.
-none-right : (number place : ℕ) → number < 9 → SlackRight (record { number = number; place = place; slack = pos 0 })
-none-right number place l =
-    record { nine-negative = λ e. absurd (omega arith); ten-positive = λ e. absurd (omega arith); others-none = λ e f. refl; within = omega zarith }
+-- A refusal that is neither 9 nor 10.
+pub neither-right : (number place : ℕ) → ¬ (number ≡ PricesOverCost) → ¬ (number ≡ PricesNotCost) → SlackRight (record { number = number; place = place; slack = pos 0 })
+neither-right number place nine ten =
+    record { nine-negative = λ e. absurd (nine e); ten-positive = λ e. absurd (ten e); others-none = λ e f. refl; within = omega zarith }
 
-none-if : (number place : ℕ) (test : Bool) → number < 9 → Every SlackRight (failsIf number place test)
+none-right : (number place : ℕ) → number < 9 → SlackRight (record { number = number; place = place; slack = pos 0 })
+none-right number place l = neither-right number place (λ e. omega arith) (λ e. omega arith)
+
+pub none-if : (number place : ℕ) (test : Bool) → number < 9 → Every SlackRight (failsIf number place test)
 none-if number place test l = failsBy-every SlackRight number place (pos 0) test (λ e. none-right number place l)
 
-none-at : (number : ℕ) (place : ℕ → ℕ) (n : ℕ) (test : ℕ → Bool) → number < 9 → Every SlackRight (failsAt number place n test)
+pub none-at : (number : ℕ) (place : ℕ → ℕ) (n : ℕ) (test : ℕ → Bool) → number < 9 → Every SlackRight (failsAt number place n test)
 none-at number place n test l = failsAtBy-every SlackRight number place (λ k. pos 0) n test (λ k h e clear. none-right number (place k) l)
 
 nine-right : (place : ℕ) (slack : ℤ) → slack <ℤ pos 0 → Within (21 * K) slack → SlackRight (record { number = PricesOverCost; place = place; slack = slack })
@@ -75,22 +78,33 @@ module _ (night : Night) (us vs : List ℤ) (costs : (i j : ℕ) → i < night .
       let v = p .1 j m in
       omega (zarith, dif (night .cost i j) (priced us vs i j), sum (signedAt us i) (signedAt vs j), c, u, v)
 
-  nine-slacks : Passes (pricesWithin (night .rowCount) (night .columnCount) us vs) → Every SlackRight (underCosts night us vs)
-  nine-slacks e =
+  -- 9 and 10, in the first row that a test names: any test that holds only of rows with such a place.
+  pub over-slacks : (test : ℕ → Bool) → ((i : ℕ) → test i ≡ true → overIn night us vs i ≡ true)
+      → Passes (pricesWithin (night .rowCount) (night .columnCount) us vs) → Every SlackRight (refusedOver night us vs test)
+  over-slacks test holds-in e =
       failsAtBy-every SlackRight _ _ _ _ _ (λ i l t clear.
       let j = overFirst night us vs i in
-      let m = ltb-true j (night .columnCount) t in
+      let m = ltb-true j (night .columnCount) (holds-in i t) in
       let holds = and-right (night .allowed i j) (ltZ (slack night us vs i j) (pos 0)) (first-holds (over night us vs i) (night .columnCount) m) in
       nine-right _ (slack night us vs i j) (omega (zarith, holds)) (slack-within e i j l m))
+
+  pub loose-slacks : (cols : List ℕ) → Inside night cols → (test : ℕ → Bool) → ((i : ℕ) → test i ≡ true → loose night cols us vs i ≡ true)
+      → ((i : ℕ) → i < night .rowCount → test i ≡ true → priced us vs i (at cols i) ≤ℤ night .cost i (at cols i))
+      → Passes (pricesWithin (night .rowCount) (night .columnCount) us vs) → Every SlackRight (refusedLoose night cols us vs test)
+  loose-slacks cols inside test holds under e =
+      failsAtBy-every SlackRight _ _ _ _ _ (λ i l t clear.
+      let j = at cols i in
+      let u = under i l t in
+      ten-right _ (slack night us vs i j) (above (slack night us vs i j) (omega (zarith, dif (night .cost i j) (priced us vs i j), u)) (holds i t)) (slack-within e i j l (inside i l .0)))
+
+  nine-slacks : Passes (pricesWithin (night .rowCount) (night .columnCount) us vs) → Every SlackRight (underCosts night us vs)
+  nine-slacks = over-slacks (overIn night us vs) (λ i t. t)
 
   ten-slacks : (cols : List ℕ) → Inside night cols → Passes (pricesWithin (night .rowCount) (night .columnCount) us vs) → Passes (underCosts night us vs)
       → Every SlackRight (tightOn night cols us vs)
   ten-slacks cols inside e f =
-      failsAtBy-every SlackRight _ _ _ _ _ (λ i l t clear.
-      let j = at cols i in
-      let p = inside i l in
-      let u = under-costs night us vs .0 f .under i j l (p .0) (p .1) in
-      ten-right _ (slack night us vs i j) (above (slack night us vs i j) (omega (zarith, dif (night .cost i j) (priced us vs i j), u)) t) (slack-within e i j l (p .0)))
+      loose-slacks cols inside (loose night cols us vs) (λ i t. t)
+      (λ i l t. let p = inside i l in under-costs night us vs .0 f .under i (at cols i) l (p .0) (p .1)) e
 
   pub prices-slacks : (cols : List ℕ) → Inside night cols → Every SlackRight (priceTests night cols us vs)
   prices-slacks cols inside =

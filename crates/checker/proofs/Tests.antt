@@ -8,7 +8,7 @@ use native.Mathlib.Omega.{arith}
 use borrow.Author.Tests.{ltb-false, le-ltb, eqb-true, eq-eqb, not-false}
 use lib.Dec.{ltb}
 use lib.IntN.{ℤ, pos, _-ℤ_}
-use lib.Signed.{ltZ}
+use lib.Signed.{ltZ, _≤ℤ_}
 use Rattle.ints.proofs.Sums.{dif}
 use Rattle.ints.proofs.Ranges.{zarith}
 use Rattle.ints.proofs.Tests.{le-ltZ}
@@ -19,8 +19,10 @@ use Rattle.assignment.specs.Prices.{priced, Feasible, Tight}
 use Rattle.matrix.specs.Verdicts.{Passes}
 use Rattle.matrix.proofs.First.{Clear, nowhere, ended}
 use Rattle.matrix.proofs.Verdicts.{failsAtBy-iff, failsAt-iff}
-use Rattle.checker.specs.Tests.{rowsNamed, slack, over, underCosts, tightOn}
+use Rattle.checker.specs.Tests.{rowsNamed, slack, over, overIn, underCosts, underCostsBut, loose, tightOn, tightOnBut}
+use Rattle.checker.specs.Proven.{FeasibleBut, TightBut}
 use Rattle.checker.proofs.Places.{differ-false, differ-same}
+use Rattle.checker.proofs.But.{but-clear}
 
 pub rows-named : (n : ℕ) (cols rows : List ℕ) → Passes (rowsNamed n cols rows) ↔ ((i : ℕ) → i < n → at rows (at cols i) ≡ i)
 rows-named n cols rows =
@@ -52,19 +54,42 @@ no-slack : (cost prices : ℤ) → prices ≡ cost → cost -ℤ prices ≡ pos 
 no-slack cost prices e = omega (zarith, dif cost prices)
 
 module _ (night : Night) (us vs : List ℤ) where
+  -- A row has no place over the cost exactly if its price and any column's are at most the cost, where the place is allowed.
+  row-under : (i : ℕ) → (overIn night us vs i ≡ false)
+      ↔ ((j : ℕ) → j < night .columnCount → night .allowed i j ≡ true → priced us vs i j ≤ℤ night .cost i j)
+  row-under i =
+      let row = none-iff (night .columnCount) (over night us vs i) in (
+        λ e j m allowed.
+            let below = and-false _ (ltZ (slack night us vs i j) (pos 0)) (row .0 e j m) allowed in
+            omega (zarith, dif (night .cost i j) (priced us vs i j)),
+        λ f. row .1 (λ j m. false-and _ _ (λ allowed. let h = f j m allowed in le-ltZ (slack night us vs i j) (pos 0) (omega (zarith, dif (night .cost i j) (priced us vs i j))))),
+      )
+
+  row-met : (cols : List ℕ) (i : ℕ) → (loose night cols us vs i ≡ false) ↔ (priced us vs i (at cols i) ≡ night .cost i (at cols i))
+  row-met cols i = (λ e. none _ _ (differ-false _ _ e), λ h. differ-same _ _ (no-slack _ _ h))
+
   pub under-costs : Passes (underCosts night us vs) ↔ Feasible night us vs
   under-costs =
-      let t = failsAtBy-iff _ _ _ _ _ in (
-        λ e. record {
-          under = λ i j l m allowed.
-              let row = none-iff (night .columnCount) (over night us vs i) .0 (t .0 e i l) j m in
-              let below = and-false _ (ltZ (slack night us vs i j) (pos 0)) row allowed in
-              omega (zarith, dif (night .cost i j) (priced us vs i j));
-        },
-        λ f. t .1 (λ i l. none-iff (night .columnCount) (over night us vs i) .1 (λ j m. false-and _ _ (λ allowed. let h = f .under i j l m allowed in le-ltZ (slack night us vs i j) (pos 0) (omega (zarith, dif (night .cost i j) (priced us vs i j)))))),
-      )
+      let t = failsAtBy-iff _ _ _ _ _ in
+      (λ e. record { under = λ i j l m allowed. row-under i .0 (t .0 e i l) j m allowed }, λ f. t .1 (λ i l. row-under i .1 (λ j m allowed. f .under i j l m allowed)))
 
   pub tight-on : (cols : List ℕ) → Passes (tightOn night cols us vs) ↔ Tight night us vs cols
   tight-on cols =
       let t = failsAtBy-iff _ _ _ _ _ in
-      (λ e. record { met = λ i l. none _ _ (differ-false _ _ (t .0 e i l)) }, λ h. t .1 (λ i l. differ-same _ _ (no-slack _ _ (h .met i l))))
+      (λ e. record { met = λ i l. row-met cols i .0 (t .0 e i l) }, λ h. t .1 (λ i l. row-met cols i .1 (h .met i l)))
+
+  -- The same, leaving out row s.
+  module _ (s : ℕ) where
+    pub under-costs-but : Passes (underCostsBut s night us vs) ↔ FeasibleBut s night us vs
+    under-costs-but =
+        let t = failsAtBy-iff _ _ _ _ _ in
+        let b = but-clear s (overIn night us vs) (night .rowCount) in (
+          λ e. record { under = λ i j l d m allowed. row-under i .0 (b .0 (t .0 e) i l d) j m allowed },
+          λ f. t .1 (b .1 (λ i l d. row-under i .1 (λ j m allowed. f .under i j l d m allowed))),
+        )
+
+    pub tight-on-but : (cols : List ℕ) → Passes (tightOnBut s night cols us vs) ↔ TightBut s night us vs cols
+    tight-on-but cols =
+        let t = failsAtBy-iff _ _ _ _ _ in
+        let b = but-clear s (loose night cols us vs) (night .rowCount) in
+        (λ e. record { met = λ i l d. row-met cols i .0 (b .0 (t .0 e) i l d) }, λ h. t .1 (b .1 (λ i l d. row-met cols i .1 (h .met i l d))))

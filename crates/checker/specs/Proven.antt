@@ -1,12 +1,16 @@
 -- What is right about an input that the checker accepts, in the words of `assignment`.
 use mathlib.Core.Path.{_≡_}
+use mathlib.Core.Logic.{_≢_}
+use mathlib.Core.Bool.{true}
 use mathlib.Core.List.{List}
 use Prim.Native.Nat.{ℕ, _*_, _≤_, _<_}
 use lib.IntN.{ℤ}
+use lib.Signed.{_≤ℤ_}
 use lib.ListN.{length, take}
 use Rattle.ints.specs.Parts.{Within}
 use Rattle.assignment.specs.Pairings.{Night, Pairing, square, Named, signedAt}
-use Rattle.assignment.specs.Prices.{Feasible, Tight, SparesNotBelow}
+use Rattle.lists.specs.Permutations.{at}
+use Rattle.assignment.specs.Prices.{priced, Feasible, Tight, SparesNotBelow}
 use Rattle.matrix.specs.Limits.{side, K}
 use Rattle.matrix.specs.declared.Answer.{Answer}
 use Rattle.matrix.specs.declared.Answer.the-variants.{Total}
@@ -43,6 +47,13 @@ pub record Proven (n : ℕ) (costs : List ℤ) (cols rows : List ℕ) (us vs : L
   pub column-prices : Prices n vs
   pub feasible : Feasible (square n costs) us vs
   pub tight : Tight (square n costs) us vs cols
+
+-- Prices that are feasible but for row s, and tight on the pairing but for it.
+pub record FeasibleBut (s : ℕ) (night : Night) (us vs : List ℤ) : Type 0 where
+  pub under : (i j : ℕ) → i < night .rowCount → i ≢ s → j < night .columnCount → night .allowed i j ≡ true → priced us vs i j ≤ℤ night .cost i j
+
+pub record TightBut (s : ℕ) (night : Night) (us vs : List ℤ) (cols : List ℕ) : Type 0 where
+  pub met : (i : ℕ) → i < night .rowCount → i ≢ s → priced us vs i (at cols i) ≡ night .cost i (at cols i)
 
 -- For any night: prices that show that the first entries of a list of columns are a least pairing.
 pub record Shown (night : Night) (cols : List ℕ) (us vs : List ℤ) : Type 0 where

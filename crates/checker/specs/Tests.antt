@@ -33,10 +33,22 @@ overFirst night us vs i = first (night .columnCount) (over night us vs i)
 abbrev pub overIn : Night → List ℤ → List ℤ → ℕ → Bool
 overIn night us vs i = ltb (overFirst night us vs i) (night .columnCount)
 
--- 9, "first i*n+j": the first row that has such a place, and in it the first such column. It carries the slack of that place.
+-- A test of the rows but row s. Where s is no row, none is left out.
+abbrev pub but : ℕ → (ℕ → Bool) → ℕ → Bool
+but s test i = not (eqb i s) && test i
+
+-- 9, "first i*n+j", in the first row that a test names: there the first such column. It carries the slack of that place.
+abbrev pub refusedOver : Night → List ℤ → List ℤ → (ℕ → Bool) → Verdict
+refusedOver night us vs test =
+    failsAtBy PricesOverCost (λ i. i * night .columnCount + overFirst night us vs i) (λ i. slack night us vs i (overFirst night us vs i)) (night .rowCount) test
+
+-- 9: the first row that has such a place.
 abbrev pub underCosts : Night → List ℤ → List ℤ → Verdict
-underCosts night us vs =
-    failsAtBy PricesOverCost (λ i. i * night .columnCount + overFirst night us vs i) (λ i. slack night us vs i (overFirst night us vs i)) (night .rowCount) (overIn night us vs)
+underCosts night us vs = refusedOver night us vs (overIn night us vs)
+
+-- 9, "leaving out" row s.
+abbrev pub underCostsBut : ℕ → Night → List ℤ → List ℤ → Verdict
+underCostsBut s night us vs = refusedOver night us vs (but s (overIn night us vs))
 
 -- a is not b: it is below b or above it.
 abbrev pub differ : ℤ → ℤ → Bool
@@ -46,6 +58,14 @@ differ a b = ltZ a b || ltZ b a
 abbrev pub loose : Night → List ℕ → List ℤ → List ℤ → ℕ → Bool
 loose night cols us vs i = differ (slack night us vs i (at cols i)) (pos 0)
 
--- 10, "first row". It carries the slack of that row's place.
+-- 10, "first row", in the first row that a test names. It carries the slack of that row's place.
+abbrev pub refusedLoose : Night → List ℕ → List ℤ → List ℤ → (ℕ → Bool) → Verdict
+refusedLoose night cols us vs test = failsAtBy PricesNotCost (λ i. i) (λ i. slack night us vs i (at cols i)) (night .rowCount) test
+
+-- 10.
 abbrev pub tightOn : Night → List ℕ → List ℤ → List ℤ → Verdict
-tightOn night cols us vs = failsAtBy PricesNotCost (λ i. i) (λ i. slack night us vs i (at cols i)) (night .rowCount) (loose night cols us vs)
+tightOn night cols us vs = refusedLoose night cols us vs (loose night cols us vs)
+
+-- 10, "leaving out" row s.
+abbrev pub tightOnBut : ℕ → Night → List ℕ → List ℤ → List ℤ → Verdict
+tightOnBut s night cols us vs = refusedLoose night cols us vs (but s (loose night cols us vs))

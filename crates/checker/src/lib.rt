@@ -15,7 +15,7 @@ ghost use Rattle.matrix.specs.Asked.{Listed, Shaped};
 ghost use Rattle.matrix.specs.Limits.{K};
 ghost use Rattle.assignment.specs.Pairings.{square};
 ghost use Rattle.matrix.specs.Verdicts.{Passes, _then_};
-ghost use Rattle.checker.specs.Tests.{rowsNamed, slack, overIn, underCosts, loose, tightOn};
+ghost use Rattle.checker.specs.Tests.{rowsNamed, slack, overIn, but, underCostsBut, loose, tightOnBut};
 ghost use Rattle.checker.specs.Check.{priceTests, proofTests, checks, check};
 ghost use Rattle.checker.specs.Proven.{Prices, Priced};
 use matrix::Answer;
@@ -41,7 +41,7 @@ fn first_row_not_named(n: usize, cols: &[u32], rows: &[u32]) -> usize
 }
 
 // Test 7.
-fn rows_named(before: Verdict, n: usize, cols: &[u32], rows: &[u32]) -> Verdict
+pub fn rows_named(before: Verdict, n: usize, cols: &[u32], rows: &[u32]) -> Verdict
     requires { ⌜ (Passes before → (n ≤ length (now cols)) × (n ≤ length (now rows)) × ((i : ℕ) → i < n → at (now cols) i < n)) ⌝ }
     ensures { λ r. ⌜ r ≡ (before then rowsNamed n (now (cols .entry)) (now (rows .entry))) ⌝ }
 {
@@ -87,15 +87,26 @@ fn first_column_over(row: &[i32], u: i64, vs: &[i64]) -> usize
     j
 }
 
-// Refusal 9: the first row that has a place at which the prices are over the cost, or n.
-fn first_row_over(n: usize, costs: &[i32], us: &[i64], vs: &[i64]) -> usize
+// Refusal 9 in row i, where it is not `skip`: whether it has a place at which the prices are over the cost.
+fn row_over(n: usize, skip: usize, costs: &[i32], us: &[i64], vs: &[i64], i: usize) -> bool
+    requires { ⌜ (i < n) × (length (now costs) ≡ n * n) × Prices n (now us) × Prices n (now vs) ⌝ }
+    ensures { λ r. ⌜ r ≡ but skip (overIn (square n (now (costs .entry))) (now (us .entry)) (now (vs .entry))) i ⌝ }
+{
+    if i == skip {
+        return false;
+    }
+    let row = row(costs, n, i);
+    first_column_over(row, us[i], vs) < n
+}
+
+// Refusal 9: the first row but `skip` that has a place at which the prices are over the cost, or n.
+fn first_row_over(n: usize, skip: usize, costs: &[i32], us: &[i64], vs: &[i64]) -> usize
     requires { ⌜ (length (now costs) ≡ n * n) × Prices n (now us) × Prices n (now vs) ⌝ }
-    ensures { λ r. ⌜ r ≡ first n (overIn (square n (now (costs .entry))) (now (us .entry)) (now (vs .entry))) ⌝ }
+    ensures { λ r. ⌜ r ≡ first n (but skip (overIn (square n (now (costs .entry))) (now (us .entry)) (now (vs .entry)))) ⌝ }
 {
     let mut i = 0;
     while i < n {
-        let row = row(costs, n, i);
-        if first_column_over(row, us[i], vs) < n {
+        if row_over(n, skip, costs, us, vs, i) {
             return i;
         }
         i += 1;
@@ -103,10 +114,17 @@ fn first_row_over(n: usize, costs: &[i32], us: &[i64], vs: &[i64]) -> usize
     i
 }
 
-// Test 9.
-fn under_costs(before: Verdict, n: usize, costs: &[i32], us: &[i64], vs: &[i64]) -> Verdict
+// Test 9, leaving out row `skip`. The checker leaves none out: its `skip` is n, which is no row.
+pub fn under_costs(
+    before: Verdict,
+    n: usize,
+    skip: usize,
+    costs: &[i32],
+    us: &[i64],
+    vs: &[i64],
+) -> Verdict
     requires { ⌜ (Passes before → Priced n (now costs) (now us) (now vs)) ⌝ }
-    ensures { λ r. ⌜ r ≡ (before then underCosts (square n (now (costs .entry))) (now (us .entry)) (now (vs .entry))) ⌝ }
+    ensures { λ r. ⌜ r ≡ (before then underCostsBut skip (square n (now (costs .entry))) (now (us .entry)) (now (vs .entry))) ⌝ }
 {
     match before {
         Verdict::Fails(refusal) => {
@@ -114,7 +132,7 @@ fn under_costs(before: Verdict, n: usize, costs: &[i32], us: &[i64], vs: &[i64])
         }
         Verdict::Passed => {}
     }
-    let i = first_row_over(n, costs, us, vs);
+    let i = first_row_over(n, skip, costs, us, vs);
     if n <= i {
         return Verdict::Passed;
     }
@@ -132,14 +150,40 @@ fn paired_slack(n: usize, costs: &[i32], cols: &[u32], us: &[i64], vs: &[i64], i
     slack_at(n, costs, us, vs, i, cols[i] as usize)
 }
 
-// Refusal 10: the first row whose paired place has prices that are not the cost, or n.
-fn first_row_loose(n: usize, costs: &[i32], cols: &[u32], us: &[i64], vs: &[i64]) -> usize
+// Refusal 10 in row i, where it is not `skip`: whether its paired place has prices that are not the cost.
+fn row_loose(
+    n: usize,
+    skip: usize,
+    costs: &[i32],
+    cols: &[u32],
+    us: &[i64],
+    vs: &[i64],
+    i: usize,
+) -> bool
+    requires { ⌜ (i < n) × Listed n (now costs) n (now cols) × Prices n (now us) × Prices n (now vs) ⌝ }
+    ensures { λ r. ⌜ r ≡ but skip (loose (square n (now (costs .entry))) (now (cols .entry)) (now (us .entry)) (now (vs .entry))) i ⌝ }
+{
+    if i == skip {
+        return false;
+    }
+    paired_slack(n, costs, cols, us, vs, i) != 0
+}
+
+// Refusal 10: the first row but `skip` whose paired place has prices that are not the cost, or n.
+fn first_row_loose(
+    n: usize,
+    skip: usize,
+    costs: &[i32],
+    cols: &[u32],
+    us: &[i64],
+    vs: &[i64],
+) -> usize
     requires { ⌜ Listed n (now costs) n (now cols) × Prices n (now us) × Prices n (now vs) ⌝ }
-    ensures { λ r. ⌜ r ≡ first n (loose (square n (now (costs .entry))) (now (cols .entry)) (now (us .entry)) (now (vs .entry))) ⌝ }
+    ensures { λ r. ⌜ r ≡ first n (but skip (loose (square n (now (costs .entry))) (now (cols .entry)) (now (us .entry)) (now (vs .entry)))) ⌝ }
 {
     let mut i = 0;
     while i < n {
-        if paired_slack(n, costs, cols, us, vs, i) != 0 {
+        if row_loose(n, skip, costs, cols, us, vs, i) {
             return i;
         }
         i += 1;
@@ -147,17 +191,18 @@ fn first_row_loose(n: usize, costs: &[i32], cols: &[u32], us: &[i64], vs: &[i64]
     i
 }
 
-// Test 10.
-fn tight_on(
+// Test 10, leaving out row `skip`, as test 9 does.
+pub fn tight_on(
     before: Verdict,
     n: usize,
+    skip: usize,
     costs: &[i32],
     cols: &[u32],
     us: &[i64],
     vs: &[i64],
 ) -> Verdict
     requires { ⌜ (Passes before → Listed n (now costs) n (now cols) × Prices n (now us) × Prices n (now vs)) ⌝ }
-    ensures { λ r. ⌜ r ≡ (before then tightOn (square n (now (costs .entry))) (now (cols .entry)) (now (us .entry)) (now (vs .entry))) ⌝ }
+    ensures { λ r. ⌜ r ≡ (before then tightOnBut skip (square n (now (costs .entry))) (now (cols .entry)) (now (us .entry)) (now (vs .entry))) ⌝ }
 {
     match before {
         Verdict::Fails(refusal) => {
@@ -165,7 +210,7 @@ fn tight_on(
         }
         Verdict::Passed => {}
     }
-    let i = first_row_loose(n, costs, cols, us, vs);
+    let i = first_row_loose(n, skip, costs, cols, us, vs);
     if n <= i {
         return Verdict::Passed;
     }
@@ -179,8 +224,8 @@ fn priced(before: Verdict, n: usize, costs: &[i32], cols: &[u32], us: &[i64], vs
     ensures { λ r. ⌜ r ≡ (before then priceTests (square n (now (costs .entry))) (now (cols .entry)) (now (us .entry)) (now (vs .entry))) ⌝ }
 {
     let within = tests::prices_within(before, n, n, us, vs);
-    let under = under_costs(within, n, costs, us, vs);
-    tight_on(under, n, costs, cols, us, vs)
+    let under = under_costs(within, n, n, costs, us, vs);
+    tight_on(under, n, n, costs, cols, us, vs)
 }
 
 // Tests 5 to 10.

@@ -1,7 +1,12 @@
--- No two differing outcomes meet the promise of `bristlefrost_solve`: neither the struct nor any lent list is left open. Assumes nothing.
+-- No two differing outcomes meet the promise of `bristlefrost_solve`, nor that of `bristlefrost_repair`: neither the struct nor any lent list is left
+-- open. Assumes nothing.
 use mathlib.Core.Path.{_≡_, sym, _∙_}
 use Rattle.lapjv.specs.Values.{Told}
-use Rattle.face.specs.Face.{Handed, handed}
+use Rattle.repair.specs.Repair.{Outcome}
+use Rattle.face.specs.Face.{Handed, handed, HandedBack, handedBack}
 
 pub handed-determined : (told : Told) (one other : Handed) → one ≡ handed told → other ≡ handed told → one ≡ other
 handed-determined told one other e f = e ∙ sym f
+
+pub handed-back-determined : (outcome : Outcome) (one other : HandedBack) → one ≡ handedBack outcome → other ≡ handedBack outcome → one ≡ other
+handed-back-determined outcome one other e f = e ∙ sym f

@@ -1,8 +1,9 @@
 -- What a C caller gets, from the values of what the entries answer: "0, or number + 256*place".
 use Prim.Native.Nat.{_+_, _*_}
-use Rattle.matrix.specs.Answers.{Values}
+use Rattle.matrix.specs.Answers.{Values, valuesOf}
 use Rattle.lapjv.specs.Solve.{Lent}
 use Rattle.lapjv.specs.Values.{SolvedValues, Told}
+use Rattle.repair.specs.Repair.{Outcome}
 use Rattle.face.specs.declared.Checked.{Checked}
 use Rattle.face.specs.declared.Solution.{Solution}
 use Rattle.face.specs.declared.Totalled.{Totalled}
@@ -35,3 +36,11 @@ pub record Handed : Type 0 where
 
 abbrev pub handed : Told → Handed
 handed told = record { solution = solution (told .values); lent = told .lent }
+
+-- What a C caller gets of a repair and finds in the lent lists.
+pub record HandedBack : Type 0 where
+  pub checked : Checked
+  pub lent : Lent
+
+abbrev pub handedBack : Outcome → HandedBack
+handedBack o = record { checked = checked (valuesOf (o .answer)); lent = o .lent }

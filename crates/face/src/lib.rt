@@ -9,8 +9,9 @@ ghost use Rattle.checker.specs.Check.{check};
 ghost use Rattle.lapjv.specs.Solve.{lentOf, solve};
 ghost use Rattle.lapjv.specs.Values.{solvedValues, toldOf};
 ghost use Rattle.lapjv.specs.Asked.{TellableSolved};
+ghost use Rattle.repair.specs.Repair.{repair};
 ghost use Rattle.sheet.specs.Settle.{Delivery, pair};
-ghost use Rattle.face.specs.Face.{totalled, checked, solution, Handed, handed};
+ghost use Rattle.face.specs.Face.{totalled, checked, solution, Handed, handed, HandedBack, handedBack};
 use lapjv::Solved;
 use matrix::Answer;
 
@@ -21,7 +22,7 @@ pub struct Totalled {
     pub total: i64,
 }
 
-// What the checker answers: a total, or a refusal and the slack that it carries.
+// What the checker and a repair answer: a total, or a refusal and the slack that it carries.
 #[repr(C)]
 pub struct Checked {
     pub refusal: u64,
@@ -64,7 +65,7 @@ pub extern "C" fn bristlefrost_cost(n: usize, costs: &[i32], listed: &[u32]) -> 
     told(matrix::cost(n, costs, listed))
 }
 
-// What a C caller gets of the checker's answer.
+// What a C caller gets of the answer of the checker or of a repair.
 fn told_checked(answer: Answer) -> Checked
     requires { ⌜ TellableIn answer ⌝ }
     ensures { λ r. ⌜ r ≡ checked (valuesOf answer) ⌝ }
@@ -147,6 +148,34 @@ pub extern "C" fn bristlefrost_solve(
     told_solved(lapjv::solve(
         n,
         costs,
+        cols,
+        rows,
+        row_prices,
+        col_prices,
+        indices,
+        numbers,
+    ))
+}
+
+// The repair of a paired night after the costs of `row` changed.
+#[no_mangle]
+pub extern "C" fn bristlefrost_repair(
+    n: usize,
+    costs: &[i32],
+    row: usize,
+    cols: &mut [u32],
+    rows: &mut [u32],
+    row_prices: &mut [i64],
+    col_prices: &mut [i64],
+    indices: &mut [u32],
+    numbers: &mut [i64],
+) -> Checked
+    ensures { λ r. ⌜ _≡_ {A = HandedBack} (record { checked = r; lent = lentOf (now (cols .exit)) (now (rows .exit)) (now («row_prices» .exit)) (now («col_prices» .exit)) (now (indices .exit)) (now (numbers .exit)) }) (handedBack (repair n (now (costs .entry)) row (lentOf (now (cols .entry)) (now (rows .entry)) (now («row_prices» .entry)) (now («col_prices» .entry)) (now (indices .entry)) (now (numbers .entry))))) ⌝ }
+{
+    told_checked(repair::repair(
+        n,
+        costs,
+        row,
         cols,
         rows,
         row_prices,

@@ -13,7 +13,7 @@ use Rattle.matrix.proofs.Codes.{square-small, shaped-small, rooms-small}
 use Rattle.lapjv.specs.Asked.{TellableSolved}
 use Rattle.lapjv.specs.Solve.{Lent, tested, outcome, solve}
 
-tested-small : (n : ℕ) (costs : List ℤ) (lent : Lent) → Small (tested n costs lent)
+pub tested-small : (n : ℕ) (costs : List ℤ) (lent : Lent) → Small (tested n costs lent)
 unfolding tested
 tested-small n costs lent =
     then-small _ _

@@ -21,13 +21,13 @@ use Rattle.lapjv.specs.Stages.{Pairable, Sized, PairedBy}
 use Rattle.lapjv.proofs.Tests.{passes-paired}
 
 -- The first m entries of a list, as they are lent; and the list when they came back as `new`.
-abbrev front : {A : Type 0} → ℕ → List A → List A
+abbrev pub front : {A : Type 0} → ℕ → List A → List A
 front m l = take (m - 0) (drop 0 l)
 
-abbrev back : {A : Type 0} → ℕ → List A → List A → List A
+abbrev pub back : {A : Type 0} → ℕ → List A → List A → List A
 back m new l = take 0 l ++ (new ++ drop (m - 0) (drop 0 l))
 
-front-length : {A : Type 0} (m : ℕ) (l : List A) → m ≤ length l → length (front m l) ≡ m
+pub front-length : {A : Type 0} (m : ℕ) (l : List A) → m ≤ length l → length (front m l) ≡ m
 front-length m l h = lent-length m 0 m l (sub-zero m) (omega arith)
 
 module _ (n : ℕ) (costs : List ℤ) (cols rows : List ℕ) (us vs : List ℤ) (indices : List ℕ) (numbers : List ℤ)

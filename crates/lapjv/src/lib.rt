@@ -35,7 +35,7 @@ pub struct Reduced {
 }
 
 // Tests 1, 2, 3, 4, 5.
-fn tested(
+pub fn tested(
     n: usize,
     costs: &[i32],
     cols: &[u32],
@@ -60,7 +60,7 @@ fn tested(
 }
 
 // Every number is 0.
-fn clear_numbers(numbers: &mut [i64])
+pub fn clear_numbers(numbers: &mut [i64])
     ensures { λ r. ⌜ now (numbers .exit) ≡ replicate (length (now (numbers .entry))) (pos 0) ⌝ }
 {
     let mut k = 0;
@@ -71,7 +71,7 @@ fn clear_numbers(numbers: &mut [i64])
 }
 
 // Row prices: cost minus v at the paired column.
-fn write_row_prices(n: usize, costs: &[i32], cols: &[u32], v: &[i64], row_prices: &mut [i64])
+pub fn write_row_prices(n: usize, costs: &[i32], cols: &[u32], v: &[i64], row_prices: &mut [i64])
     requires { ⌜ CanPrice n (now costs) (now cols) (now v) (now «row_prices») ⌝ }
     ensures { λ r. ⌜ now («row_prices» .exit) ≡ rowPrices n (square n (now (costs .entry)) .cost) (now (cols .entry)) (now (v .entry)) ⌝ }
 {

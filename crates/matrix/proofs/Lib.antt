@@ -8,5 +8,6 @@ pub mod Codes
 pub mod RowParts
 pub mod Lengths
 pub mod Passed
+pub mod Multiples
 pub mod Listing
 pub mod Determined

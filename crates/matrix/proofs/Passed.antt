@@ -5,15 +5,16 @@ use mathlib.Core.List.{List, [], _∷_}
 use Prim.Native.Nat.{ℕ, _+_, _*_, _≤_, _<_}
 use borrow.Author.Tests.{ltb-false, le-ltb, leb-false, lt-leb, eqb-true, eq-eqb, not-false}
 use mathlib.Core.Bool.{not}
-use lib.IntN.{ℤ}
+use lib.IntN.{ℤ, pos}
 use lib.ListN.{length}
 use Rattle.ints.specs.Parts.{Within}
 use Rattle.lists.specs.Permutations.{at}
 use Rattle.assignment.specs.Pairings.{signedAt}
 use Rattle.matrix.specs.Limits.{side, K}
+use Rattle.matrix.specs.Refusals.{PriceOutside}
 use Rattle.matrix.specs.Tests.{short}
 use Rattle.matrix.specs.Verdicts.{Passes, _then_}
-use Rattle.matrix.specs.Tests.{sideWithin, costsFill, listsLong, shaped, listShort, roomsLong, costsWithin, columnsInside, pricesWithin}
+use Rattle.matrix.specs.Tests.{sideWithin, costsFill, listsLong, shaped, listShort, roomsLong, costsWithin, columnsInside, pricesIn, pricesWithin}
 use Rattle.matrix.proofs.Bounds.{outside-within}
 use Rattle.matrix.specs.Asked.{Long, Shaped}
 use Rattle.matrix.proofs.Lengths.{clear-long, long-clear}
@@ -66,12 +67,16 @@ columns-inside count n cols =
     let t = failsAt-iff _ _ _ _ in
     (λ e i l. leb-false n (at cols i) (t .0 e i l), λ h. t .1 (λ i l. lt-leb n (at cols i) (h i l)))
 
-pub prices-within : (m n : ℕ) (us vs : List ℤ) → Passes (pricesWithin m n us vs)
-    ↔ (((i : ℕ) → i < m → Within (10 * K) (signedAt us i)) × ((j : ℕ) → j < n → Within (10 * K) (signedAt vs j)))
-prices-within m n us vs =
+pub prices-in : (number limit m n : ℕ) (us vs : List ℤ) → Passes (pricesIn number (pos limit) m n us vs)
+    ↔ (((i : ℕ) → i < m → Within limit (signedAt us i)) × ((j : ℕ) → j < n → Within limit (signedAt vs j)))
+prices-in number limit m n us vs =
     let b = then-iff _ _ in
     let s = failsAt-iff _ _ _ _ in
     let t = failsAt-iff _ _ _ _ in (
-      λ e. (λ i l. outside-within (10 * K) (signedAt us i) .0 (s .0 (b .0 e .0) i l), λ j l. outside-within (10 * K) (signedAt vs j) .0 (t .0 (b .0 e .1) j l)),
-      λ h. b .1 (s .1 (λ i l. outside-within (10 * K) (signedAt us i) .1 (h .0 i l)), t .1 (λ j l. outside-within (10 * K) (signedAt vs j) .1 (h .1 j l))),
+      λ e. (λ i l. outside-within limit (signedAt us i) .0 (s .0 (b .0 e .0) i l), λ j l. outside-within limit (signedAt vs j) .0 (t .0 (b .0 e .1) j l)),
+      λ h. b .1 (s .1 (λ i l. outside-within limit (signedAt us i) .1 (h .0 i l)), t .1 (λ j l. outside-within limit (signedAt vs j) .1 (h .1 j l))),
     )
+
+pub prices-within : (m n : ℕ) (us vs : List ℤ) → Passes (pricesWithin m n us vs)
+    ↔ (((i : ℕ) → i < m → Within (10 * K) (signedAt us i)) × ((j : ℕ) → j < n → Within (10 * K) (signedAt vs j)))
+prices-within m n us vs = prices-in PriceOutside (10 * K) m n us vs

@@ -85,6 +85,10 @@ CharacterUnknown = 19
 abbrev pub NoteUnfit : ℕ
 NoteUnfit = 21
 
+-- "Prices outside 7K either side of zero": a repair could take them out of -10K..10K.
+abbrev pub PriceFar : ℕ
+PriceFar = 24
+
 -- The scope's "No." of a refusal.
 abbrev pub numberOf : Refusal → ℕ
 numberOf refusal = refusal .number

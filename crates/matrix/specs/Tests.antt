@@ -53,8 +53,12 @@ costsWithin costs = failsAt CostOutside (λ k. k) (length costs) (λ k. outside 
 abbrev pub columnsInside : ℕ → ℕ → List ℕ → Verdict
 columnsInside count n cols = failsAt ColumnOutside (λ i. i) count (λ i. leb n (at cols i))
 
--- 8, "a price outside -10K..10K", "first: row i, then n+j": m row prices, then n column prices.
+-- A price outside -limit..limit, "first: row i, then n+j": m row prices, then n column prices.
+abbrev pub pricesIn : ℕ → ℤ → ℕ → ℕ → List ℤ → List ℤ → Verdict
+pricesIn number limit m n us vs =
+    failsAt number (λ i. i) m (λ i. outside limit (signedAt us i))
+    then failsAt number (λ j. m + j) n (λ j. outside limit (signedAt vs j))
+
+-- 8, "a price outside -10K..10K".
 abbrev pub pricesWithin : ℕ → ℕ → List ℤ → List ℤ → Verdict
-pricesWithin m n us vs =
-    failsAt PriceOutside (λ i. i) m (λ i. outside (pos (10 * K)) (signedAt us i))
-    then failsAt PriceOutside (λ j. m + j) n (λ j. outside (pos (10 * K)) (signedAt vs j))
+pricesWithin m n us vs = pricesIn PriceOutside (pos (10 * K)) m n us vs

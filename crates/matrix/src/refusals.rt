@@ -45,6 +45,8 @@ pub const CHARACTER_UNKNOWN: u64 = 19;
 
 pub const NOTE_UNFIT: u64 = 21;
 
+pub const PRICE_FAR: u64 = 24;
+
 // The scope's number of a refusal.
 pub fn number(refusal: Refusal) -> u64
     ensures { λ r. ⌜ r ≡ numberOf refusal ⌝ }

@@ -11,7 +11,7 @@ ghost use Rattle.lists.specs.Permutations.{at};
 ghost use Rattle.assignment.specs.Pairings.{signedAt};
 ghost use Rattle.matrix.specs.Limits.{side, K};
 ghost use Rattle.matrix.specs.Verdicts.{Passes, _then_, failsBy, failsIf};
-ghost use Rattle.matrix.specs.Tests.{short, outside, sideWithin, costsFill, listsLong, shaped, listShort, roomsLong, costsWithin, columnsInside, pricesWithin};
+ghost use Rattle.matrix.specs.Tests.{short, outside, sideWithin, costsFill, listsLong, shaped, listShort, roomsLong, costsWithin, columnsInside, pricesIn, pricesWithin};
 use crate::Refusal;
 use crate::Verdict;
 use crate::limits::bound;
@@ -199,14 +199,14 @@ pub fn columns_inside(before: Verdict, count: usize, n: usize, cols: &[u32]) -> 
     fails_if(i < count, refusals::COLUMN_OUTSIDE, i)
 }
 
-// Refusal 8: the first of n prices outside -10K..10K, or n where there is none.
-fn first_price_outside(n: usize, prices: &[i64]) -> usize
-    requires { ⌜ n ≤ length (now prices) ⌝ }
-    ensures { λ r. ⌜ r ≡ first n (λ i. outside (pos (10 * K)) (signedAt (now (prices .entry)) i)) ⌝ }
+// The first of n prices outside -limit..limit, or n where there is none.
+fn first_price_outside(limit: i64, n: usize, prices: &[i64]) -> usize
+    requires { ⌜ Within (2 ^ 62) limit × (n ≤ length (now prices)) ⌝ }
+    ensures { λ r. ⌜ r ≡ first n (λ i. outside limit (signedAt (now (prices .entry)) i)) ⌝ }
 {
     let mut i = 0;
     while i < n {
-        if outside(prices[i], price_bound()) {
+        if outside(prices[i], limit) {
             return i;
         }
         i += 1;
@@ -214,10 +214,18 @@ fn first_price_outside(n: usize, prices: &[i64]) -> usize
     i
 }
 
-// Test 8.
-pub fn prices_within(before: Verdict, m: usize, n: usize, us: &[i64], vs: &[i64]) -> Verdict
-    requires { ⌜ (Passes before → (m ≤ side) × (n ≤ side) × (m ≤ length (now us)) × (n ≤ length (now vs))) ⌝ }
-    ensures { λ r. ⌜ r ≡ (before then pricesWithin m n (now (us .entry)) (now (vs .entry))) ⌝ }
+// A test of all prices, under the number of its refusal.
+pub fn prices_in(
+    before: Verdict,
+    number: u64,
+    limit: i64,
+    m: usize,
+    n: usize,
+    us: &[i64],
+    vs: &[i64],
+) -> Verdict
+    requires { ⌜ Within (2 ^ 62) limit × (Passes before → (m ≤ side) × (n ≤ side) × (m ≤ length (now us)) × (n ≤ length (now vs))) ⌝ }
+    ensures { λ r. ⌜ r ≡ (before then pricesIn number limit m n (now (us .entry)) (now (vs .entry))) ⌝ }
 {
     match before {
         Verdict::Fails(refusal) => {
@@ -225,10 +233,18 @@ pub fn prices_within(before: Verdict, m: usize, n: usize, us: &[i64], vs: &[i64]
         }
         Verdict::Passed => {}
     }
-    let i = first_price_outside(m, us);
+    let i = first_price_outside(limit, m, us);
     if i < m {
-        return fails_if(true, refusals::PRICE_OUTSIDE, i);
+        return fails_if(true, number, i);
     }
-    let j = first_price_outside(n, vs);
-    fails_if(j < n, refusals::PRICE_OUTSIDE, m + j)
+    let j = first_price_outside(limit, n, vs);
+    fails_if(j < n, number, m + j)
+}
+
+// Test 8.
+pub fn prices_within(before: Verdict, m: usize, n: usize, us: &[i64], vs: &[i64]) -> Verdict
+    requires { ⌜ (Passes before → (m ≤ side) × (n ≤ side) × (m ≤ length (now us)) × (n ≤ length (now vs))) ⌝ }
+    ensures { λ r. ⌜ r ≡ (before then pricesWithin m n (now (us .entry)) (now (vs .entry))) ⌝ }
+{
+    prices_in(before, refusals::PRICE_OUTSIDE, price_bound(), m, n, us, vs)
 }

@@ -1,5 +1,6 @@
 pub mod Front
 pub mod Accepted
+pub mod Repaired
 pub mod Slips
 pub mod Scores
 pub mod Starred

@@ -1,5 +1,6 @@
 //! Times the crate lapjv 0.3.0 on f64, the archive on the same matrices and the archive's checker on what it paired,
-//! in one process and in turn, and writes the medians and their ratios as a table; then sheets of side 64.
+//! in one process and in turn, and writes the medians and their ratios as a table; then a repair of one changed row
+//! against a fresh run, and sheets of side 64.
 //!
 //!     bench [--seed S] [--matrices M] [--rounds R] [--largest N]
 //!
@@ -12,6 +13,7 @@
 //! that the archive sets its work room to 0 before it returns is part of its time, as the crate's own allocations
 //! are part of the crate's.
 
+mod repairs;
 mod sheets;
 
 use std::process::ExitCode;
@@ -185,6 +187,7 @@ fn run() -> Result<(), String> {
             println!("{}", line(&settings, &mut random, kind, n)?);
         }
     }
+    repairs::table(&settings, &mut random)?;
     sheets::table(&settings, &mut random)
 }
 

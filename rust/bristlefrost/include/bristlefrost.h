@@ -21,6 +21,7 @@
  *    4  work room too short                                         1 indices, 2 numbers
  *    5  a cost outside -1,000,000,000..1,000,000,000                the first, i*n+j
  *    6  a listed column is not below n                              the first row
+ *       repair: before that, the row number is not below n          n
  *    7  the column of a row does not name that row back             the first row
  *    8  a price outside -10,000,000,000..10,000,000,000             the first: row i is i, column j is n+j
  *    9  row price + column price over the cost                      the first i*n+j
@@ -38,6 +39,7 @@
  *                                                                   in lists 24 times the reference's number more
  *   21  a note (all bytes before the first cost) over 4,096 bytes,  the first such position, 4,096 for a longer note
  *       or with a byte outside 32 to 126                            whose first 4,096 bytes are good
+ *   24  a price outside -7,000,000,000..7,000,000,000               as for 8
  * Lists are numbered 1 columns by row, 2 rows by column, 3 row prices, 4 column prices. A refusal has total 0
  * and counts 0 and changes nothing that was lent. With 9 and 10 comes the slack of the place named, its cost minus
  * both its prices: below 0 with a 9, above 0 with a 10. All others have slack 0. */
@@ -73,7 +75,8 @@ enum {
     BRISTLEFROST_SHEET_OVER = 17,
     BRISTLEFROST_REFERENCE_LENGTH = 18,
     BRISTLEFROST_CHARACTER_UNKNOWN = 19,
-    BRISTLEFROST_NOTE_UNFIT = 21
+    BRISTLEFROST_NOTE_UNFIT = 21,
+    BRISTLEFROST_PRICE_FAR = 24
 };
 
 /* The solver's answer: the refusal, the least total, and the six counts. */
@@ -129,6 +132,22 @@ bristlefrost_total bristlefrost_cost(
     size_t n,
     const int32_t *costs, size_t costs_len,
     const uint32_t *listed, size_t listed_len);
+
+/* Repairs a paired night in place, with one search, after the costs of one row changed. costs: the whole new matrix.
+ * cols, rows, row_prices, col_prices: the old pairing and its prices, as solve left them and check accepted them; the
+ * first n entries are read and then hold the new ones. indices, numbers: as for solve. Answers the least total. The
+ * pairing and prices may differ from those of solve. A repair never raises a column price, so that a chain of repairs
+ * comes to 24 in time: then solve. Refusals 1 2 3 4 5 6 7 8 24 9 10; 9 and 10 leave the row out. */
+bristlefrost_checked bristlefrost_repair(
+    size_t n,
+    const int32_t *costs, size_t costs_len,
+    size_t row,
+    uint32_t *cols, size_t cols_len,
+    uint32_t *rows, size_t rows_len,
+    int64_t *row_prices, size_t row_prices_len,
+    int64_t *col_prices, size_t col_prices_len,
+    uint32_t *indices, size_t indices_len,
+    int64_t *numbers, size_t numbers_len);
 
 /* Reads a sheet and writes its slip of 18n+20 bytes, where n is the sheet's side, at most 64; later bytes of the
  * slip's room are untouched. Answers 0, or number + 256*place. Refusals 17 11 12 13 14 15 16 5.

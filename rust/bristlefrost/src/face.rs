@@ -81,6 +81,25 @@ extern "C" {
         sheet_len: usize,
     ) -> u64;
 
+    fn bristlefrost_repair(
+        n: usize,
+        costs: *const i32,
+        costs_len: usize,
+        row: usize,
+        cols: *mut u32,
+        cols_len: usize,
+        rows: *mut u32,
+        rows_len: usize,
+        row_prices: *mut i64,
+        row_prices_len: usize,
+        col_prices: *mut i64,
+        col_prices_len: usize,
+        indices: *mut u32,
+        indices_len: usize,
+        numbers: *mut i64,
+        numbers_len: usize,
+    ) -> Checked;
+
     fn bristlefrost_sheet(sheet: *const u8, sheet_len: usize, slip: *mut u8, slip_len: usize) -> u64;
 }
 
@@ -136,6 +155,30 @@ pub fn check(
 pub fn cost(n: usize, costs: &[i32], listed: &[u32]) -> Total {
     // Safety: every pointer and length come from one slice, and nothing is written.
     unsafe { bristlefrost_cost(n, costs.as_ptr(), costs.len(), listed.as_ptr(), listed.len()) }
+}
+
+pub fn repair(n: usize, costs: &[i32], row: usize, lent: Lent<'_>) -> Checked {
+    // Safety: every pointer and length come from one slice, and the mutable ones are exclusive.
+    unsafe {
+        bristlefrost_repair(
+            n,
+            costs.as_ptr(),
+            costs.len(),
+            row,
+            lent.columns.as_mut_ptr(),
+            lent.columns.len(),
+            lent.rows.as_mut_ptr(),
+            lent.rows.len(),
+            lent.row_prices.as_mut_ptr(),
+            lent.row_prices.len(),
+            lent.column_prices.as_mut_ptr(),
+            lent.column_prices.len(),
+            lent.indices.as_mut_ptr(),
+            lent.indices.len(),
+            lent.numbers.as_mut_ptr(),
+            lent.numbers.len(),
+        )
+    }
 }
 
 pub fn sheet(sheet: &[u8], slip: &mut [u8]) -> u64 {

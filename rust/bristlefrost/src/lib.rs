@@ -27,6 +27,8 @@
 //! # Ok::<(), bristlefrost::Refusal>(())
 //! ```
 //!
+//! Where the costs of one row change, a [`KeptNight`] is repaired with one search instead of paired anew.
+//!
 //! The same on paper: a [`Sheet`] is built from costs or from a table of numbers, [`pair`] answers its [`Slip`], and
 //! [`audit`] holds a slip against its sheet on another machine. [`sheet`] does it on bytes.
 
@@ -35,9 +37,11 @@
 mod desk;
 #[doc(hidden)]
 pub mod face;
+mod kept;
 mod refusal;
 
 pub use desk::{audit, pair, Doubt};
+pub use kept::{Change, KeptNight};
 pub use paper::{references, Sheet, Slip, Unfit, BARRED};
 pub use refusal::{List, Refusal, Room};
 
@@ -84,7 +88,7 @@ pub struct Night {
     pub paired: Paired,
 }
 
-/// Where [`solve_into`] writes: four outputs of at least side entries each, and two work rooms.
+/// Where [`solve_into`] and [`repair_into`] write: four outputs of at least side entries each, and two work rooms.
 pub struct Lent<'a> {
     /// The column of each row.
     pub columns: &'a mut [u32],
@@ -169,6 +173,42 @@ pub fn solve_into(side: usize, costs: &[i32], lent: Lent<'_>) -> Result<Paired, 
         rows_left: solved.rows_left,
         columns_scanned: solved.columns_scanned,
     })
+}
+
+/// Repairs a paired night in lent lists, with one search, after the costs of one row changed, and answers the least
+/// total. `costs` is the whole new matrix; the four outputs hold the old pairing and its prices, and then the new ones.
+/// The work room is the solver's. A refusal changes nothing; after [`Refusal::PriceFar`] the night is solved afresh.
+///
+/// The total is the one that [`solve_into`] would give. The prices, and the choice among pairings of that total, may
+/// be others.
+///
+/// ```
+/// use bristlefrost::{check, repair_into, solve, Lent, Refusal};
+///
+/// let mut night = solve(2, &[1, 2, 1, 5])?;
+/// assert_eq!((&night.columns[..], night.paired.total), (&[1, 0][..], 3));
+/// let mut repair = |costs: &[i32], row: usize| {
+///     let lent = Lent {
+///         columns: &mut night.columns,
+///         rows: &mut night.rows,
+///         row_prices: &mut night.row_prices,
+///         column_prices: &mut night.column_prices,
+///         indices: &mut [0; 8],
+///         numbers: &mut [0; 2],
+///     };
+///     repair_into(2, costs, row, lent)
+/// };
+/// assert_eq!(repair(&[1, 2, 1, 1], 2), Err(Refusal::ColumnOutside { row: 2 }));
+/// assert_eq!(repair(&[1, 2, 1, 1], 1), Ok(2));
+/// assert_eq!(night.columns, [0, 1]);
+/// let (u, v) = (&night.row_prices, &night.column_prices);
+/// assert_eq!(check(2, &[1, 2, 1, 1], &night.columns, &night.rows, u, v), Ok(2));
+/// # Ok::<(), Refusal>(())
+/// ```
+pub fn repair_into(side: usize, costs: &[i32], row: usize, lent: Lent<'_>) -> Result<i64, Refusal> {
+    let answer = face::repair(side, costs, row, lent);
+    Refusal::read(answer.refusal, answer.slack)?;
+    Ok(answer.total)
 }
 
 /// Accepts a pairing and its prices with the pairing's total; accepted means that no pairing has a lower total.

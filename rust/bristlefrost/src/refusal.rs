@@ -41,9 +41,9 @@ pub enum Refusal {
         /// The first such cost.
         place: u64,
     },
-    /// 6: a listed column is not below the side.
+    /// 6: a listed column is not below the side, or the row that a repair names is not.
     ColumnOutside {
-        /// The first such row.
+        /// The first such row; the side where it is the row to repair that lies outside.
         row: u64,
     },
     /// 7: the column of a row does not name that row back.
@@ -100,6 +100,11 @@ pub enum Refusal {
         /// The first such position, 4,096 for a longer note whose first 4,096 bytes are good.
         place: u64,
     },
+    /// 24: a price lies outside -7,000,000,000..7,000,000,000, so that a repair could take it too far: solve afresh.
+    PriceFar {
+        /// The first such price: a row's number, or side + a column's number.
+        place: u64,
+    },
     /// A number without a meaning, which the archive never answers.
     Other {
         /// The number.
@@ -139,6 +144,7 @@ impl Refusal {
             (18, 0..=2) => Refusal::ReferenceLength { reference: place },
             (19, _) => Refusal::CharacterUnknown { place },
             (21, _) => Refusal::NoteUnfit { place },
+            (24, _) => Refusal::PriceFar { place },
             _ => Refusal::Other { number, place },
         };
         Err(refusal)
@@ -167,6 +173,7 @@ impl Refusal {
             Refusal::ReferenceLength { .. } => 18,
             Refusal::CharacterUnknown { .. } => 19,
             Refusal::NoteUnfit { .. } => 21,
+            Refusal::PriceFar { .. } => 24,
             Refusal::Other { number, .. } => number,
         }
     }
@@ -178,6 +185,7 @@ impl Refusal {
             Refusal::RoomShort(room) => room as u64 + 1,
             Refusal::CostOutside { place }
             | Refusal::PriceOutside { place }
+            | Refusal::PriceFar { place }
             | Refusal::PricesOverCost { place, .. }
             | Refusal::CharacterUnknown { place }
             | Refusal::NoteUnfit { place }
@@ -207,7 +215,7 @@ impl fmt::Display for Refusal {
             Refusal::ListLength(_) => "a list's length does not fit the side",
             Refusal::RoomShort(_) => "a work room is too short",
             Refusal::CostOutside { .. } => "a cost lies outside -1,000,000,000..1,000,000,000",
-            Refusal::ColumnOutside { .. } => "a listed column is not below the side",
+            Refusal::ColumnOutside { .. } => "a listed column or the row to repair is not below the side",
             Refusal::RowNotNamed { .. } => "the column of a row does not name that row back",
             Refusal::PriceOutside { .. } => "a price lies outside -10,000,000,000..10,000,000,000",
             Refusal::PricesOverCost { .. } => "row price + column price is over the cost",
@@ -226,6 +234,7 @@ impl fmt::Display for Refusal {
             }
             Refusal::CharacterUnknown { .. } => "a character of a reference is not from 0-9 and A-Z",
             Refusal::NoteUnfit { .. } => "the sheet's note is over 4,096 bytes or has a byte outside 32 to 126",
+            Refusal::PriceFar { .. } => "a price lies outside -7,000,000,000..7,000,000,000",
             Refusal::Other { .. } => "a number without a meaning",
         };
         write!(out, "refused {} place {}: {meaning}", self.number(), self.place())?;

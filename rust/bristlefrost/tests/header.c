@@ -23,6 +23,21 @@ int main(void) {
     checked = bristlefrost_check(3, costs, 9, other, 3, other, 3, row_prices, 3, col_prices, 3);
     if (checked.refusal != BRISTLEFROST_PRICES_NOT_COST || checked.total != 0 || checked.slack != 2) return 9;
 
+    /* Row 1 becomes 9 9 9. A row that is not below the side comes first, and changes nothing. */
+    const int32_t changed[9] = {3, 1, 0, 9, 9, 9, 4, 1, 0};
+    bristlefrost_checked repaired = bristlefrost_repair(
+        3, changed, 9, 3, cols, 3, rows, 3, row_prices, 3, col_prices, 3, indices, 12, numbers, 3);
+    if (repaired.refusal != BRISTLEFROST_COLUMN_OUTSIDE + 256 * 3 || repaired.total != 0) return 15;
+    repaired = bristlefrost_repair(
+        3, changed, 9, 1, cols, 3, rows, 3, row_prices, 3, col_prices, 3, indices, 12, numbers, 3);
+    if (repaired.refusal != 0 || repaired.total != 10 || repaired.slack != 0) return 16;
+    checked = bristlefrost_check(3, changed, 9, cols, 3, rows, 3, row_prices, 3, col_prices, 3);
+    if (checked.refusal != 0 || checked.total != 10) return 17;
+    row_prices[2] = 7000000001;
+    repaired = bristlefrost_repair(
+        3, changed, 9, 1, cols, 3, rows, 3, row_prices, 3, col_prices, 3, indices, 12, numbers, 3);
+    if (repaired.refusal != BRISTLEFROST_PRICE_FAR + 256 * 2) return 18;
+
     bristlefrost_total summed = bristlefrost_cost(3, costs, 9, other, 2);
     if (summed.refusal != 0 || summed.total != 3) return 10;
     summed = bristlefrost_cost(2, costs, 4, other, 3);

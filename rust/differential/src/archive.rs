@@ -20,10 +20,11 @@ impl Met {
     }
 
     /// The numbers that each entry can answer, in its order.
-    const ALL: [(&'static str, &'static [u64]); 6] = [
+    const ALL: [(&'static str, &'static [u64]); 7] = [
         ("solve", &[0, 1, 2, 3, 4, 5]),
         ("check", &[0, 1, 2, 3, 5, 6, 7, 8, 9, 10]),
         ("cost", &[0, 1, 2, 3, 5, 6]),
+        ("repair", &[0, 1, 2, 3, 4, 5, 6, 7, 8, 24, 9, 10]),
         ("sheet", &[0, 17, 11, 12, 13, 14, 15, 21, 16, 5]),
         ("score", &[0, 18, 19]),
         ("scores", &[0, 18, 13, 16, 19]),
@@ -47,7 +48,7 @@ impl Met {
     }
 }
 
-/// The six lists that the solver writes.
+/// The six lists that the solver and a repair write.
 #[derive(Clone, Debug, PartialEq, Eq)]
 pub struct Lists {
     pub columns: Vec<u32>,
@@ -194,6 +195,32 @@ pub fn check(n: usize, costs: &[i32], lists: &Lists) -> Result<u64, String> {
     Ok(right.0)
 }
 
+/// Lends a repair these lists and compares its answer and what stands in them; then the wrapper, with lists like them.
+/// The lists are left as the repair leaves them.
+pub fn repair(n: usize, costs: &[i32], row: usize, lists: &mut Lists) -> Result<u64, String> {
+    let (mut again, mut right) = (lists.clone(), lists.clone());
+    let Lists { columns, rows, row_prices: u, column_prices: v, indices, numbers } = &*lists;
+    let rooms = [indices.len(), numbers.len()];
+    let answer = refusals::repair(n, costs, row, columns, rows, u, v, rooms).map(|()| {
+        let columns: Vec<usize> = columns[..n].iter().map(|&column| column as usize).collect();
+        rules::repair(n, costs, row, &columns, v)
+    });
+    if let Ok(repaired) = &answer {
+        right.hold(n, repaired);
+    }
+    let answer = answer.map(|repaired| repaired.total);
+    let (slack, told) = (refusals::slack(&answer, n, costs, columns, u, v), told(answer));
+    let found = face::repair(n, costs, row, lists.lent());
+    expect("repair", &(found.refusal, found.total), &told)?;
+    expect("the repair's slack", &found.slack, &slack)?;
+    expect("lists after a repair", lists, &right)?;
+    let wrapper = bristlefrost::repair_into(n, costs, row, again.lent());
+    expect("the wrapper's repair's slack", &wrapper.err().map_or(0, |refusal| refusal.slack()), &slack)?;
+    expect("the wrapper's repair", &wrapped(wrapper), &told)?;
+    expect("lists after the wrapper's repair", &again, &right)?;
+    Ok(told.0)
+}
+
 pub fn cost(n: usize, costs: &[i32], listed: &[u32]) -> Result<u64, String> {
     let right = told(refusals::cost(n, costs, listed));
     let found = face::cost(n, costs, listed);
@@ -278,6 +305,16 @@ pub fn longer(random: &mut Random, answer: &Answer) -> Lists {
     behind(random, &mut lists.rows, |entry| entry as u32);
     behind(random, &mut lists.row_prices, |entry| entry as i64);
     behind(random, &mut lists.column_prices, |entry| entry as i64);
+    lists
+}
+
+/// The same with the solver's work rooms, which hold random entries.
+pub fn roomy(random: &mut Random, n: usize, answer: &Answer) -> Lists {
+    let mut lists = longer(random, answer);
+    lists.indices = (0..4 * n).map(|_| random.number() as u32).collect();
+    lists.numbers = (0..n).map(|_| random.number() as i64).collect();
+    behind(random, &mut lists.indices, |entry| entry as u32);
+    behind(random, &mut lists.numbers, |entry| entry as i64);
     lists
 }
 

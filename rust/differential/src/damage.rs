@@ -140,12 +140,48 @@ fn cost(random: &mut Random, times: usize) -> Result<u64, String> {
         .map_err(|failure| format!("{failure}\nside {}, costs {:?}, listed {listed:?}", night.n, night.costs))
 }
 
-/// One damaged input for the solver, the checker or `cost`.
+/// A price outside -7K..7K, or at its ends.
+fn pushed_price(random: &mut Random) -> i64 {
+    random.pick(&[7 * K, -7 * K, 7 * K + 1, -7 * K - 1, 8 * K])
+}
+
+fn repair(random: &mut Random, times: usize) -> Result<u64, String> {
+    let mut night = Night::new(random);
+    let side = night.n;
+    let mut lists = archive::roomy(random, side, &rules::solve(side, &night.costs));
+    let mut row = random.below(side.max(1));
+    // The row's costs change, and its old price says nothing of the new ones.
+    for cost in night.costs.iter_mut().skip(row * side).take(side) {
+        *cost = random.pick(&[i64::from(*cost), 0, -K, K, 3]) as i32;
+    }
+    for _ in 0..times {
+        match random.below(8) {
+            0 => night.damage(random),
+            1 => row = random.pick(&[side as i64, side as i64 + 1, i64::MAX]) as usize,
+            2 => lists.indices.truncate((4 * side).saturating_sub(random.below(3))),
+            3 => lists.numbers.truncate(side.saturating_sub(random.below(2))),
+            4 if side > 0 => {
+                let place = random.below(side);
+                let prices = if random.below(2) == 0 { &mut lists.row_prices } else { &mut lists.column_prices };
+                if let Some(price) = prices.get_mut(place) {
+                    *price = pushed_price(random);
+                }
+            }
+            _ => damaged_lists(random, side, &mut lists),
+        }
+    }
+    let before = lists.clone();
+    archive::repair(night.n, &night.costs, row, &mut lists)
+        .map_err(|failure| format!("{failure}\nside {}, costs {:?}, row {row}, {before:?}", night.n, night.costs))
+}
+
+/// One damaged input for the solver, the checker, a repair or `cost`.
 pub fn one(random: &mut Random, met: &mut Met) -> Result<(), String> {
     let times = random.below(4);
-    let (entry, answered) = match random.below(3) {
+    let (entry, answered) = match random.below(4) {
         0 => ("solve", solve(random, times)?),
         1 => ("check", check(random, times)?),
+        2 => ("repair", repair(random, times)?),
         _ => ("cost", cost(random, times)?),
     };
     met.note(entry, answered);

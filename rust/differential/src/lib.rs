@@ -13,6 +13,7 @@ pub mod listed;
 pub mod nights;
 pub mod oracle;
 pub mod refusals;
+pub mod repairs;
 pub mod rules;
 #[cfg(feature = "archive")]
 pub mod scored;

@@ -9,7 +9,8 @@
 //! --full side 3 over 0..5 too, ten million nights. The archive is also given N damaged nights and lists, those at
 //! the limits, every small damage to one sheet, B random sheets (20,000), most of them damaged, and references with N
 //! lists of them. Last come nights with amounts on columns and on rows: small ones in full, N / 8 of sides to 64, and
-//! L / 5, rounded up, of each of the sides 100, 256 and 1,024.
+//! L / 5, rounded up, of each of the sides 100, 256 and 1,024; and nights that change row by row and are repaired:
+//! every change of one row of small ones, N / 40 chains of sides to 64, and L / 5, rounded up, of sides 100 and 256.
 
 use std::process::ExitCode;
 
@@ -18,7 +19,7 @@ use differential::nights::{self, Every, Random, FAMILIES};
 use differential::refusals::LARGEST_SIDE;
 #[cfg(feature = "archive")]
 use differential::{archive, damage, scored, torn};
-use differential::{command, oracle, surcharges, K};
+use differential::{command, oracle, repairs, surcharges, K};
 
 /// What the command line sets.
 struct Settings {
@@ -161,6 +162,11 @@ fn run() -> Result<(), String> {
     for line in surcharges::run(&mut compared, seed, count, large)? {
         println!("{line}, seed {seed}: {sides}");
     }
+    println!(
+        "{}, seed {seed}: {}",
+        repairs::run(&mut compared, seed, settings.count / 40, large)?,
+        repairs::SIDES
+    );
     #[cfg(feature = "archive")]
     for line in compared.met.lines()? {
         println!("  {line}");

@@ -75,6 +75,34 @@ pub fn checker(
     Ok((0..n).map(|i| i64::from(costs[i * n + paired(i)])).sum())
 }
 
+/// A repair: the solver's, then 6 of the row, and the checker's from 6 on, with 24 after 8; 9 and 10 leave the row out.
+/// `rooms` are the lengths of the work rooms.
+#[allow(clippy::too_many_arguments)]
+pub fn repair(
+    n: usize,
+    costs: &[i32],
+    row: usize,
+    columns: &[u32],
+    rows: &[u32],
+    row_prices: &[i64],
+    column_prices: &[i64],
+    rooms: [usize; 2],
+) -> Result<(), Refused> {
+    solver(n, costs, [columns.len(), rows.len(), row_prices.len(), column_prices.len()], rooms)?;
+    refuse(row >= n, 6, n)?;
+    let (columns, rows) = (&columns[..n], &rows[..n]);
+    let (u, v) = (&row_prices[..n], &column_prices[..n]);
+    let slack = |i: usize, j: usize| i128::from(costs[i * n + j]) - i128::from(u[i]) - i128::from(v[j]);
+    let paired = |i: usize| columns[i] as usize;
+
+    refuse_first(6, (0..n).map(|i| paired(i) >= n))?;
+    refuse_first(7, (0..n).map(|i| rows[paired(i)] as usize != i))?;
+    refuse_first(8, u.iter().chain(v).map(|price| !(-10 * K..=10 * K).contains(price)))?;
+    refuse_first(24, u.iter().chain(v).map(|price| !(-7 * K..=7 * K).contains(price)))?;
+    refuse_first(9, (0..n * n).map(|place| place / n != row && slack(place / n, place % n) < 0))?;
+    refuse_first(10, (0..n).map(|i| i != row && slack(i, paired(i)) != 0))
+}
+
 /// The slack that the checker's answer carries: with 9 and 10 the cost of the place named minus both its prices, else 0.
 pub fn slack(
     answer: &Result<i64, Refused>,

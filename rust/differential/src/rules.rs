@@ -63,6 +63,19 @@ pub fn solve(n: usize, costs: &[i32]) -> Answer {
     state.answer(counts)
 }
 
+/// Repairs a pairing after the costs of one row changed: the row and its column are freed, then rules 5 and 6 from that
+/// row under the prices that the columns have. Of the counts only the columns scanned are counted.
+pub fn repair(n: usize, costs: &[i32], row: usize, columns: &[usize], column_prices: &[i64]) -> Answer {
+    assert_eq!(costs.len(), n * n);
+    let mut state =
+        State { n, costs, column_of: vec![None; n], row_of: vec![None; n], v: column_prices[..n].to_vec() };
+    for (i, &j) in columns[..n].iter().enumerate().filter(|&(i, _)| i != row) {
+        state.pair(i, j);
+    }
+    let columns_scanned = state.augmentation(&[row]);
+    state.answer(Counts { columns_scanned, ..Counts::default() })
+}
+
 /// The lowest reduced cost of a row with its column, and the second with its own.
 struct TwoLowest {
     lowest: i64,

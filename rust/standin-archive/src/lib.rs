@@ -171,6 +171,73 @@ pub unsafe extern "C" fn bristlefrost_check(
 /// # Safety
 /// As include/bristlefrost.h asks.
 #[no_mangle]
+pub unsafe extern "C" fn bristlefrost_repair(
+    n: usize,
+    costs: *const i32,
+    costs_len: usize,
+    row: usize,
+    cols: *mut u32,
+    cols_len: usize,
+    rows: *mut u32,
+    rows_len: usize,
+    row_prices: *mut i64,
+    row_prices_len: usize,
+    col_prices: *mut i64,
+    col_prices_len: usize,
+    indices: *mut u32,
+    indices_len: usize,
+    numbers: *mut i64,
+    numbers_len: usize,
+) -> Checked {
+    let costs = from_raw_parts(costs, costs_len);
+    let (cols, rows) = (from_raw_parts_mut(cols, cols_len), from_raw_parts_mut(rows, rows_len));
+    let row_prices = from_raw_parts_mut(row_prices, row_prices_len);
+    let col_prices = from_raw_parts_mut(col_prices, col_prices_len);
+    let indices = from_raw_parts_mut(indices, indices_len);
+    let numbers = from_raw_parts_mut(numbers, numbers_len);
+
+    let mut tested =
+        refusals::repair(n, costs, row, cols, rows, row_prices, col_prices, [indices_len, numbers_len]);
+    if cfg!(feature = "written-before-far") && matches!(tested, Err((24, _))) {
+        numbers[0] ^= 1;
+    }
+    if cfg!(feature = "far-prices-repaired") && matches!(tested, Err((24, _))) {
+        let slack = |i: usize, j: usize| i64::from(costs[i * n + j]) - row_prices[i] - col_prices[j];
+        let fair = |i: usize| i == row || (0..n).all(|j| slack(i, j) >= 0) && slack(i, cols[i] as usize) == 0;
+        if (0..n).all(fair) {
+            tested = Ok(());
+        }
+    }
+    if cfg!(feature = "changed-row-tested") && tested.is_ok() {
+        tested = refusals::checker(n, costs, cols, rows, row_prices, col_prices).map(|_| ());
+    }
+    let result = tested.map(|()| {
+        let columns: Vec<usize> = cols[..n].iter().map(|&column| column as usize).collect();
+        rules::repair(n, costs, row, &columns, col_prices)
+    });
+    let total = result.as_ref().map(|night| night.total).map_err(|&refused| refused);
+    let slack = refusals::slack(&total, n, costs, cols, row_prices, col_prices);
+    if let Ok(night) = &result {
+        let old = row_prices[row];
+        for k in 0..n {
+            cols[k] = night.columns[k] as u32;
+            rows[k] = night.rows[k] as u32;
+            row_prices[k] = night.row_prices[k];
+            col_prices[k] = night.column_prices[k];
+        }
+        if cfg!(feature = "old-row-price") {
+            row_prices[row] = old;
+        }
+        indices[..4 * n].fill(0);
+        numbers[..n].fill(0);
+    }
+    let Total { refusal, total } = answer(total);
+    Checked { refusal, total, slack }
+}
+
+/// # Safety
+/// As include/bristlefrost.h asks.
+#[no_mangle]
 pub unsafe extern "C" fn bristlefrost_cost(
     n: usize,
     costs: *const i32,

@@ -1,10 +1,14 @@
 -- `priced` runs tests 8, 9 and 10 one after the other; 9 and 10 add prices that 8 has shown to lie within their range. Assumes nothing.
-use mathlib.Core.Path.{sym, _∙_}
+use mathlib.Core.Path.{_≡_, sym, ap, _∙_}
 use Rattle.matrix.specs.Verdicts.{Passes, _then_}
 use Rattle.matrix.specs.Asked.{Listed}
 use Rattle.matrix.proofs.Verdicts.{then-iff, then-assoc, after}
 use Rattle.matrix.proofs.Passed.{prices-within}
+use Rattle.assignment.specs.Pairings.{square}
+use Rattle.matrix.specs.declared.Verdict.{Verdict}
+use Rattle.checker.specs.Tests.{underCosts, tightOn}
 use Rattle.checker.specs.Proven.{Prices}
+use Rattle.checker.proofs.But.{but-none}
 use Rattle.checker.proofs.priced.Statement.{statement}
 use Rattle.checker.proofs.priced.Tie as tie
 
@@ -27,9 +31,18 @@ under-costs-requires c κs = λ e. let p = within c e in record { small = p .0 .
 tight-on-requires : tie.Need-tight-on-requires
 tight-on-requires c κs = λ e. within (c .before) (then-iff _ _ .0 (sym (c .under-costs .ensures) ∙ e) .0)
 
+-- no row is left out
+nine : (c : tie.After-under-costs) → let u = c .before .before .before .args in
+    c .under-costs .result ≡ (c .before .prices-within .result then underCosts (square (u .n) (u .costs .now)) (u .us .now) (u .vs .now))
+nine c = c .under-costs .ensures ∙ ap (λ (v : Verdict). c .before .prices-within .result then v) (but-none _ _ _ _ _)
+
+ten : (c : tie.After-tight-on) → let u = c .before .before .before .before .args in
+    c .tight-on .result ≡ (c .before .under-costs .result then tightOn (square (u .n) (u .costs .now)) (u .cols .now) (u .us .now) (u .vs .now))
+ten c = c .tight-on .ensures ∙ ap (λ (v : Verdict). c .before .under-costs .result then v) (but-none _ _ _ _ _)
+
 returns : tie.Need-returns
 returns c =
-    after _ (c .tight-on .ensures) (after _ (c .before .under-costs .ensures) (c .before .before .prices-within .ensures) ∙ then-assoc _ _ _)
+    after _ (ten c) (after _ (nine (c .before)) (c .before .before .prices-within .ensures) ∙ then-assoc _ _ _)
     ∙ then-assoc _ _ _
 
 pub priced-spec : {M : Type 1} → statement M

@@ -18,9 +18,10 @@ use Rattle.matrix.proofs.Places.{place-below}
 use Rattle.matrix.proofs.Codes.{square-small}
 use Rattle.matrix.proofs.Verdicts.{fails-then, passed-then, clear-at-by, found-at-by}
 use Rattle.matrix.proofs.RowParts.{row-length}
-use Rattle.checker.specs.Tests.{slack, overFirst, overIn}
+use Rattle.checker.specs.Tests.{slack, overFirst, overIn, but}
 use Rattle.checker.specs.Proven.{Priced}
 use Rattle.checker.proofs.Places.{row-first}
+use Rattle.checker.proofs.But.{but-holds}
 use Rattle.checker.proofs.under_costs.Statement.{statement}
 use Rattle.checker.proofs.under_costs.Tie as tie
 
@@ -86,7 +87,8 @@ column-below c =
     let u = c .before .before .before .before .before .before .before .args in
     let i = c .before .before .before .before .first-row-over in
     let test = overIn (square (u .n) (u .costs .now)) (u .us .now) (u .vs .now) in
-    let holds = ap test (i .ensures) ∙ first-holds test (u .n) (omega (arith, i .ensures, c .before .before .before .if1 .left)) in
+    let here = ap (but (u .skip) test) (i .ensures) ∙ first-holds (but (u .skip) test) (u .n) (omega (arith, i .ensures, c .before .before .before .if1 .left)) in
+    let holds = but-holds (u .skip) test (i .result) here in
     omega (arith, found-column c, ltb-true (overFirst (square (u .n) (u .costs .now)) (u .us .now) (u .vs .now) (i .result)) (u .n) holds)
 
 -- a place fits: both its row and its column are below n, and n is small

@@ -1,0 +1,145 @@
+//! A paired night that is kept with its costs, so that it can be repaired where one row's change.
+
+use crate::{repair_into, solve_into, Lent, Refusal, LARGEST_SIDE};
+
+/// A paired night with its costs. Where the costs of one row change it is repaired with one search, and where its
+/// prices have gone too far for that, it is solved afresh.
+///
+/// ```
+/// use bristlefrost::{Change, KeptNight, Refusal};
+///
+/// let mut night = KeptNight::new(2, &[1, 2, 1, 5])?;
+/// assert_eq!((night.columns(), night.total()), (&[1, 0][..], 3));
+/// assert_eq!(night.change(1, &[1, 1]), Ok(Change::Repaired));
+/// assert_eq!((night.columns(), night.total()), (&[0, 1][..], 2));
+///
+/// // A refusal changes nothing.
+/// assert_eq!(night.change(0, &[1, 1_000_000_001]), Err(Refusal::CostOutside { place: 1 }));
+/// assert_eq!((night.costs(), night.total()), (&[1, 2, 1, 1][..], 2));
+/// # Ok::<(), Refusal>(())
+/// ```
+#[derive(Clone, Debug, PartialEq, Eq)]
+pub struct KeptNight {
+    side: usize,
+    costs: Vec<i32>,
+    columns: Vec<u32>,
+    rows: Vec<u32>,
+    row_prices: Vec<i64>,
+    column_prices: Vec<i64>,
+    total: i64,
+    indices: Vec<u32>,
+    numbers: Vec<i64>,
+}
+
+/// How a changed night was paired.
+#[derive(Clone, Copy, Debug, PartialEq, Eq)]
+pub enum Change {
+    /// By one search.
+    Repaired,
+    /// Anew: a price had come to lie outside -7,000,000,000..7,000,000,000.
+    SolvedAfresh,
+}
+
+impl KeptNight {
+    /// Pairs a night and keeps it.
+    pub fn new(side: usize, costs: &[i32]) -> Result<Self, Refusal> {
+        // A side over the limit is refused before any list is looked at.
+        let room = if side <= LARGEST_SIDE { side } else { 0 };
+        let mut night = KeptNight {
+            side,
+            costs: costs.to_vec(),
+            columns: vec![0; room],
+            rows: vec![0; room],
+            row_prices: vec![0; room],
+            column_prices: vec![0; room],
+            total: 0,
+            indices: vec![0; 4 * room],
+            numbers: vec![0; room],
+        };
+        night.solve()?;
+        Ok(night)
+    }
+
+    /// Gives a row new costs, as many as the side, and pairs the night again. A refusal changes nothing.
+    pub fn change(&mut self, row: usize, costs: &[i32]) -> Result<Change, Refusal> {
+        if costs.len() != self.side {
+            return Err(Refusal::CostsLength);
+        }
+        if row >= self.side {
+            return Err(Refusal::ColumnOutside { row: self.side as u64 });
+        }
+        let places = row * self.side..(row + 1) * self.side;
+        let old = self.costs[places.clone()].to_vec();
+        self.costs[places.clone()].copy_from_slice(costs);
+        let changed = match self.repair(row) {
+            Ok(()) => Ok(Change::Repaired),
+            Err(Refusal::PriceFar { .. }) => self.solve().map(|()| Change::SolvedAfresh),
+            Err(refusal) => Err(refusal),
+        };
+        if changed.is_err() {
+            self.costs[places].copy_from_slice(&old);
+        }
+        changed
+    }
+
+    fn lent(&mut self) -> (&[i32], Lent<'_>) {
+        let lent = Lent {
+            columns: &mut self.columns,
+            rows: &mut self.rows,
+            row_prices: &mut self.row_prices,
+            column_prices: &mut self.column_prices,
+            indices: &mut self.indices,
+            numbers: &mut self.numbers,
+        };
+        (&self.costs, lent)
+    }
+
+    fn solve(&mut self) -> Result<(), Refusal> {
+        let side = self.side;
+        let (costs, lent) = self.lent();
+        self.total = solve_into(side, costs, lent)?.total;
+        Ok(())
+    }
+
+    fn repair(&mut self, row: usize) -> Result<(), Refusal> {
+        let side = self.side;
+        let (costs, lent) = self.lent();
+        self.total = repair_into(side, costs, row, lent)?;
+        Ok(())
+    }
+
+    /// The side.
+    pub fn side(&self) -> usize {
+        self.side
+    }
+
+    /// The costs in row order.
+    pub fn costs(&self) -> &[i32] {
+        &self.costs
+    }
+
+    /// The column of each row.
+    pub fn columns(&self) -> &[u32] {
+        &self.columns
+    }
+
+    /// The row of each column.
+    pub fn rows(&self) -> &[u32] {
+        &self.rows
+    }
+
+    /// The price of each row: row price + column price is at most the cost everywhere, and equal to it on each pair.
+    pub fn row_prices(&self) -> &[i64] {
+        &self.row_prices
+    }
+
+    /// The price of each column.
+    pub fn column_prices(&self) -> &[i64] {
+        &self.column_prices
+    }
+
+    /// The total cost of the pairs; no pairing has a lower one.
+    pub fn total(&self) -> i64 {
+        self.total
+    }
+}
