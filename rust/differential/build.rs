@@ -1,12 +1,12 @@
 //! Finds the source of the crate lapjv 0.3.0 and makes, by the edits below, a copy of it in the build's
-//! own directory that also answers the column prices and the six counts. Without the source the build
+//! own directory that also answers the column prices and the six counts, and its two lowest of a row. Without the source the build
 //! succeeds and nothing of the crate is compiled.
 
 use std::path::PathBuf;
 use std::{env, fs};
 
 /// Each edit: how often its text stands in the source, the text, and what replaces it.
-const EDITS: [(usize, &str, &str); 9] = [
+const EDITS: [(usize, &str, &str); 10] = [
     // A place for the counts.
     (
         1,
@@ -24,6 +24,8 @@ const EDITS: [(usize, &str, &str); 9] = [
         "    fn count(&self, which: usize, more: usize) {\n        let mut counts = self.counts.get();\n        \
          counts[which] += more;\n        self.counts.set(counts);\n    }\n\n    #[inline(always)]\n    fn cost(",
     ),
+    // The two lowest of a row can be asked for.
+    (1, "fn find_umins_plain<T>(", "pub fn find_umins_plain<T>("),
     // The answer.
     (
         2,

@@ -86,7 +86,7 @@ pub fn write_row_prices(n: usize, costs: &[i32], cols: &[u32], v: &[i64], row_pr
     }
 }
 
-// Rules 3 and 4: column reduction and at most two passes; a pass over no rows makes no look.
+// Rules 3 and 4: column reduction and at most two passes; a pass over no rows makes no look. The numbers are the passes' own.
 fn reduce(
     n: usize,
     costs: &[i32],
@@ -94,14 +94,15 @@ fn reduce(
     rows: &mut [u32],
     v: &mut [i64],
     room: &mut [u32],
+    numbers: &mut [i64],
 ) -> Reduced
-    requires { ⌜ Pairable n (now costs) × Sized n (now cols) (now rows) (now v) (now room) ⌝ }
+    requires { ⌜ Pairable n (now costs) × Sized n (now cols) (now rows) (now v) (now room) × (length (now numbers) ≡ n) ⌝ }
     ensures { λ r. ⌜ ReducedBy n (now (costs .entry)) (now (cols .exit)) (now (rows .exit)) (now (v .exit)) (now (room .exit)) r ⌝ }
 {
     let free_rows = reduction::columns::ccrrt_dense(n, costs, cols, rows, v, room);
-    let one = reduction::rows::carr_dense(n, costs, cols, rows, v, &mut room[0..n], free_rows);
+    let one = reduction::rows::carr_dense(n, costs, cols, rows, v, room, numbers, free_rows);
     let left = one.left;
-    let two = reduction::rows::carr_dense(n, costs, cols, rows, v, &mut room[0..n], left);
+    let two = reduction::rows::carr_dense(n, costs, cols, rows, v, room, numbers, left);
     Reduced {
         free_rows,
         looks_one: one.looks,
@@ -125,7 +126,7 @@ fn pair(
     requires { ⌜ Pairable n (now costs) × Sized n (now cols) (now rows) (now v) (now room) × (length (now «row_prices») ≡ n) × (length (now d) ≡ n) ⌝ }
     ensures { λ r. ⌜ PairedBy n (now (costs .entry)) (now (cols .exit)) (now (rows .exit)) (now («row_prices» .exit)) (now (v .exit)) (now (room .exit)) (now (d .exit)) r ⌝ }
 {
-    let reduced = reduce(n, costs, cols, rows, v, room);
+    let reduced = reduce(n, costs, cols, rows, v, room, d);
     let left = reduced.rows_left;
     let scanned = augmentation::ca_dense(n, costs, left, cols, rows, v, d, room);
     write_row_prices(n, costs, cols, v, row_prices);

@@ -8,3 +8,10 @@ pub mod Transfers
 pub mod Stages
 pub mod Choices
 pub mod Looks
+pub mod Order
+pub mod Recalled
+pub mod FirstThree
+pub mod Rooms
+pub mod Falling
+pub mod Lasting
+pub mod RoomParts

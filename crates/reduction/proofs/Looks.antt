@@ -31,13 +31,12 @@ module _ (n : ℕ) (cost : ℕ → ℕ → ℤ) (x : Passing) where
   choiceOf =
       choose n (isEarly n (x .pass)) (x .prices) (x .pairs .rows) (twoLowest n (reduced cost (signedAt (x .prices)) (at (x .frees) (x .pass .current))))
 
-  pub look-is : (w : Choice) → w ≡ choiceOf → (f : List ℕ) (q : Pass) → placedAt f q ≡ displace n (x .frees) (x .pass) (w .back) (at (x .pairs .rows) (w .column))
-      → let i = at (x .frees) (x .pass .current) in
-      passingAt (set (x .pairs .cols) i (w .column)) (set (x .pairs .rows) (w .column) i) (set (x .prices) (w .column) (w .price)) f q ≡ look n cost x
-  look-is w e f q p =
-      let i = at (x .frees) (x .pass .current) in
+  pub look-is : (i : ℕ) → i ≡ at (x .frees) (x .pass .current) → (w : Choice) → w ≡ choiceOf → (f : List ℕ) (q : Pass)
+      → placedAt f q ≡ displace n (x .frees) (x .pass) (w .back) (at (x .pairs .rows) (w .column))
+      → passingAt (set (x .pairs .cols) i (w .column)) (set (x .pairs .rows) (w .column) i) (set (x .prices) (w .column) (w .price)) f q ≡ look n cost x
+  look-is i r w e f q p =
       ap (λ (y : Placed). passingAt (set (x .pairs .cols) i (w .column)) (set (x .pairs .rows) (w .column) i) (set (x .prices) (w .column) (w .price)) (y .frees) (y .pass)) p
-      ∙ ap (settle n x i) e
+      ∙ ap (λ (k : ℕ). settle n x k w) r ∙ ap (settle n x (at (x .frees) (x .pass .current))) e
 
 -- ---- what every look keeps
 

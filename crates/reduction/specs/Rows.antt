@@ -6,6 +6,7 @@ use lib.IntN.{ℤ}
 use lib.ListN.{length}
 use Rattle.ints.specs.Parts.{Within}
 use Rattle.lists.specs.Permutations.{at}
+use Rattle.lists.specs.Parts.{part}
 use Rattle.assignment.specs.Pairings.{square}
 use Rattle.rules.specs.declared.TwoLowest.{TwoLowest}
 use Rattle.rules.specs.declared.TwoLowest.the-variants.{One, Two}
@@ -13,6 +14,7 @@ use Rattle.rules.specs.declared.Pass.{Pass}
 use Rattle.rules.specs.Rows.{Passing, Placed, looks, passStart, rowReduction}
 use Rattle.matrix.specs.Limits.{near}
 use Rattle.reduction.specs.Ranges.{Near, Square}
+use Rattle.reduction.specs.Candidates.{AllKept}
 use Rattle.reduction.specs.Columns.{stageAt}
 
 -- What a choice asks of the two lowest: columns in range, and values that are reduced costs of near numbers.
@@ -44,6 +46,12 @@ pub record Ready (n : ℕ) (costs : List ℤ) (x : Passing) : Type 0 where
   pub looks-fit : x .pass .looks < looksMost
   pub row-below : at (x .frees) (x .pass .current) < n
   pub near-prices : Near n (x .prices)
+
+-- The room of a pass: the free list stands at 0, what is kept of the rows at n, and is true at prices v.
+pub record Keeping (n : ℕ) (costs v : List ℤ) (room : List ℕ) (limits : List ℤ) : Type 0 where
+  pub room-size : length room ≡ n + n + n + n
+  pub limits-size : length limits ≡ n
+  pub kept : AllKept n (square n costs .cost) v (part n (n + n + n) room) limits
 
 -- The first m looks of a pass over `count` free rows.
 abbrev pub looksTo : ℕ → List ℤ → List ℕ → List ℕ → List ℤ → List ℕ → ℕ → ℕ → Passing

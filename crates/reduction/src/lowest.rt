@@ -12,9 +12,9 @@ use rules::Low;
 use rules::TwoLowest;
 
 // The two lowest of a row that has two.
-struct Pair {
-    lowest: Low,
-    second: Low,
+pub struct Pair {
+    pub lowest: Low,
+    pub second: Low,
 }
 
 // Whether the reduced cost of column j is below a bound.
@@ -56,7 +56,7 @@ pub fn next_below(row: &[i32], v: &[i64], from: usize, bound: i64) -> usize
 }
 
 // A value that counts becomes second; or the old lowest becomes second and it lowest.
-fn beside(lowest: Low, h: Low) -> Pair
+pub fn beside(lowest: Low, h: Low) -> Pair
     ensures { λ r. ⌜ Two (r .lowest) (r .second) ≡ beside lowest h ⌝ }
 {
     if h.value >= lowest.value {

@@ -3,12 +3,13 @@ ghost use mathlib.Core.Path.{_≡_};
 ghost use Prim.Native.Nat.{_+_, _<_, _≤_};
 ghost use lib.ListN.{length};
 ghost use Rattle.ints.specs.Parts.{Within};
+ghost use Rattle.lists.specs.Parts.{part};
 ghost use Rattle.assignment.specs.Pairings.{signedAt, square};
 ghost use Rattle.rules.specs.Rows.{keepPrice, lowerPrice, choose, displace, isEarly, look, rowReduction};
 ghost use Rattle.matrix.specs.Limits.{side, near};
 ghost use Rattle.reduction.specs.Ranges.{Near};
 ghost use Rattle.reduction.specs.Columns.{stageAt};
-ghost use Rattle.reduction.specs.Rows.{Inside, looksMost, placedAt, passingAt, Ready, Passable};
+ghost use Rattle.reduction.specs.Rows.{Inside, looksMost, placedAt, passingAt, Ready, Keeping, Passable};
 use rules::Choice;
 use rules::Pass;
 use rules::TwoLowest;
@@ -115,23 +116,25 @@ fn is_early(n: usize, pass: Pass) -> bool
     looks < current * n
 }
 
-// One look, at the free row at `current`.
+// One look, at the free row at `current`. The free list stands at 0 in the room, what is kept of the rows at n.
 fn look(
     n: usize,
     costs: &[i32],
     cols: &mut [u32],
     rows: &mut [u32],
     v: &mut [i64],
-    frees: &mut [u32],
+    room: &mut [u32],
+    limits: &mut [i64],
     pass: Pass,
 ) -> Pass
-    requires { ⌜ Ready n (now costs) (passingAt (now cols) (now rows) (now v) (now frees) pass) ⌝ }
-    ensures { λ r. ⌜ passingAt (now (cols .exit)) (now (rows .exit)) (now (v .exit)) (now (frees .exit)) r ≡ look n (square n (now (costs .entry)) .cost) (passingAt (now (cols .entry)) (now (rows .entry)) (now (v .entry)) (now (frees .entry)) pass) ⌝ }
+    requires { ⌜ Ready n (now costs) (passingAt (now cols) (now rows) (now v) (part 0 n (now room)) pass) × Keeping n (now costs) (now v) (now room) (now limits) ⌝ }
+    ensures { λ r. ⌜ (passingAt (now (cols .exit)) (now (rows .exit)) (now (v .exit)) (part 0 n (now (room .exit))) r ≡ look n (square n (now (costs .entry)) .cost) (passingAt (now (cols .entry)) (now (rows .entry)) (now (v .entry)) (part 0 n (now (room .entry))) pass)) × Keeping n (now (costs .entry)) (now (v .exit)) (now (room .exit)) (now (limits .exit)) ⌝ }
 {
+    let n4 = 4 * n;
     let current = pass.current;
-    let free_i = frees[current] as usize;
+    let free_i = room[current] as usize;
     let row = matrix::rows::row(costs, n, free_i);
-    let two = super::lowest::find_umins_plain(row, v);
+    let two = super::candidates::two_lowest(row, v, free_i, &mut room[n..n4], limits);
     let early = is_early(n, pass);
     let choice = choose(n, early, v, rows, two);
     let j1 = choice.column;
@@ -141,29 +144,32 @@ fn look(
     v[j1] = price;
     cols[free_i] = j1 as u32;
     rows[j1] = free_i as u32;
-    displace(n, frees, pass, back, i0)
+    displace(n, &mut room[0..n], pass, back, i0)
 }
 
-// Rule 4: a pass over the first `count` rows of the free list. The rows that are still free are the first `left` of it then.
+// Rule 4: a pass over the first `count` rows of the free list. The rows that are still free are the first `left` of it then. The rest of the
+// room and the limits are the pass's own.
 pub fn carr_dense(
     n: usize,
     costs: &[i32],
     cols: &mut [u32],
     rows: &mut [u32],
     v: &mut [i64],
-    frees: &mut [u32],
+    room: &mut [u32],
+    limits: &mut [i64],
     count: usize,
 ) -> Pass
-    requires { ⌜ Passable n (now costs) (now cols) (now rows) (now v) (now frees) count ⌝ }
-    ensures { λ r. ⌜ passingAt (now (cols .exit)) (now (rows .exit)) (now (v .exit)) (now (frees .exit)) r ≡ rowReduction n (square n (now (costs .entry)) .cost) (stageAt (now (cols .entry)) (now (rows .entry)) (now (v .entry)) (now (frees .entry)) count) ⌝ }
+    requires { ⌜ Passable n (now costs) (now cols) (now rows) (now v) (part 0 n (now room)) count × (length (now room) ≡ n + n + n + n) × (length (now limits) ≡ n) ⌝ }
+    ensures { λ r. ⌜ passingAt (now (cols .exit)) (now (rows .exit)) (now (v .exit)) (part 0 n (now (room .exit))) r ≡ rowReduction n (square n (now (costs .entry)) .cost) (stageAt (now (cols .entry)) (now (rows .entry)) (now (v .entry)) (part 0 n (now (room .entry))) count) ⌝ }
 {
+    super::candidates::forget(limits);
     let mut pass = Pass {
         current: 0,
         left: 0,
         looks: 0,
     };
     while pass.current < count {
-        pass = look(n, costs, cols, rows, v, frees, pass);
+        pass = look(n, costs, cols, rows, v, room, limits, pass);
     }
     pass
 }

@@ -14,6 +14,9 @@ pub type Pairing = (Vec<usize>, Vec<usize>);
 /// The copy's answer: the pairing, v, and the six counts.
 pub type Priced = (Vec<usize>, Vec<usize>, Vec<f64>, [usize; 6]);
 
+/// The crate's two lowest of a row: lowest, second, the lowest's column and the second's.
+pub type Lows = (f64, f64, usize, Option<usize>);
+
 /// The crate's file as it stands.
 #[cfg(lapjv_source)]
 #[allow(dead_code, clippy::all)]
@@ -36,6 +39,12 @@ impl Floats {
         let entries = costs.iter().map(|&cost| f64::from(cost)).collect();
         Floats(ndarray::Array2::from_shape_vec((n, n), entries).expect("n*n costs"))
     }
+
+    /// One row alone.
+    pub fn one_row(costs: &[i32]) -> Self {
+        let entries = costs.iter().map(|&cost| f64::from(cost)).collect();
+        Floats(ndarray::Array2::from_shape_vec((1, costs.len()), entries).expect("a row of costs"))
+    }
 }
 
 #[cfg(lapjv_source)]
@@ -48,6 +57,11 @@ impl Floats {
     /// The crate's pairing of a night, with v and the counts.
     pub fn priced(&self) -> Option<Priced> {
         Some(with_prices::lapjv(&self.0).expect("the crate pairs every square matrix"))
+    }
+
+    /// The crate's two lowest of row 0 at prices v: lowest, second, and their columns.
+    pub fn two_lowest(&self, v: &[f64]) -> Option<Lows> {
+        Some(with_prices::find_umins_plain(self.0.row(0), v))
     }
 
     /// The crate's total over a list of columns.
@@ -63,6 +77,10 @@ impl Floats {
     }
 
     pub fn priced(&self) -> Option<Priced> {
+        None
+    }
+
+    pub fn two_lowest(&self, _: &[f64]) -> Option<Lows> {
         None
     }
 

@@ -52,11 +52,11 @@ pub fn solve(n: usize, costs: &[i32]) -> Answer {
     let mut free = state.column_reduction_and_transfer();
     counts.free_rows = free.len();
     if !free.is_empty() {
-        counts.looks_one = state.row_reduction(&mut free);
+        counts.looks_one = state.row_reduction(&mut free, |_, _| {});
         counts.left_one = free.len();
     }
     if !free.is_empty() {
-        counts.looks_two = state.row_reduction(&mut free);
+        counts.looks_two = state.row_reduction(&mut free, |_, _| {});
     }
     counts.rows_left = free.len();
     counts.columns_scanned = state.augmentation(&free);
@@ -74,6 +74,28 @@ pub fn repair(n: usize, costs: &[i32], row: usize, columns: &[usize], column_pri
     }
     let columns_scanned = state.augmentation(&[row]);
     state.answer(Counts { columns_scanned, ..Counts::default() })
+}
+
+/// A look of rule 4: in which pass (1 or 2), and at which row, at which prices.
+pub struct Look<'a> {
+    pub pass: usize,
+    pub row: usize,
+    pub costs: &'a [i32],
+    pub v: &'a [i64],
+}
+
+/// Rules 3 and 4 alone: every look is shown to `watch` before it is made.
+pub fn looks(n: usize, costs: &[i32], mut watch: impl FnMut(Look)) {
+    assert_eq!(costs.len(), n * n);
+    let mut state = State { n, costs, column_of: vec![None; n], row_of: vec![None; n], v: vec![0; n] };
+    let mut free = state.column_reduction_and_transfer();
+    for pass in [1, 2] {
+        if !free.is_empty() {
+            state.row_reduction(&mut free, |row, v| {
+                watch(Look { pass, row, costs: &costs[row * n..(row + 1) * n], v })
+            });
+        }
+    }
 }
 
 /// The lowest reduced cost of a row with its column, and the second with its own.
@@ -191,8 +213,9 @@ impl State<'_> {
         free
     }
 
-    /// Rule 4, one pass. Takes the free list and leaves the next pass's in its place; answers the looks.
-    fn row_reduction(&mut self, free: &mut Vec<usize>) -> usize {
+    /// Rule 4, one pass. Takes the free list and leaves the next pass's in its place; answers the looks, each of which
+    /// is shown to `watch` before it is made.
+    fn row_reduction(&mut self, free: &mut Vec<usize>, mut watch: impl FnMut(usize, &[i64])) -> usize {
         let n = self.n;
         let mut next = Vec::new();
         let mut counter = 0;
@@ -202,6 +225,7 @@ impl State<'_> {
             let row = free[current];
             counter += 1;
             current += 1;
+            watch(row, &self.v);
             let two = two_lowest(&self.costs[row * n..(row + 1) * n], &self.v);
             let (second, j2) = two.second.expect("only side 1 has no second; no row look occurs there");
             let mut taken = two.j1;

@@ -12,10 +12,10 @@ use Rattle.lapjv.proofs.pair.Tie as tie
 
 -- the stages, each with the one before it
 abbrev start : tie.After-reduce → tie.Start
-start c = c .before .before .before .before .before .before .before .before
+start c = c .before .before .before .before .before .before .before .before .before
 
 abbrev reduction : tie.After-ca-dense → tie.After-reduce
-reduction c = c .before .before .before .before .before .before .before .before .before .before .before .before .before
+reduction c = c .before .before .before .before .before .before .before .before .before .before .before .before .before .before
 
 abbrev augmentation : tie.After-write-row-prices → tie.After-ca-dense
 augmentation c = c .before .before .before .before .before .before .before .before .before .before .before .before
@@ -41,14 +41,14 @@ sizes c =
     pairing.sizes (s .args .n) (s .args .costs .now) (s .pre .0) _ _ _ _ (a .result) (a .ensures) _ _ _ _ (b .result) (b .ensures)
 
 reduce-requires : tie.Need-reduce-requires
-reduce-requires c κs = let s = c .before .before .before .before .before .before .before in (s .pre .0, s .pre .1)
+reduce-requires c κs = let s = c .before .before .before .before .before .before .before .before in (s .pre .0, s .pre .1, s .pre .3)
 
 ca-dense-requires : tie.Need-ca-dense-requires
 ca-dense-requires c κs =
-    let x = c .before .before .before .before .before .before .before .before .before .before .before .before in
+    let x = c .before .before .before .before .before .before .before .before .before .before .before .before .before in
     let s = start x in
     let a = x .reduce in
-    pairing.can-augment (s .args .n) (s .args .costs .now) (s .pre .0) _ _ _ _ (a .result) (a .ensures) (s .args .d .now) (s .pre .3)
+    pairing.can-augment (s .args .n) (s .args .costs .now) (s .pre .0) _ _ _ _ (a .result) (a .ensures) (a .last .1 .1 .1 .1 .1 .1 .0) (omega (arith, a .kept, s .pre .3))
 
 write-row-prices-requires : tie.Need-write-row-prices-requires
 write-row-prices-requires c κs =
@@ -113,7 +113,7 @@ returns c =
     let f = c .before .clear-numbers in
     pairing.paired-by (s .args .n) (s .args .costs .now) (s .pre .0) _ _ _ _ (a .result) (a .ensures) _ _ _ (b .last .1 .1 .1 .1 .1 .1 .1 .0) (b .result) (b .ensures)
     _ _ (b .last .1 .1 .1 .1 .1 .1 .0) _ _ (u .ensures) (read-back w64 (t .result) (t .ok) ∙ t .ensures) (e .ensures ∙ table-constant _ 0)
-    (omega (arith, b .kept, a .ensures .room-size)) (f .ensures) (omega (arith, b .kept, s .pre .3))
+    (omega (arith, b .kept, a .ensures .room-size)) (f .ensures) (omega (arith, b .kept, a .kept, s .pre .3))
 
 pub pair-spec : {M : Type 1} → statement M
 pair-spec =
