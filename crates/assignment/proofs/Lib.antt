@@ -4,3 +4,4 @@ pub mod Duality
 pub mod Square
 pub mod Longer
 pub mod Amounts
+pub mod Padded

@@ -1,3 +1,4 @@
 pub mod Pairings
 pub mod Prices
 pub mod Amounts
+pub mod Padded

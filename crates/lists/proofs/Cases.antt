@@ -1,7 +1,7 @@
--- Case distinctions: a test, a place and the others. Assumes nothing.
-use mathlib.Core.Path.{_≡_, refl, sym, ap, subst}
+-- Case distinctions: a test, two flags, a place and the others. Assumes nothing.
+use mathlib.Core.Path.{_≡_, refl, sym, ap, _∙_, subst}
 use mathlib.Core.Logic.{_≢_, _⊎_, inl, inr}
-use mathlib.Core.Bool.{Bool, true, false, cond}
+use mathlib.Core.Bool.{Bool, true, false, cond, _||_, or-true}
 use mathlib.Core.List.{List}
 use Prim.Native.Nat.{ℕ, suc, _≤_, _<_}
 use native.Mathlib.Decide.{ℕ-discrete, decLt}
@@ -19,6 +19,19 @@ cond-cases false P x y f g = g refl
 pub cond-both : {A B : Type 0} (b : Bool) (R : A → B → Type 0) {x y : A} {x′ y′ : B} → R x x′ → R y y′ → R (cond b x y) (cond b x′ y′)
 cond-both true R p q = p
 cond-both false R p q = q
+
+-- Two flags, each of which follows from the other.
+pub flags-same : (a b : Bool) → (a ≡ true → b ≡ true) → (b ≡ true → a ≡ true) → a ≡ b
+flags-same true b f g = sym (f refl)
+flags-same false true f g = g refl
+flags-same false false f g = refl
+
+pub or-either : (a b : Bool) → (a || b) ≡ true → (a ≡ true) ⊎ (b ≡ true)
+or-either true b e = inl refl
+or-either false b e = inr e
+
+pub or-second : {b : Bool} (a : Bool) → b ≡ true → (a || b) ≡ true
+or-second a e = ap (λ (t : Bool). a || t) e ∙ or-true a
 
 pub lt-or-le : (a b : ℕ) → (a < b) ⊎ (b ≤ a)
 lt-or-le a b = elim (decLt a b) [ yes h ↦ inl h | no h ↦ inr (omega arith) ]

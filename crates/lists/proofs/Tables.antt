@@ -1,13 +1,15 @@
 -- A list made of a function: how long it is, what stands in it, and how a loop fills a list with it. Assumes nothing.
-use mathlib.Core.Path.{_≡_, refl, sym, ap, _∙_}
-use mathlib.Core.List.{List, [], _∷_, _++_, append-nil}
+use mathlib.Core.Path.{_≡_, refl, sym, ap, ap₂, _∙_}
+use mathlib.Core.List.{List, [], _∷_, _++_, append-nil, append-assoc}
 use Prim.Native.Nat.{ℕ, zero, suc, _+_, _≤_, _<_}
 use native.Mathlib.Decide.{decLt}
+use native.Mathlib.Nat.{add-zero, add-suc}
 use native.Mathlib.Numerals.{add-one}
 use native.Mathlib.Omega.{arith}
 use lib.ListN.{length, getD, set, drop, replicate, length-append, length-drop, length-replicate, getD-replicate, List·getD-append, List·getD-eq-default}
-use lib.Seq.{ext-getD, getD-at, set-at, drop-cons, drop-length, append-snoc}
+use lib.Seq.{ext-getD, getD-at, set-at, take-at, drop-at, drop-drop, drop-cons, drop-length, append-snoc}
 use Rattle.lists.specs.Permutations.{table}
+use Rattle.lists.specs.Parts.{replaced}
 
 module _ {A : Type 0} where
   pub length-table : (n : ℕ) (f : ℕ → A) → length (table n f) ≡ n
@@ -67,6 +69,28 @@ module _ {A : Type 0} where
   filled-kept f l k d h e =
       ap (λ (t : List A). table k f ++ t) (drop-cons l k d h) ∙ ap (λ (x : A). table k f ++ (x ∷ drop (suc k) l)) (sym e)
       ∙ sym (append-snoc (table k f) (f k) (drop (suc k) l)) ∙ ap (λ (m : ℕ). table m f ++ drop m l) (sym (add-one k))
+
+  -- ---- a table in two parts, and a list whose next k entries are filled at once
+
+  pub table-add : (m k : ℕ) (f : ℕ → A) → table (m + k) f ≡ table m f ++ table k (λ i. f (m + i))
+  unfolding table
+  table-add m zero f = ap (λ (n : ℕ). table n f) (add-zero m) ∙ sym (append-nil (table m f))
+  table-add m (suc k) f =
+      ap (λ (n : ℕ). table n f) (add-suc m k) ∙ ap (λ (t : List A). t ++ (f (m + k) ∷ [])) (table-add m k f)
+      ∙ append-assoc (table m f) (table k (λ i. f (m + i))) (f (m + k) ∷ [])
+
+  pub filled-part : (m k : ℕ) (f g : ℕ → A) (l : List A) → ((i : ℕ) → i < k → g i ≡ f (m + i))
+      → replaced m (table k g) (table m f ++ drop m l) ≡ table (m + k) f ++ drop (m + k) l
+  filled-part m k f g l same =
+      ap₂ (λ (s t : List A). s ++ (table k g ++ t)) (take-at (table m f) (drop m l) m (length-table m f)) rest
+      ∙ sym (append-assoc (table m f) (table k g) (drop (m + k) l))
+      ∙ ap (λ (t : List A). (table m f ++ t) ++ drop (m + k) l) (table-cong k g (λ i. f (m + i)) same)
+      ∙ ap (λ (t : List A). t ++ drop (m + k) l) (sym (table-add m k f))
+    where
+      rest : drop (m + length (table k g)) (table m f ++ drop m l) ≡ drop (m + k) l
+      rest =
+          ap (λ (n : ℕ). drop (m + n) (table m f ++ drop m l)) (length-table k g) ∙ sym (drop-drop k m (table m f ++ drop m l))
+          ∙ ap (drop k) (drop-at (table m f) (drop m l) m (length-table m f)) ∙ drop-drop k m l
 
   -- ---- all entries the same
 

@@ -1,0 +1,4 @@
+pub mod Blocked
+pub mod Barred
+pub mod Masks
+pub mod Asked
