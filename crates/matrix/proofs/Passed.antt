@@ -57,10 +57,13 @@ rooms-long n indices numbers =
       λ h. b .1 (s .1 (le-ltb indices (4 * n) (h .0)), t .1 (le-ltb numbers n (h .1))),
     )
 
-pub costs-within : (costs : List ℤ) → Passes (costsWithin costs) ↔ ((k : ℕ) → k < length costs → Within K (signedAt costs k))
-costs-within costs =
+pub costs-in : (limit : ℕ) (costs : List ℤ) → Passes (costsIn (pos limit) costs) ↔ ((k : ℕ) → k < length costs → Within limit (signedAt costs k))
+costs-in limit costs =
     let t = failsAt-iff _ _ _ _ in
-    (λ e k l. outside-within K (signedAt costs k) .0 (t .0 e k l), λ h. t .1 (λ k l. outside-within K (signedAt costs k) .1 (h k l)))
+    (λ e k l. outside-within limit (signedAt costs k) .0 (t .0 e k l), λ h. t .1 (λ k l. outside-within limit (signedAt costs k) .1 (h k l)))
+
+pub costs-within : (costs : List ℤ) → Passes (costsWithin costs) ↔ ((k : ℕ) → k < length costs → Within K (signedAt costs k))
+costs-within costs = costs-in K costs
 
 pub columns-inside : (count n : ℕ) (cols : List ℕ) → Passes (columnsInside count n cols) ↔ ((i : ℕ) → i < count → at cols i < n)
 columns-inside count n cols =

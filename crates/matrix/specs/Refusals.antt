@@ -81,13 +81,25 @@ ReferenceLength = 18
 abbrev pub CharacterUnknown : ℕ
 CharacterUnknown = 19
 
+-- "Refuse with 20 exactly if there is none": no pairing without a barred place
+abbrev pub NoPairing : ℕ
+NoPairing = 20
+
 -- "a sheet whose note is over 4,096 bytes or holds a byte outside 32 to 126"
 abbrev pub NoteUnfit : ℕ
 NoteUnfit = 21
 
+-- "bits from n up must be clear"
+abbrev pub BarsPastSide : ℕ
+BarsPastSide = 22
+
 -- "Prices outside 7K either side of zero": a repair could take them out of -10K..10K.
 abbrev pub PriceFar : ℕ
 PriceFar = 24
+
+-- "a barred pair"
+abbrev pub BarredPair : ℕ
+BarredPair = 26
 
 -- The scope's "No." of a refusal.
 abbrev pub numberOf : Refusal → ℕ

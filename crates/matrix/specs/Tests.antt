@@ -45,9 +45,13 @@ listShort n length = failsIf ListLength 1 (ltb n length)
 abbrev pub roomsLong : ℕ → ℕ → ℕ → Verdict
 roomsLong n indices numbers = failsIf RoomShort 1 (ltb indices (4 * n)) then failsIf RoomShort 2 (ltb numbers n)
 
--- 5, "a cost outside -K..K", "first, in row order".
+-- 5, "a cost outside" -limit..limit, "first, in row order".
+abbrev pub costsIn : ℤ → List ℤ → Verdict
+costsIn limit costs = failsAt CostOutside (λ k. k) (length costs) (λ k. outside limit (signedAt costs k))
+
+-- 5, "a cost outside -K..K".
 abbrev pub costsWithin : List ℤ → Verdict
-costsWithin costs = failsAt CostOutside (λ k. k) (length costs) (λ k. outside (pos K) (signedAt costs k))
+costsWithin costs = costsIn (pos K) costs
 
 -- 6, "a listed column is not below n", "first row", of the rows listed.
 abbrev pub columnsInside : ℕ → ℕ → List ℕ → Verdict

@@ -43,9 +43,15 @@ pub const REFERENCE_LENGTH: u64 = 18;
 
 pub const CHARACTER_UNKNOWN: u64 = 19;
 
+pub const NO_PAIRING: u64 = 20;
+
 pub const NOTE_UNFIT: u64 = 21;
 
+pub const BARS_PAST_SIDE: u64 = 22;
+
 pub const PRICE_FAR: u64 = 24;
+
+pub const BARRED_PAIR: u64 = 26;
 
 // The scope's number of a refusal.
 pub fn number(refusal: Refusal) -> u64

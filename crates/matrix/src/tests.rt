@@ -11,7 +11,7 @@ ghost use Rattle.lists.specs.Permutations.{at};
 ghost use Rattle.assignment.specs.Pairings.{signedAt};
 ghost use Rattle.matrix.specs.Limits.{side, K};
 ghost use Rattle.matrix.specs.Verdicts.{Passes, _then_, failsBy, failsIf};
-ghost use Rattle.matrix.specs.Tests.{short, outside, sideWithin, costsFill, listsLong, shaped, listShort, roomsLong, costsWithin, columnsInside, pricesIn, pricesWithin};
+ghost use Rattle.matrix.specs.Tests.{short, outside, sideWithin, costsFill, listsLong, shaped, listShort, roomsLong, costsIn, costsWithin, columnsInside, pricesIn, pricesWithin};
 use crate::Refusal;
 use crate::Verdict;
 use crate::limits::bound;
@@ -141,13 +141,14 @@ pub fn rooms_long(before: Verdict, n: usize, indices: usize, numbers: usize) -> 
     fails_if(numbers < n, refusals::ROOM_SHORT, 2)
 }
 
-// Refusal 5: the first cost outside -K..K, in row order, or their number where there is none.
-fn first_cost_outside(costs: &[i32]) -> usize
-    ensures { λ r. ⌜ r ≡ first (length (now (costs .entry))) (λ k. outside (pos K) (signedAt (now (costs .entry)) k)) ⌝ }
+// Refusal 5: the first cost outside -limit..limit, in row order, or their number where there is none.
+fn first_cost_outside(limit: i64, costs: &[i32]) -> usize
+    requires { ⌜ Within (2 ^ 62) limit ⌝ }
+    ensures { λ r. ⌜ r ≡ first (length (now (costs .entry))) (λ k. outside limit (signedAt (now (costs .entry)) k)) ⌝ }
 {
     let mut k = 0;
     while k < costs.len() {
-        if outside(costs[k] as i64, bound()) {
+        if outside(costs[k] as i64, limit) {
             return k;
         }
         k += 1;
@@ -155,9 +156,10 @@ fn first_cost_outside(costs: &[i32]) -> usize
     k
 }
 
-// Test 5.
-pub fn costs_within(before: Verdict, costs: &[i32]) -> Verdict
-    ensures { λ r. ⌜ r ≡ (before then costsWithin (now (costs .entry))) ⌝ }
+// Test 5, of costs in -limit..limit.
+pub fn costs_in(before: Verdict, limit: i64, costs: &[i32]) -> Verdict
+    requires { ⌜ Within (2 ^ 62) limit ⌝ }
+    ensures { λ r. ⌜ r ≡ (before then costsIn limit (now (costs .entry))) ⌝ }
 {
     match before {
         Verdict::Fails(refusal) => {
@@ -165,8 +167,15 @@ pub fn costs_within(before: Verdict, costs: &[i32]) -> Verdict
         }
         Verdict::Passed => {}
     }
-    let k = first_cost_outside(costs);
+    let k = first_cost_outside(limit, costs);
     fails_if(k < costs.len(), refusals::COST_OUTSIDE, k)
+}
+
+// Test 5.
+pub fn costs_within(before: Verdict, costs: &[i32]) -> Verdict
+    ensures { λ r. ⌜ r ≡ (before then costsWithin (now (costs .entry))) ⌝ }
+{
+    costs_in(before, bound(), costs)
 }
 
 // Refusal 6: the first of `count` rows whose listed column is not below n, or `count` where there is none.

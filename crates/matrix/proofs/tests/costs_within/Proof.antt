@@ -1,28 +1,27 @@
--- `costs_within` hands a refusal on, and answers test 5 where none came. Assumes nothing.
-use mathlib.Core.Path.{_∙_}
+-- `costs_within` answers test 5. Assumes nothing.
+use mathlib.Core.Path.{ap, _∙_}
+use native.Mathlib.Omega.{arith}
 use borrow.Author.Needs.{needs}
-use Rattle.matrix.proofs.Verdicts.{fails-then, passed-then, failed-at}
+use lib.IntN.{ℤ}
+use mir.Syntax.{w64}
+use Rattle.ints.proofs.Bits.{read-back}
+use Rattle.matrix.specs.Verdicts.{_then_}
+use Rattle.matrix.specs.Tests.{costsIn}
+use Rattle.matrix.proofs.SmallLimits.{K-small}
 use Rattle.matrix.proofs.tests.costs_within.Statement.{statement}
 use Rattle.matrix.proofs.tests.costs_within.Tie as tie
 
-enum-known-before : tie.Need-enum-known-before
-enum-known-before c = search needs
+bound-requires : tie.Need-bound-requires
+bound-requires c κs = search needs
+
+costs-in-requires : tie.Need-costs-in-requires
+costs-in-requires c κs = rw (read-back w64 (c .bound .result) (c .bound .ok), c .bound .ensures) (omega (arith, K-small))
 
 returns : tie.Need-returns
-returns c = fails-then _ (c .before .before2 .given .1)
-
-enum-told : tie.Need-enum-told
-enum-told c = search needs
-
-first-cost-outside-requires : tie.Need-first-cost-outside-requires
-first-cost-outside-requires c κs = search needs
-
-fails-if-requires : tie.Need-fails-if-requires
-fails-if-requires c κs = search needs
-
-returns-2 : tie.Need-returns-2
-returns-2 c =
-    passed-then _ (c .before .before .enum-told .given .1) (c .fails-if .ensures ∙ failed-at _ (λ k. k) _ _ (c .before .first-cost-outside .ensures))
+returns c =
+    let s = c .before .before in
+    c .costs-in .ensures
+    ∙ ap (λ (z : ℤ). s .args .before then costsIn z (s .args .costs .now)) (read-back w64 (c .before .bound .result) (c .before .bound .ok) ∙ c .before .bound .ensures)
 
 pub costs-within-spec : {M : Type 1} → statement M
-costs-within-spec = tie.close (tie.spec enum-known-before returns enum-told first-cost-outside-requires fails-if-requires returns-2)
+costs-within-spec = tie.close (tie.spec bound-requires costs-in-requires returns)
