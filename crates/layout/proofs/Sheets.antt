@@ -1,16 +1,16 @@
 -- A sheet made of costs, of any edition: how long it is, what its trailer says, and that its costs are found again. Assumes nothing.
-use mathlib.Core.Path.{_≡_, refl, ap, _∙_}
+use mathlib.Core.Path.{_≡_, refl, sym, ap, ap₂, _∙_}
 use mathlib.Core.List.{List, _++_, flatMap, append-assoc}
 use Prim.Native.Nat.{ℕ, _+_, _*_, _-_, _/_, _^_, _<_}
 use native.Mathlib.Omega.{arith}
 use lib.IntN.{ℤ, pos}
 use lib.ListN.{length, getD, length-append}
 use lib.Signed.{mag}
-use Rattle.layout.specs.Values.{valueOf, signedBytes, signedValue}
+use Rattle.layout.specs.Values.{bytesOf, valueOf, signedBytes, signedValue}
 use Rattle.layout.specs.Fields.{fields}
 use Rattle.layout.specs.Trailers.{sheetMark, trailer, distanceOf, sideOf, editionOf, markOf}
-use Rattle.layout.specs.Sheets.{sheetWith, costsAt}
-use Rattle.layout.proofs.Values.{length-signedBytes, signedValue-signedBytes}
+use Rattle.layout.specs.Sheets.{sheetWith, costsAt, barsAt}
+use Rattle.layout.proofs.Values.{length-bytesOf, length-signedBytes, value-bytesOf, signedValue-signedBytes}
 use Rattle.layout.proofs.Fields.{length-flatMap, fields-flatMap}
 use Rattle.layout.proofs.Trailers as trailers
 use Rattle.layout.proofs.Trailers.{length-trailer}
@@ -53,3 +53,17 @@ module _ (edition : ℕ) (note : List ℕ) (side : ℕ) (costs : List ℤ) (more
       ap (λ (base : ℕ). fields (signedValue 4) base 4 (length costs) sheet) start
       ∙ fields-flatMap (signedBytes 4) 4 (length-signedBytes 4) (signedValue 4) note (length note) costs (length costs) (more ++ end) (pos 0) refl refl
       (λ k l. signedValue-signedBytes 4 (getD costs k (pos 0)) (fit k l))
+
+-- What stands between costs and trailer, if it is a number for each row, is found again.
+pub sheet-bars : (edition : ℕ) (note : List ℕ) (side : ℕ) (costs : List ℤ) (bars : List ℕ) → ((i : ℕ) → i < length bars → getD bars i 0 < 256 ^ 8)
+    → barsAt (length bars) (sheetWith edition note side costs (flatMap (bytesOf 8) bars)) ≡ bars
+sheet-bars edition note side costs bars fit =
+    let more = flatMap (bytesOf 8) bars in
+    let size = length-flatMap (bytesOf 8) 8 (length-bytesOf 8) bars in
+    let first = note ++ flatMap (signedBytes 4) costs in
+    let end = trailer (4 * length costs + length more) side edition sheetMark in
+    let long : length first ≡ length note + length costs * 4 = omega (arith, length-append note (flatMap (signedBytes 4) costs), length-flatMap (signedBytes 4) 4 (length-signedBytes 4) costs) in
+    let start : length (sheetWith edition note side costs more) - 12 - 8 * length bars ≡ length first = omega (arith, sheet-length edition note side costs more) in
+    ap₂ (λ (base : ℕ) (bytes : List ℕ). fields valueOf base 8 (length bars) bytes) start (sym (append-assoc note (flatMap (signedBytes 4) costs) (more ++ end)))
+    ∙ fields-flatMap (bytesOf 8) 8 (length-bytesOf 8) valueOf first (length first) bars (length bars) end 0 refl refl
+    (λ i l. value-bytesOf 8 (getD bars i 0) (fit i l))

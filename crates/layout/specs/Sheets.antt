@@ -3,7 +3,7 @@ use mathlib.Core.List.{List, [], _++_, flatMap}
 use Prim.Native.Nat.{ℕ, _+_, _*_, _-_}
 use lib.IntN.{ℤ}
 use lib.ListN.{length}
-use Rattle.layout.specs.Values.{signedBytes, signedValue}
+use Rattle.layout.specs.Values.{bytesOf, valueOf, signedBytes, signedValue}
 use Rattle.layout.specs.Fields.{fields}
 use Rattle.layout.specs.Trailers.{sheetMark, trailer}
 
@@ -17,6 +17,14 @@ sheetWith edition note side costs more =
 abbrev pub sheetOf : List ℕ → ℕ → List ℤ → List ℕ
 sheetOf note side costs = sheetWith 1 note side costs []
 
+-- "Sheet edition 2 puts 8 bytes per row between costs and trailer": a number for each row.
+abbrev pub sheetBarred : List ℕ → ℕ → List ℤ → List ℕ → List ℕ
+sheetBarred note side costs bars = sheetWith 2 note side costs (flatMap (bytesOf 8) bars)
+
 -- So many costs, the first at a distance before the trailer.
 abbrev pub costsAt : ℕ → ℕ → List ℕ → List ℤ
 costsAt distance count sheet = fields (signedValue 4) (length sheet - 12 - distance) 4 count sheet
+
+-- The numbers of n rows, which end at the trailer.
+abbrev pub barsAt : ℕ → List ℕ → List ℕ
+barsAt n sheet = fields valueOf (length sheet - 12 - 8 * n) 8 n sheet

@@ -14,7 +14,7 @@ use Rattle.matrix.specs.Limits.{side, K}
 use Rattle.matrix.specs.Refusals.{PriceOutside}
 use Rattle.matrix.specs.Tests.{short}
 use Rattle.matrix.specs.Verdicts.{Passes, _then_}
-use Rattle.matrix.specs.Tests.{sideWithin, costsFill, listsLong, shaped, listShort, roomsLong, costsWithin, columnsInside, pricesIn, pricesWithin}
+use Rattle.matrix.specs.Tests.{sideWithin, costsFill, listsLong, shaped, listShort, roomsLong, costsIn, costsWithin, columnsInside, pricesIn, pricesWithin}
 use Rattle.matrix.proofs.Bounds.{outside-within}
 use Rattle.matrix.specs.Asked.{Long, Shaped}
 use Rattle.matrix.proofs.Lengths.{clear-long, long-clear}
