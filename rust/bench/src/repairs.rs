@@ -10,7 +10,7 @@ use crate::{costs, median, milliseconds, Kind, Matrix, Settings, KINDS};
 const SIDES: [usize; 3] = [256, 1024, 4096];
 
 /// Repairs for each round of a matrix: how far a search goes is another each time.
-const MORE: u64 = 10;
+const MORE: u64 = 2;
 
 impl Matrix {
     fn by_repair(&mut self, row: usize) -> Result<(Duration, i64), String> {
@@ -39,7 +39,7 @@ fn line(settings: &Settings, random: &mut Random, kind: &Kind, n: usize) -> Resu
             let row = random.below(n);
             for j in 0..n {
                 // Of kinds whose costs follow from the row, another row's.
-                matrix.costs[row * n + j] = (kind.1)(random, n - 1 - row, j) as i32;
+                matrix.costs[row * n + j] = (kind.2)(random, n - 1 - row, j) as i32;
             }
             let (repair, repaired) = matrix.by_repair(row)?;
             let (archive, total) = matrix.by_archive();
@@ -60,7 +60,7 @@ pub fn table(settings: &Settings, random: &mut Random) -> Result<(), String> {
     println!("| costs | side | fresh run | repair | repair / fresh run |");
     println!("|---|---|---|---|---|");
     for n in SIDES.into_iter().filter(|&n| n <= LARGEST_SIDE && n as u64 <= settings.largest) {
-        for kind in &KINDS {
+        for kind in KINDS.iter().filter(|&&(_, largest, _)| n <= largest) {
             println!("{}", line(settings, random, kind, n)?);
         }
     }
