@@ -11,12 +11,12 @@ bound-requires : tie.Need-bound-requires
 bound-requires c κs = search needs
 
 mul-result : tie.Need-mul-result
-mul-result c = multiple-fits 7 (omega arith) (c .bound .result) (c .bound .ensures) (c .bound .ok)
+mul-result c = multiple-fits _ (omega arith) (c .bound .result) (c .bound .ensures) (c .bound .ok)
 
 returns : tie.Need-returns
 returns c =
     let b = c .bound in
-    toZ-ofZ (multiple-fits 7 (omega arith) (b .result) (b .ensures) (b .ok)) ∙ multiple 7 (omega arith) (b .result) (b .ensures) (b .ok)
+    toZ-ofZ (multiple-fits _ (omega arith) (b .result) (b .ensures) (b .ok)) ∙ multiple _ (omega arith) (b .result) (b .ensures) (b .ok)
 
 pub near-bound-spec : {M : Type 1} → statement M
 near-bound-spec = tie.close (tie.spec bound-requires mul-result returns)
