@@ -11,6 +11,8 @@ ghost use Rattle.lapjv.specs.Values.{solvedValues, toldOf};
 ghost use Rattle.lapjv.specs.Asked.{TellableSolved};
 ghost use Rattle.repair.specs.Repair.{repair};
 ghost use Rattle.sheet.specs.Settle.{Delivery, pair};
+ghost use Rattle.pieces.specs.Kept.{kept};
+ghost use Rattle.pieces.specs.Calls.{taken, piece, ending, delivered, end, reset};
 ghost use Rattle.face.specs.Face.{totalled, checked, solution, Handed, handed, HandedBack, handedBack};
 use lapjv::Solved;
 use matrix::Answer;
@@ -207,4 +209,36 @@ pub extern "C" fn bristlefrost_score_sheet(firsts: &[u8], seconds: &[u8], sheet:
     ensures { λ r. ⌜ _≡_ {A = Filled} (record { number = r; sheet = now (sheet .exit) }) (scoreSheet (now (firsts .entry)) (now (seconds .entry)) (now (sheet .entry))) ⌝ }
 {
     score::score_sheet(firsts, seconds, sheet)
+}
+
+// A piece of a sheet, on a state that the caller keeps between the calls: 0, or 17, or 28 after the end.
+#[no_mangle]
+pub extern "C" fn bristlefrost_piece(
+    bytes: &mut [u8; 65536],
+    state: &mut [u64; 2],
+    sent: &[u8],
+) -> u64
+    ensures { λ r. ⌜ taken r (kept (now (bytes .exit)) (now (state .exit))) ≡ piece (now (sent .entry)) (kept (now (bytes .entry)) (now (state .entry))) ⌝ }
+{
+    pieces::piece(bytes, state, sent)
+}
+
+// The end of a sheet in pieces, and the slip's room: what `bristlefrost_sheet` gives for the whole, or 28 after the end.
+#[no_mangle]
+pub extern "C" fn bristlefrost_end(
+    bytes: &[u8; 65536],
+    state: &mut [u64; 2],
+    slip: &mut [u8],
+) -> u64
+    ensures { λ r. ⌜ ending (delivered r (now (slip .exit))) (kept (now (bytes .entry)) (now (state .exit))) ≡ end (now (slip .entry)) (kept (now (bytes .entry)) (now (state .entry))) ⌝ }
+{
+    pieces::end(bytes, state, slip)
+}
+
+// Back to the fresh state: 0.
+#[no_mangle]
+pub extern "C" fn bristlefrost_reset(bytes: &[u8; 65536], state: &mut [u64; 2]) -> u64
+    ensures { λ r. ⌜ taken r (kept (now (bytes .entry)) (now (state .exit))) ≡ reset (kept (now (bytes .entry)) (now (state .entry))) ⌝ }
+{
+    pieces::reset(bytes, state)
 }

@@ -6,7 +6,7 @@ use Prim.Native.Nat.{ℕ, zero, suc, _+_, _-_, _≤_, _<_}
 use native.Mathlib.Nat.{zero-add, suc-add, sub-zero}
 use native.Mathlib.Omega.{arith}
 use lib.ListN.{length, getD, set, take, drop, length-append, length-drop, length-set, take-append-drop, List·getD-append}
-use lib.Seq.{length-take-le, take-nil, take-at, drop-at, take-append-le, take-append-add, drop-append-le, getD-append-add, set-append-left, take-set-le, take-set-lt, drop-set-lt, drop-set-add, getD-take, getD-drop, take-take, take-add, drop-drop, slice}
+use lib.Seq.{length-take-le, take-nil, take-at, drop-at, take-append-le, take-append-add, drop-append-le, getD-append-add, set-append-left, take-set-le, take-set-lt, drop-set-lt, drop-set-add, getD-take, getD-drop, take-take, take-add, drop-drop, slice, paste, take-length}
 use Rattle.lists.specs.Parts.{part, replaced}
 
 module _ {A : Type 0} where
@@ -69,6 +69,12 @@ module _ {A : Type 0} where
     pub replaced-before : take a (replaced a p l) ≡ take a l
     replaced-before = take-at (take a l) (p ++ drop (a + length p) l) a front
 
+    -- What was written, with all before it.
+    pub replaced-front : take (a + length p) (replaced a p l) ≡ take a l ++ p
+    replaced-front =
+        ap (take (a + length p)) (sym (append-assoc (take a l) p (drop (a + length p) l)))
+        ∙ take-at (take a l ++ p) (drop (a + length p) l) (a + length p) (omega (arith, length-append (take a l) p, front))
+
     pub replaced-after : drop (a + length p) (replaced a p l) ≡ drop (a + length p) l
     replaced-after =
         sym (drop-drop (length p) a (replaced a p l))
@@ -109,6 +115,11 @@ module _ {A : Type 0} where
         ∙ sym
         (ap₂ (λ (s t : List A). s ++ (p ++ t)) (take-set-le a l i x (omega arith))
         (ap (λ (k : ℕ). drop (a + length p) (set l k x)) e′ ∙ drop-set-add (a + length p) l (i - (a + length p)) x))
+
+  -- A list copied whole, as the toolchain's `paste` has it.
+  pub pasted-whole : (a : ℕ) (p l : List A) → paste l a p (length p) ≡ replaced a p l
+  pasted-whole a p l =
+      ap (λ (t : List A). take a l ++ t ++ drop (a + length p) l) (take-length p) ∙ append-assoc (take a l) p (drop (a + length p) l)
 
   pub replaced-self : (a m : ℕ) (l : List A) → a + m ≤ length l → replaced a (part a m l) l ≡ l
   replaced-self a m l h =

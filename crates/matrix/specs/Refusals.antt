@@ -101,6 +101,10 @@ PriceFar = 24
 abbrev pub BarredPair : ℕ
 BarredPair = 26
 
+-- "any call after the end", but a reset
+abbrev pub SheetEnded : ℕ
+SheetEnded = 28
+
 -- The scope's "No." of a refusal.
 abbrev pub numberOf : Refusal → ℕ
 numberOf refusal = refusal .number

@@ -53,6 +53,8 @@ pub const PRICE_FAR: u64 = 24;
 
 pub const BARRED_PAIR: u64 = 26;
 
+pub const SHEET_ENDED: u64 = 28;
+
 // The scope's number of a refusal.
 pub fn number(refusal: Refusal) -> u64
     ensures { λ r. ⌜ r ≡ numberOf refusal ⌝ }

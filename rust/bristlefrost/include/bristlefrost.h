@@ -40,9 +40,11 @@
  *   21  a note (all bytes before the first cost) over 4,096 bytes,  the first such position, 4,096 for a longer note
  *       or with a byte outside 32 to 126                            whose first 4,096 bytes are good
  *   24  a price outside -7,000,000,000..7,000,000,000               as for 8
+ *   28  a piece or an end after the end of a sheet in pieces        0
  * Lists are numbered 1 columns by row, 2 rows by column, 3 row prices, 4 column prices. A refusal has total 0
- * and counts 0 and changes nothing that was lent. With 9 and 10 comes the slack of the place named, its cost minus
- * both its prices: below 0 with a 9, above 0 with a 10. All others have slack 0. */
+ * and counts 0 and changes nothing that was lent, but for the state of a sheet in pieces (below). With 9 and 10
+ * comes the slack of the place named, its cost minus both its prices: below 0 with a 9, above 0 with a 10. All
+ * others have slack 0. */
 
 #ifndef BRISTLEFROST_H
 #define BRISTLEFROST_H
@@ -76,7 +78,8 @@ enum {
     BRISTLEFROST_REFERENCE_LENGTH = 18,
     BRISTLEFROST_CHARACTER_UNKNOWN = 19,
     BRISTLEFROST_NOTE_UNFIT = 21,
-    BRISTLEFROST_PRICE_FAR = 24
+    BRISTLEFROST_PRICE_FAR = 24,
+    BRISTLEFROST_SHEET_ENDED = 28
 };
 
 /* The solver's answer: the refusal, the least total, and the six counts. */
@@ -173,6 +176,26 @@ uint64_t bristlefrost_score_sheet(
     const uint8_t *firsts, size_t firsts_len,
     const uint8_t *seconds, size_t seconds_len,
     uint8_t *sheet, size_t sheet_len);
+
+/* A sheet that arrives in pieces. The caller keeps two arrays between the calls and hands them over without a length:
+ * bytes, 65,536 of them, and state, two numbers. It begins with a state of zeros, as zeroed memory has it or a reset
+ * leaves it; what stands in bytes then does not matter. state[0] is how many bytes have come; state[1] is 0 while
+ * pieces are taken, 1 once 17 was given and 2 after the end. Any other numbers are read as if 17 had been given.
+ *
+ * A piece is of any size, also 0, and is copied behind those before it: 0. One that would pass 65,536 bytes in all
+ * is not, and gives 17, as does every later call until a reset, the end too. */
+uint64_t bristlefrost_piece(
+    uint8_t bytes[65536], uint64_t state[2],
+    const uint8_t *sent, size_t sent_len);
+
+/* The end: what bristlefrost_sheet gives for the whole, however it was cut; bytes are not written. After it, refused
+ * or not (16 too), a piece and an end give 28 and change nothing, until a reset. */
+uint64_t bristlefrost_end(
+    uint8_t bytes[65536], uint64_t state[2],
+    uint8_t *slip, size_t slip_len);
+
+/* Back to a state of zeros: 0; bytes are neither read nor written. */
+uint64_t bristlefrost_reset(uint8_t bytes[65536], uint64_t state[2]);
 
 #ifdef __cplusplus
 }

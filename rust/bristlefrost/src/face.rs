@@ -2,7 +2,7 @@
 //! a caller: a slice's pointer is never null, is aligned and is valid for its length, and a slice that is written
 //! overlaps no other.
 
-use crate::Lent;
+use crate::{Lent, LONGEST_SHEET};
 
 #[repr(C)]
 pub struct Solved {
@@ -101,6 +101,12 @@ extern "C" {
     ) -> Checked;
 
     fn bristlefrost_sheet(sheet: *const u8, sheet_len: usize, slip: *mut u8, slip_len: usize) -> u64;
+
+    fn bristlefrost_piece(bytes: *mut u8, state: *mut u64, sent: *const u8, sent_len: usize) -> u64;
+
+    fn bristlefrost_end(bytes: *const u8, state: *mut u64, slip: *mut u8, slip_len: usize) -> u64;
+
+    fn bristlefrost_reset(bytes: *const u8, state: *mut u64) -> u64;
 }
 
 pub fn solve(n: usize, costs: &[i32], lent: Lent<'_>) -> Solved {
@@ -203,4 +209,19 @@ pub fn score_sheet(firsts: &[u8], seconds: &[u8], sheet: &mut [u8]) -> u64 {
             sheet.len(),
         )
     }
+}
+
+pub fn piece(bytes: &mut [u8; LONGEST_SHEET], state: &mut [u64; 2], sent: &[u8]) -> u64 {
+    // Safety: the arrays are as long as the archive takes them to be, and exclusive.
+    unsafe { bristlefrost_piece(bytes.as_mut_ptr(), state.as_mut_ptr(), sent.as_ptr(), sent.len()) }
+}
+
+pub fn end(bytes: &[u8; LONGEST_SHEET], state: &mut [u64; 2], slip: &mut [u8]) -> u64 {
+    // Safety: the arrays are as long as the archive takes them to be, and what is written is exclusive.
+    unsafe { bristlefrost_end(bytes.as_ptr(), state.as_mut_ptr(), slip.as_mut_ptr(), slip.len()) }
+}
+
+pub fn reset(bytes: &[u8; LONGEST_SHEET], state: &mut [u64; 2]) -> u64 {
+    // Safety: the arrays are as long as the archive takes them to be, and what is written is exclusive.
+    unsafe { bristlefrost_reset(bytes.as_ptr(), state.as_mut_ptr()) }
 }

@@ -30,7 +30,8 @@
 //! Where the costs of one row change, a [`KeptNight`] is repaired with one search instead of paired anew.
 //!
 //! The same on paper: a [`Sheet`] is built from costs or from a table of numbers, [`pair`] answers its [`Slip`], and
-//! [`audit`] holds a slip against its sheet on another machine. [`sheet`] does it on bytes.
+//! [`audit`] holds a slip against its sheet on another machine. [`sheet`] does it on bytes, and [`Pieces`] on bytes that
+//! arrive in pieces.
 
 #![warn(missing_docs)]
 
@@ -38,11 +39,13 @@ mod desk;
 #[doc(hidden)]
 pub mod face;
 mod kept;
+mod pieces;
 mod refusal;
 
 pub use desk::{audit, pair, Doubt};
 pub use kept::{Change, KeptNight};
 pub use paper::{references, Sheet, Slip, Unfit, BARRED};
+pub use pieces::Pieces;
 pub use refusal::{List, Refusal, Room};
 
 /// The largest side.
@@ -50,6 +53,9 @@ pub const LARGEST_SIDE: usize = 4096;
 
 /// The largest side on a sheet.
 pub const LARGEST_SHEET_SIDE: usize = paper::LARGEST_SIDE;
+
+/// The most bytes that a sheet has.
+pub const LONGEST_SHEET: usize = 65_536;
 
 /// The largest cost; the lowest is -LARGEST_COST.
 pub const LARGEST_COST: i32 = BARRED;
@@ -277,10 +283,14 @@ pub const fn slip_length(side: usize) -> usize {
 pub fn sheet(sheet: &[u8]) -> Result<Vec<u8>, Refusal> {
     let mut slip = vec![0; slip_length(LARGEST_SHEET_SIDE)];
     sheet_into(sheet, &mut slip)?;
-    // An accepted sheet ends with its trailer, which holds the side in bytes 4 and 5.
-    let side = &sheet[sheet.len() - 8..sheet.len() - 6];
-    slip.truncate(slip_length(usize::from(u16::from_le_bytes([side[0], side[1]]))));
+    slip.truncate(slip_length(side_of(sheet)));
     Ok(slip)
+}
+
+/// The side of an accepted sheet: it ends with its trailer, which holds the side in bytes 4 and 5.
+fn side_of(sheet: &[u8]) -> usize {
+    let side = &sheet[sheet.len() - 8..sheet.len() - 6];
+    usize::from(u16::from_le_bytes([side[0], side[1]]))
 }
 
 /// Pairs a sheet's bytes and writes its slip's, as many as [`slip_length`] says; later bytes are untouched, and a

@@ -24,7 +24,8 @@ pub enum Room {
     Numbers,
 }
 
-/// Why an input was refused, by number. Nothing that was lent has changed. A place of a cost is row * side + column.
+/// Why an input was refused, by number. Nothing that was lent has changed; only [`Pieces`](crate::Pieces) remember
+/// it. A place of a cost is row * side + column.
 #[derive(Clone, Copy, Debug, PartialEq, Eq)]
 #[non_exhaustive]
 pub enum Refusal {
@@ -105,6 +106,8 @@ pub enum Refusal {
         /// The first such price: a row's number, or side + a column's number.
         place: u64,
     },
+    /// 28: the sheet in [`Pieces`](crate::Pieces) has ended.
+    SheetEnded,
     /// A number without a meaning, which the archive never answers.
     Other {
         /// The number.
@@ -145,6 +148,7 @@ impl Refusal {
             (19, _) => Refusal::CharacterUnknown { place },
             (21, _) => Refusal::NoteUnfit { place },
             (24, _) => Refusal::PriceFar { place },
+            (28, 0) => Refusal::SheetEnded,
             _ => Refusal::Other { number, place },
         };
         Err(refusal)
@@ -174,6 +178,7 @@ impl Refusal {
             Refusal::CharacterUnknown { .. } => 19,
             Refusal::NoteUnfit { .. } => 21,
             Refusal::PriceFar { .. } => 24,
+            Refusal::SheetEnded => 28,
             Refusal::Other { number, .. } => number,
         }
     }
@@ -235,6 +240,7 @@ impl fmt::Display for Refusal {
             Refusal::CharacterUnknown { .. } => "a character of a reference is not from 0-9 and A-Z",
             Refusal::NoteUnfit { .. } => "the sheet's note is over 4,096 bytes or has a byte outside 32 to 126",
             Refusal::PriceFar { .. } => "a price lies outside -7,000,000,000..7,000,000,000",
+            Refusal::SheetEnded => "the sheet has ended",
             Refusal::Other { .. } => "a number without a meaning",
         };
         write!(out, "refused {} place {}: {meaning}", self.number(), self.place())?;

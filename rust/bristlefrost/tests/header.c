@@ -1,4 +1,5 @@
-/* Document 01's night N8, its sheet of side 1 and a score, through the header. Status 0 where every answer is right. */
+/* Document 01's night N8, its sheet of side 1, whole and in pieces, and a score, through the header. Status 0 where
+ * every answer is right. */
 
 #include <bristlefrost.h>
 
@@ -60,5 +61,18 @@ int main(void) {
     if (bristlefrost_score_sheet(plain, 12, alike, 12, scores, 17) != 0) return 18;
     if (scores[0] != 10 || scores[8] != 1 || scores[15] != 0x48 || scores[16] != 9) return 19;
     if (bristlefrost_score_sheet(plain, 12, alike, 12, scores, 15) != BRISTLEFROST_SLIP_ROOM_SHORT) return 20;
+
+    static uint8_t bytes[65536];
+    uint64_t state[2] = {9, 9};
+    if (bristlefrost_piece(bytes, state, sheet, 16) != BRISTLEFROST_SHEET_OVER) return 21;
+    if (bristlefrost_reset(bytes, state) != 0 || state[0] != 0 || state[1] != 0) return 22;
+    if (bristlefrost_piece(bytes, state, sheet, 3) != 0 || bristlefrost_piece(bytes, state, sheet, 0) != 0) return 23;
+    if (bristlefrost_piece(bytes, state, sheet + 3, 13) != 0 || state[0] != 16) return 24;
+    uint8_t other_slip[38] = {0};
+    if (bristlefrost_end(bytes, state, other_slip, 38) != 0) return 25;
+    for (int k = 0; k < 38; k++)
+        if (other_slip[k] != slip[k]) return 26;
+    if (bristlefrost_piece(bytes, state, sheet, 0) != BRISTLEFROST_SHEET_ENDED) return 27;
+    if (bristlefrost_end(bytes, state, slip, 38) != BRISTLEFROST_SHEET_ENDED) return 28;
     return 0;
 }

@@ -20,7 +20,7 @@ impl Met {
     }
 
     /// The numbers that each entry can answer, in its order.
-    const ALL: [(&'static str, &'static [u64]); 7] = [
+    const ALL: [(&'static str, &'static [u64]); 9] = [
         ("solve", &[0, 1, 2, 3, 4, 5]),
         ("check", &[0, 1, 2, 3, 5, 6, 7, 8, 9, 10]),
         ("cost", &[0, 1, 2, 3, 5, 6]),
@@ -28,6 +28,8 @@ impl Met {
         ("sheet", &[0, 17, 11, 12, 13, 14, 15, 21, 16, 5]),
         ("score", &[0, 18, 19]),
         ("scores", &[0, 18, 13, 16, 19]),
+        ("piece", &[0, 17, 28]),
+        ("end", &[0, 17, 11, 12, 13, 14, 15, 21, 16, 5, 28]),
     ];
 
     /// One line for each entry; an error where a number was never met.
@@ -109,7 +111,7 @@ fn told(right: Result<i64, refusals::Refused>) -> (u64, i64) {
 }
 
 /// The archive's number for a refusal of the wrapper.
-fn number_and_place(refusal: Refusal) -> u64 {
+pub fn number_and_place(refusal: Refusal) -> u64 {
     refusals::code((refusal.number().into(), refusal.place()))
 }
 

@@ -7,6 +7,8 @@ pub mod checks;
 pub mod command;
 pub mod compared;
 #[cfg(feature = "archive")]
+pub mod cuts;
+#[cfg(feature = "archive")]
 pub mod damage;
 pub mod document;
 pub mod listed;

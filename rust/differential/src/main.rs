@@ -7,10 +7,11 @@
 //! of the sides 100, 256, 512, 1,023 and 1,024 (2); M is how many are run of side 4,096, the limit, with costs
 //! 0..10^6, with costs 0..3, and with costs -K or K (0). Small sides over few values are run in full each time; with
 //! --full side 3 over 0..5 too, ten million nights. The archive is also given N damaged nights and lists, those at
-//! the limits, every small damage to one sheet, B random sheets (20,000), most of them damaged, and references with N
-//! lists of them. Last come nights with amounts on columns and on rows: small ones in full, N / 8 of sides to 64, and
-//! L / 5, rounded up, of each of the sides 100, 256 and 1,024; and nights that change row by row and are repaired:
-//! every change of one row of small ones, N / 40 chains of sides to 64, and L / 5, rounded up, of sides 100 and 256.
+//! the limits, every small damage to one sheet, B random sheets (20,000), most of them damaged, one sheet cut in every
+//! way in two and three and B / 4 such random sheets in random pieces, and references with N lists of them. Last come
+//! nights with amounts on columns and on rows: small ones in full, N / 8 of sides to 64, and L / 5, rounded up, of each
+//! of the sides 100, 256 and 1,024; and nights that change row by row and are repaired: every change of one row of
+//! small ones, N / 40 chains of sides to 64, and L / 5, rounded up, of sides 100 and 256.
 
 use std::process::ExitCode;
 
@@ -18,7 +19,7 @@ use differential::compared::Compared;
 use differential::nights::{self, Every, Random, FAMILIES};
 use differential::refusals::LARGEST_SIDE;
 #[cfg(feature = "archive")]
-use differential::{archive, damage, scored, torn};
+use differential::{archive, cuts, damage, scored, torn};
 use differential::{command, oracle, repairs, surcharges, K};
 
 /// What the command line sets.
@@ -66,6 +67,13 @@ fn damaged(compared: &mut Compared, settings: &Settings) -> Result<(), String> {
         "every pair of characters, byte and length, and {} lists of references, seed {seed}: {sides}",
         settings.count
     );
+    let (cuttings, count) = (cuts::every(random, met)?, settings.sheets / 4);
+    let states = cuts::states(random, met)?;
+    cuts::limits(random, met)?;
+    cuts::random(random, met, count)?;
+    let whole = "the archive and its answer to the whole";
+    println!("{cuttings} cuttings of one sheet, {states} calls on odd states, and the limits: {whole}");
+    println!("{count} random sheets in pieces, most of them damaged, seed {seed}: {whole}");
     Ok(())
 }
 

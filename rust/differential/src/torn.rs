@@ -100,8 +100,9 @@ fn damage(random: &mut Random, sheet: &mut Vec<u8>) {
     }
 }
 
-/// A random sheet, most often small, whole or damaged in up to three ways.
-pub fn one(random: &mut Random, met: &mut Met) -> Result<(), String> {
+/// A random sheet, most often small, whole or damaged in up to three ways, and the length of its slip's room, one in
+/// four too short.
+pub fn sheet(random: &mut Random) -> (Vec<u8>, usize) {
     let n = if random.below(16) == 0 { random.below(65) } else { random.below(4) + random.below(4) };
     let night = Night::of_side(random, n);
     let longest = random.pick(&[8, 8, 8, 8, 8, 8, 400, 5000]) as usize;
@@ -113,5 +114,11 @@ pub fn one(random: &mut Random, met: &mut Met) -> Result<(), String> {
     }
     let short = if random.below(4) == 0 { 1 + random.below(30) } else { 0 };
     let room = (18 * n + 20 + random.below(4)).saturating_sub(short);
+    (sheet, room)
+}
+
+/// Compares such a sheet.
+pub fn one(random: &mut Random, met: &mut Met) -> Result<(), String> {
+    let (sheet, room) = sheet(random);
     compare(random, met, &sheet, room)
 }

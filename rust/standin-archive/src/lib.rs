@@ -335,3 +335,69 @@ pub unsafe extern "C" fn bristlefrost_score_sheet(
         Err(refused) => refusals::code(refused),
     }
 }
+
+const MOST: u64 = 65_536;
+
+/// # Safety
+/// As include/bristlefrost.h asks.
+#[no_mangle]
+pub unsafe extern "C" fn bristlefrost_piece(
+    bytes: *mut u8,
+    state: *mut u64,
+    sent: *const u8,
+    sent_len: usize,
+) -> u64 {
+    let (bytes, state) = (from_raw_parts_mut(bytes, MOST as usize), from_raw_parts_mut(state, 2));
+    let sent = from_raw_parts(sent, sent_len);
+    if let Some(refused) = settled(state) {
+        let overlooked = cfg!(feature = "nothing-after-the-end") && refused == 28 && sent.is_empty();
+        return if overlooked { 0 } else { refused };
+    }
+    let came = state[0] as usize;
+    let rest = MOST as usize - came;
+    if sent.len() > rest || cfg!(feature = "last-piece-refused") && !sent.is_empty() && sent.len() == rest {
+        state[1] = 1;
+        return 17;
+    }
+    bytes[came..came + sent.len()].copy_from_slice(sent);
+    state[0] += sent.len() as u64;
+    0
+}
+
+/// What every call gives where no pieces are taken.
+fn settled(state: &[u64]) -> Option<u64> {
+    match (state[0], state[1]) {
+        (0..=MOST, 0) => None,
+        (0..=MOST, 2) => Some(28),
+        _ => Some(17),
+    }
+}
+
+/// # Safety
+/// As include/bristlefrost.h asks.
+#[no_mangle]
+pub unsafe extern "C" fn bristlefrost_end(
+    bytes: *const u8,
+    state: *mut u64,
+    slip: *mut u8,
+    slip_len: usize,
+) -> u64 {
+    let (bytes, state) = (from_raw_parts(bytes, MOST as usize), from_raw_parts_mut(state, 2));
+    if let Some(refused) = settled(state) {
+        return refused;
+    }
+    state[1] = 2;
+    write_slip(&bytes[..state[0] as usize], from_raw_parts_mut(slip, slip_len))
+}
+
+/// # Safety
+/// As include/bristlefrost.h asks.
+#[no_mangle]
+pub unsafe extern "C" fn bristlefrost_reset(_bytes: *const u8, state: *mut u64) -> u64 {
+    let state = from_raw_parts_mut(state, 2);
+    if !cfg!(feature = "reset-keeps-the-length") {
+        state[0] = 0;
+    }
+    state[1] = 0;
+    0
+}
