@@ -5,9 +5,9 @@ use std::io::Read;
 /// The kinds that are drawn.
 const PANELS: [&str; 3] = ["random 0..10^6", "tied 0..3", "squared distances"];
 
-/// The solvers: the table's column, how its line is drawn, and where its name stands at the line's end.
+/// The solvers: the table's column, and how its line is drawn.
 const SOLVERS: [(&str, usize, &str); 3] = [
-    ("scipy", 7, "stroke=\"#888\" stroke-dasharray=\"6 4\""),
+    ("scipy", 6, "stroke=\"#888\" stroke-dasharray=\"6 4\""),
     ("crate", 3, "stroke=\"#333\" stroke-dasharray=\"2 3\""),
     ("archive", 4, "stroke=\"#06c\" stroke-width=\"3\""),
 ];
@@ -54,16 +54,25 @@ fn axes(panel: usize, name: &str, range: (i32, i32)) -> String {
     svg
 }
 
-/// One solver's line in a panel, and its name where it ends.
-fn drawn(panel: usize, points: &[Point], name: &str, stroke: &str, range: (i32, i32)) -> String {
-    let Some(&(side, time)) = points.last() else { return String::new() };
+/// One solver's line in a panel.
+fn drawn(panel: usize, points: &[Point], stroke: &str, range: (i32, i32)) -> String {
+    if points.is_empty() {
+        return String::new();
+    }
     let places: Vec<String> =
         points.iter().map(|&(side, time)| format!("{:.1} {:.1}", x(panel, side), y(time, range))).collect();
-    let (across, height) = (x(panel, side) - 6.0, y(time, range) - 6.0);
-    format!(
-        "<path d=\"M{}\" fill=\"none\" {stroke}/>\n<text x=\"{across:.1}\" y=\"{height:.1}\" text-anchor=\"end\">{name}</text>\n",
-        places.join("L")
-    )
+    format!("<path d=\"M{}\" fill=\"none\" {stroke}/>\n", places.join("L"))
+}
+
+/// Which line is whose.
+fn legend(height: f64) -> String {
+    let mut svg = String::new();
+    for (at, (name, _, stroke)) in SOLVERS.into_iter().enumerate() {
+        let left = x(1, 64.0) + at as f64 * 130.0;
+        svg += &format!("<path d=\"M{left} {0}H{1}\" {stroke}/>\n", height - 12.0, left + 40.0);
+        svg += &format!("<text x=\"{}\" y=\"{}\">{name}</text>\n", left + 48.0, height - 8.0);
+    }
+    svg
 }
 
 /// Reads a table and writes its picture.
@@ -83,11 +92,12 @@ pub fn draw() -> Result<(), String> {
     println!("<rect width=\"100%\" height=\"100%\" fill=\"#fff\"/>");
     for (panel, kind) in PANELS.into_iter().enumerate() {
         print!("{}", axes(panel, kind, range));
-        for (name, column, stroke) in SOLVERS {
-            print!("{}", drawn(panel, &points(&table, kind, column), name, stroke, range));
+        for (_, column, stroke) in SOLVERS {
+            print!("{}", drawn(panel, &points(&table, kind, column), stroke, range));
         }
     }
     println!("<text x=\"{LEFT}\" y=\"{}\">side; milliseconds, both axes logarithmic</text>", height - 8.0);
+    print!("{}", legend(height));
     println!("</svg>");
     Ok(())
 }
