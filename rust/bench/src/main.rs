@@ -1,38 +1,36 @@
-//! Times the crate lapjv 0.3.0 on f64, the archive on the same matrices and the archive's checker on what it paired,
-//! in one process and in turn, and writes the medians and their ratios as a table; then a repair of one changed row
-//! against a fresh run, and sheets of side 64.
+//! Times the crate lapjv 0.3.0 on f64, the archive on the same matrices, the archive's checker on what it paired, and other solvers where
+//! they are at hand, and writes the medians and their ratios as a table; then a repair of one changed row against a fresh
+//! run, and sheets of side 64.
 //!
 //!     bench [--seed S] [--matrices M] [--rounds R] [--largest N]
+//!     bench picture < TABLE > PICTURE
 //!
 //! M matrices of each kind and side (3) are solved R times each (5), by the crate and by the archive in turn, after
-//! one round that is not counted; sides over N (4,096) are left out, and for i*j those over 1,024, since its time
-//! grows with the cube of the side. layouts.sh runs it in several layouts.
+//! one round that is not counted; of a side over 1,024 one matrix, 3 times at most. Sides over N (4,096) are left out.
+//! layouts.sh runs it in several layouts. The second command draws a table as SVG.
 //!
 //! What is timed: the crate's `lapjv` on a matrix of f64 that is made beforehand; the archive's solver on a slice
 //! of i32, into lists that are allocated once for each matrix beforehand. Nobody clears those lists between runs;
 //! that the archive sets its work room to 0 before it returns is part of its time, as the crate's own allocations
 //! are part of the crate's.
 
+mod kinds;
+mod matrix;
+mod peers;
+mod picture;
 mod repairs;
 mod sheets;
 
 use std::process::ExitCode;
-use std::time::{Duration, Instant};
+use std::time::Duration;
 
-use bristlefrost::{Lent, LARGEST_SIDE};
+use bristlefrost::LARGEST_SIDE;
 use differential::nights::Random;
-use differential::{command, oracle, K};
+use differential::{command, oracle};
 
-/// A kind of matrix: its name, the largest side at which it is timed, and the cost at (i, j).
-type Kind = (&'static str, usize, fn(&mut Random, usize, usize) -> i64);
-
-const KINDS: [Kind; 5] = [
-    ("random 0..10^6", LARGEST_SIDE, |random, _, _| random.between(0, 1_000_000)),
-    ("random 0..10^9", LARGEST_SIDE, |random, _, _| random.between(0, K)),
-    ("tied 0..3", LARGEST_SIDE, |random, _, _| random.between(0, 3)),
-    ("-K or K", LARGEST_SIDE, |random, _, _| random.pick(&[-K, K])),
-    ("i*j", 1024, |_, i, j| (i * j) as i64),
-];
+use kinds::{Kind, KINDS};
+use matrix::Matrix;
+use peers::Peer;
 
 const SIDES: [usize; 6] = [64, 256, 512, 1024, 2048, LARGEST_SIDE];
 
@@ -64,68 +62,6 @@ fn settings() -> Result<Settings, String> {
     Ok(settings)
 }
 
-/// The costs of one matrix of a kind.
-fn costs((_, _, cost): &Kind, random: &mut Random, n: usize) -> Vec<i32> {
-    (0..n * n).map(|place| cost(random, place / n, place % n) as i32).collect()
-}
-
-/// One matrix for both, with the lists that the archive is lent.
-struct Matrix {
-    n: usize,
-    costs: Vec<i32>,
-    floats: oracle::Floats,
-    columns: Vec<u32>,
-    rows: Vec<u32>,
-    row_prices: Vec<i64>,
-    column_prices: Vec<i64>,
-    indices: Vec<u32>,
-    numbers: Vec<i64>,
-}
-
-impl Matrix {
-    fn new(n: usize, costs: Vec<i32>) -> Self {
-        Matrix {
-            n,
-            floats: oracle::Floats::new(n, &costs),
-            costs,
-            columns: vec![0; n],
-            rows: vec![0; n],
-            row_prices: vec![0; n],
-            column_prices: vec![0; n],
-            indices: vec![0; 4 * n],
-            numbers: vec![0; n],
-        }
-    }
-
-    fn by_crate(&self) -> (Duration, Option<oracle::Pairing>) {
-        let start = Instant::now();
-        let pairing = self.floats.pairing();
-        (start.elapsed(), pairing)
-    }
-
-    fn by_archive(&mut self) -> (Duration, Result<i64, String>) {
-        let lent = Lent {
-            columns: &mut self.columns,
-            rows: &mut self.rows,
-            row_prices: &mut self.row_prices,
-            column_prices: &mut self.column_prices,
-            indices: &mut self.indices,
-            numbers: &mut self.numbers,
-        };
-        let start = Instant::now();
-        let paired = bristlefrost::solve_into(self.n, &self.costs, lent);
-        (start.elapsed(), paired.map(|paired| paired.total).map_err(|refusal| refusal.to_string()))
-    }
-
-    /// The checker on what the archive paired last.
-    fn by_checker(&self) -> (Duration, Result<i64, String>) {
-        let start = Instant::now();
-        let Matrix { n, costs, columns, rows, row_prices, column_prices, .. } = self;
-        let checked = bristlefrost::check(*n, costs, columns, rows, row_prices, column_prices);
-        (start.elapsed(), checked.map_err(|refusal| refusal.to_string()))
-    }
-}
-
 fn median(mut times: Vec<Duration>) -> Duration {
     times.sort();
     times[times.len() / 2]
@@ -135,39 +71,85 @@ fn milliseconds(time: Duration) -> f64 {
     time.as_secs_f64() * 1000.0
 }
 
-/// Times one kind at one side and answers the table's line.
-fn line(settings: &Settings, random: &mut Random, kind: &Kind, n: usize) -> Result<String, String> {
-    let name = kind.0;
-    let (mut crates, mut archives, mut checkers) = (Vec::new(), Vec::new(), Vec::new());
-    for _ in 0..settings.matrices {
-        let mut matrix = Matrix::new(n, costs(kind, random, n));
-        for round in 0..=settings.rounds {
+/// The times of one kind at one side.
+#[derive(Default)]
+struct Times {
+    crates: Vec<Duration>,
+    archives: Vec<Duration>,
+    checkers: Vec<Duration>,
+    peers: [Vec<Duration>; 2],
+}
+
+impl Times {
+    /// One matrix, by all in turn. The pairing must be the crate's, and every total the archive's.
+    fn take(&mut self, matrix: &mut Matrix, rounds: u64, peers: &mut [Option<Peer>; 2]) -> Result<(), String> {
+        let mut least = 0;
+        for round in 0..=rounds {
             let (crate_time, pairing) = matrix.by_crate();
             let (archive_time, total) = matrix.by_archive();
             let (checker_time, checked) = matrix.by_checker();
-            if total? != checked? {
-                return Err(format!("{name}, side {n}: the checker's total is another one"));
+            least = total?;
+            if least != checked? {
+                return Err(String::from("the checker's total is another one"));
             }
-            if let Some((columns, _)) = pairing {
-                let same = columns.iter().zip(&matrix.columns).all(|(&a, &b)| a == b as usize);
-                if !same {
-                    return Err(format!("{name}, side {n}: the crate and the archive pair differently"));
-                }
+            let same = |(columns, _): oracle::Pairing| columns.iter().zip(&matrix.columns).all(|(&a, &b)| a == b as usize);
+            if !pairing.is_none_or(same) {
+                return Err(String::from("the crate and the archive pair differently"));
             }
             if round > 0 {
-                crates.push(crate_time);
-                archives.push(archive_time);
-                checkers.push(checker_time);
+                self.crates.push(crate_time);
+                self.archives.push(archive_time);
+                self.checkers.push(checker_time);
             }
         }
+        for (peer, times) in peers.iter_mut().zip(&mut self.peers) {
+            let Some(peer) = peer.as_mut().filter(|peer| matrix.n <= peer.largest) else { continue };
+            let (total, taken) = peer.solve(matrix.n, &matrix.costs, rounds + 1)?;
+            if total != least {
+                return Err(format!("{} has another total", peer.version));
+            }
+            times.extend(&taken[1..]);
+        }
+        Ok(())
     }
-    let (archive, checker) = (milliseconds(median(archives)), milliseconds(median(checkers)));
-    if !oracle::AT_HAND {
-        return Ok(format!("| {name} | {n} | not run | {archive:.3} | | {checker:.3} | |"));
+
+    /// The table's line: each time, and beside it its share of the crate's.
+    fn line(self, name: &str, n: usize) -> String {
+        let own = (!self.crates.is_empty() && oracle::AT_HAND).then(|| milliseconds(median(self.crates)));
+        let first = own.map_or(String::from("not run"), |own| format!("{own:.3}"));
+        let [scipy, dlib] = self.peers;
+        let mut line = format!("| {name} | {n} | {first} |");
+        for (times, places) in [(self.archives, 2), (scipy, 2), (dlib, 2), (self.checkers, 3)] {
+            if times.is_empty() {
+                line += " not run | |";
+                continue;
+            }
+            let time = milliseconds(median(times));
+            let share = own.map_or(String::new(), |own| format!(" {:.places$}", time / own));
+            line += &format!(" {time:.3} |{share} |");
+        }
+        line
     }
-    let own = milliseconds(median(crates));
-    let (slower, share) = (archive / own, checker / own);
-    Ok(format!("| {name} | {n} | {own:.3} | {archive:.3} | {slower:.2} | {checker:.3} | {share:.3} |"))
+}
+
+/// How many matrices of a side are timed, and in how many rounds.
+fn sized(settings: &Settings, n: usize) -> (u64, u64) {
+    if n <= 1024 {
+        (settings.matrices, settings.rounds)
+    } else {
+        (1, settings.rounds.min(3))
+    }
+}
+
+/// Times one kind at one side and answers the table's line.
+fn line(settings: &Settings, random: &mut Random, peers: &mut [Option<Peer>; 2], kind: &Kind, n: usize) -> Result<String, String> {
+    let (matrices, rounds) = sized(settings, n);
+    let mut times = Times::default();
+    for _ in 0..matrices {
+        let mut matrix = Matrix::new(n, (kind.costs)(random, n));
+        times.take(&mut matrix, rounds, peers).map_err(|wrong| format!("{}, side {n}: {wrong}", kind.name))?;
+    }
+    Ok(times.line(kind.name, n))
 }
 
 fn run() -> Result<(), String> {
@@ -175,16 +157,23 @@ fn run() -> Result<(), String> {
     if !oracle::AT_HAND {
         println!("{}", oracle::NOT_RUN);
     }
+    let mut peers = [Peer::scipy(), Peer::dlib()];
+    for (peer, name) in peers.iter().zip(["scipy", "dlib"]) {
+        match peer {
+            Some(peer) => println!("Beside it: {}.", peer.version),
+            None => println!("{name} was not run: it is not at hand (Debian: python3-scipy, libdlib-dev)."),
+        }
+    }
     println!(
         "Seed {}, {} matrices of each, {} rounds each; milliseconds, medians; lists are lent uncleared.\n",
         settings.seed, settings.matrices, settings.rounds
     );
-    println!("| costs | side | crate, f64 | archive | archive / crate | checker | checker / crate |");
-    println!("|---|---|---|---|---|---|---|");
+    println!("| costs | side | crate, f64 | archive | / crate | scipy | / crate | dlib | / crate | checker | / crate |");
+    println!("|---|---|---|---|---|---|---|---|---|---|---|");
     let mut random = Random::new(settings.seed);
     for n in SIDES.into_iter().filter(|&n| n as u64 <= settings.largest) {
-        for kind in KINDS.iter().filter(|&&(_, largest, _)| n <= largest) {
-            println!("{}", line(&settings, &mut random, kind, n)?);
+        for kind in KINDS.iter().filter(|kind| n <= kind.largest) {
+            println!("{}", line(&settings, &mut random, &mut peers, kind, n)?);
         }
     }
     repairs::table(&settings, &mut random)?;
@@ -193,7 +182,8 @@ fn run() -> Result<(), String> {
 
 fn main() -> ExitCode {
     std::hint::black_box(bench_shift as *const ());
-    match run() {
+    let done = if std::env::args().nth(1).as_deref() == Some("picture") { picture::draw() } else { run() };
+    match done {
         Ok(()) => ExitCode::SUCCESS,
         Err(failure) => {
             println!("bench: FAILED: {failure}");

@@ -5,7 +5,7 @@ use std::time::{Duration, Instant};
 use bristlefrost::Sheet;
 use differential::nights::Random;
 
-use crate::{costs, median, Kind, Matrix, Settings, KINDS};
+use crate::{median, Kind, Matrix, Settings, KINDS};
 
 const SIDE: usize = 64;
 
@@ -36,7 +36,7 @@ fn microseconds(time: Duration) -> f64 {
 fn line(settings: &Settings, random: &mut Random, kind: &Kind) -> Result<String, String> {
     let (mut readings, mut solvers, mut sheets) = (Vec::new(), Vec::new(), Vec::new());
     for _ in 0..settings.matrices {
-        let mut matrix = Matrix::new(SIDE, costs(kind, random, SIDE));
+        let mut matrix = Matrix::new(SIDE, (kind.costs)(random, SIDE));
         let sheet = Sheet::new(SIDE, &matrix.costs).map_err(|unfit| unfit.to_string())?.bytes();
         let mut slip = vec![0; bristlefrost::slip_length(SIDE)];
         for _ in 0..MORE * settings.rounds {
@@ -49,7 +49,7 @@ fn line(settings: &Settings, random: &mut Random, kind: &Kind) -> Result<String,
     }
     let [reading, solver, sheet] = [readings, solvers, sheets].map(|times| microseconds(median(times)));
     let ratio = sheet / (solver + reading);
-    Ok(format!("| {} | {solver:.1} | {reading:.1} | {sheet:.1} | {ratio:.2} |", kind.0))
+    Ok(format!("| {} | {solver:.1} | {reading:.1} | {sheet:.1} | {ratio:.2} |", kind.name))
 }
 
 /// The sheets' table.
