@@ -92,7 +92,9 @@ impl Times {
             if least != checked? {
                 return Err(String::from("the checker's total is another one"));
             }
-            let same = |(columns, _): oracle::Pairing| columns.iter().zip(&matrix.columns).all(|(&a, &b)| a == b as usize);
+            let same = |(columns, _): oracle::Pairing| {
+                columns.iter().zip(&matrix.columns).all(|(&a, &b)| a == b as usize)
+            };
             if !pairing.is_none_or(same) {
                 return Err(String::from("the crate and the archive pair differently"));
             }
@@ -142,7 +144,13 @@ fn sized(settings: &Settings, n: usize) -> (u64, u64) {
 }
 
 /// Times one kind at one side and answers the table's line.
-fn line(settings: &Settings, random: &mut Random, peers: &mut [Option<Peer>; 2], kind: &Kind, n: usize) -> Result<String, String> {
+fn line(
+    settings: &Settings,
+    random: &mut Random,
+    peers: &mut [Option<Peer>; 2],
+    kind: &Kind,
+    n: usize,
+) -> Result<String, String> {
     let (matrices, rounds) = sized(settings, n);
     let mut times = Times::default();
     for _ in 0..matrices {
@@ -168,7 +176,9 @@ fn run() -> Result<(), String> {
         "Seed {}, {} matrices of each, {} rounds each; milliseconds, medians; lists are lent uncleared.\n",
         settings.seed, settings.matrices, settings.rounds
     );
-    println!("| costs | side | crate, f64 | archive | / crate | scipy | / crate | dlib | / crate | checker | / crate |");
+    println!(
+        "| costs | side | crate, f64 | archive | / crate | scipy | / crate | dlib | / crate | checker | / crate |"
+    );
     println!("|---|---|---|---|---|---|---|---|---|---|---|");
     let mut random = Random::new(settings.seed);
     for n in SIDES.into_iter().filter(|&n| n as u64 <= settings.largest) {

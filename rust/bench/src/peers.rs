@@ -34,9 +34,9 @@ impl Peer {
     /// scipy, by the python3 of the PATH or the system's own.
     pub fn scipy() -> Option<Self> {
         let script = concat!(env!("CARGO_MANIFEST_DIR"), "/peers/scipy_peer.py");
-        ["python3", "/usr/bin/python3"].into_iter().find_map(|python| {
-            Peer::start(Command::new(python).arg(script), usize::MAX)
-        })
+        ["python3", "/usr/bin/python3"]
+            .into_iter()
+            .find_map(|python| Peer::start(Command::new(python).arg(script), usize::MAX))
     }
 
     /// dlib, compiled here, to side 1,024: past that it takes minutes.

@@ -43,7 +43,11 @@ fn axes(panel: usize, name: &str, range: (i32, i32)) -> String {
         let (height, time) = (y(10f64.powi(power), range), 10f64.powi(power));
         svg += &format!("<path d=\"M{left} {height:.1}H{right}\" stroke=\"#ddd\"/>\n");
         if panel == 0 {
-            svg += &format!("<text x=\"{}\" y=\"{:.1}\" text-anchor=\"end\">{time}</text>\n", left - 6.0, height + 4.0);
+            svg += &format!(
+                "<text x=\"{}\" y=\"{:.1}\" text-anchor=\"end\">{time}</text>\n",
+                left - 6.0,
+                height + 4.0
+            );
         }
     }
     for side in [64, 256, 1024, 4096] {
@@ -79,7 +83,8 @@ fn legend(height: f64) -> String {
 pub fn draw() -> Result<(), String> {
     let mut table = String::new();
     std::io::stdin().read_to_string(&mut table).map_err(|failure| failure.to_string())?;
-    let all = PANELS.iter().flat_map(|kind| SOLVERS.iter().flat_map(|&(_, column, _)| points(&table, kind, column)));
+    let all =
+        PANELS.iter().flat_map(|kind| SOLVERS.iter().flat_map(|&(_, column, _)| points(&table, kind, column)));
     let times: Vec<f64> = all.map(|(_, time)| time.log10()).collect();
     let (least, most) = times.iter().fold((f64::MAX, f64::MIN), |(a, b), &time| (a.min(time), b.max(time)));
     if times.is_empty() {

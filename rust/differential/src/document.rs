@@ -29,7 +29,14 @@ pub const NIGHTS: [Night; 9] = [
         total: -2 * K,
         counts: [0; 6],
     },
-    Night { costs: &[1, 2, 1, 5], columns: &[1, 0], v: &[-2, 2], u: &[0, 3], total: 3, counts: [1, 1, 0, 0, 0, 0] },
+    Night {
+        costs: &[1, 2, 1, 5],
+        columns: &[1, 0],
+        v: &[-2, 2],
+        u: &[0, 3],
+        total: 3,
+        counts: [1, 1, 0, 0, 0, 0],
+    },
     Night {
         costs: &[3, 1, 0, 0, 0, 2, 9, 9, 0],
         columns: &[1, 0, 2],

@@ -164,7 +164,10 @@ fn run() -> Result<(), String> {
     println!("{} small nights in full: {sides}", every(&mut compared, &settings)?);
     println!("{} random nights of sides to 64, seed {seed}: {sides}", random(&mut compared, &settings)?);
     println!("{} random nights of sides 100 to 1024, seed {seed}: {sides}", large(&mut compared, &settings)?);
-    println!("{} random nights of side {LARGEST_SIDE}, seed {seed}: {sides}", at_the_limit(&mut compared, &settings)?);
+    println!(
+        "{} random nights of side {LARGEST_SIDE}, seed {seed}: {sides}",
+        at_the_limit(&mut compared, &settings)?
+    );
     damaged(&mut compared, &settings)?;
     let (count, large) = (settings.count / 8, settings.large.div_ceil(5));
     for line in surcharges::run(&mut compared, seed, count, large)? {
