@@ -30,9 +30,12 @@ done
     keep look-alikes.sheet
 
 # A trailer is the distance (4 bytes), the side (2), the edition (2) and MTCH.
-{ head -c -6 one.sheet; printf '\002\000MTCH'; } | keep edition-2.sheet
+{ head -c -6 one.sheet; printf '\004\000MTCH'; } | keep edition-4.sheet
 { head -c 16900 /dev/zero; printf '\004\102\000\000\101\000\001\000MTCH'; } | keep side-65.sheet
 { head -c -12 one.sheet; printf '\005\000\000\000'; tail -c 8 one.sheet; } | keep distance-one-off.sheet
 tail -c 47 n8.sheet | keep cut-off.sheet
 { printf '# One guest\n'; tail -c 16 one.sheet; } | keep line-end.sheet
 { head -c -20 ends.sheet; printf '\001\312\232\073'; tail -c 16 ends.sheet; } | keep over-k.sheet
+# In edition 2 the costs stand before 8 bytes for each row.
+{ head -c -44 edition-2.sheet; printf '\101\102\017\000'; tail -c 40 edition-2.sheet; } | keep over-barred.sheet
+{ head -c -20 edition-2.sheet; printf '\004'; tail -c 19 edition-2.sheet; } | keep bars-past-side.sheet

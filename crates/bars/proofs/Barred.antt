@@ -10,6 +10,7 @@ use native.Mathlib.Omega.{arith}
 use lib.Count.{ones}
 use lib.Dec.{ltb}
 use lib.IntN.{ℤ, pos}
+use lib.ListN.{replicate, getD-replicate}
 use lib.Signed.{_<ℤ_}
 use borrow.Author.Tests.{leb-false, lt-leb}
 use Rattle.ints.specs.Parts.{Within}
@@ -17,9 +18,9 @@ use Rattle.ints.proofs.Shapes.{zlin}
 use Rattle.lists.specs.Runs.{first}
 use Rattle.lists.specs.Permutations.{at}
 use Rattle.lists.specs.Counts.{bitOf}
-use Rattle.lists.proofs.Runs.{upward-cong}
+use Rattle.lists.proofs.Runs.{upward-cong, first-none}
 use Rattle.lists.proofs.Sums.{sum-cong}
-use Rattle.lists.proofs.BitSets.{clear-iff}
+use Rattle.lists.proofs.BitSets.{clear-iff, bit-none}
 use Rattle.assignment.specs.Pairings.{Night, Pairing, total, Least, signedAt, square}
 use Rattle.assignment.specs.Prices.{Feasible, Tight, SparesNotBelow}
 use Rattle.assignment.proofs.Square.{square-spares}
@@ -36,6 +37,11 @@ unfolding first
 first-barred n costs bars cols =
     upward-cong 0 n _ _ 0
     (λ k found h l. ap (λ (t : Bool). cond (ltb found k) found (cond t k (suc k))) (Bool·not-not (bitOf (at bars k) (at cols k))))
+
+-- Where nothing is barred no pair is.
+pub no-pair-barred : (n : ℕ) (cols : List ℕ) → firstBarred n (replicate n 0) cols ≡ n
+no-pair-barred n cols =
+    first-none (λ i. bitOf (at (replicate n 0) i) (at cols i)) n (λ i l. rw (getD-replicate {A = ℕ} n i 0 0 l) (bit-none (at cols i)))
 
 -- "bits from n up must be clear", of the bits of a u64
 pub bits-above-iff : (n bits : ℕ) → bits < 2 ^ 64 → (bitsAbove n bits ≡ false) ↔ ((j : ℕ) → n ≤ j → bitOf bits j ≡ false)

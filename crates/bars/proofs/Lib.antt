@@ -6,3 +6,4 @@ pub mod FilledCosts
 pub mod Masks
 pub mod Barred
 pub mod Longer
+pub mod Passed

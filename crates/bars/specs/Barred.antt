@@ -1,4 +1,4 @@
--- A square night with bars: its costs in row order, and for each row a number whose bits are the columns barred to it.
+-- Nights with bars: costs in row order, and for each row a number whose bits are the columns barred to it.
 use mathlib.Core.Bool.{Bool, not, cond}
 use mathlib.Core.List.{List}
 use Prim.Native.Nat.{ℕ, _+_, _*_, _/_, _%_, _^_}
@@ -9,14 +9,19 @@ use Rattle.lists.specs.Permutations.{at, table}
 use Rattle.lists.specs.Counts.{bitOf}
 use Rattle.assignment.specs.Pairings.{Night, signedAt}
 
--- "bit j set where column j is barred"
-abbrev pub barred : ℕ → List ℤ → List ℕ → Night
-barred n costs bars = record {
-  rowCount = n;
+-- A night of m rows and n columns: its costs in row order, and for each row a number whose bits are the columns barred to it. A row past the end of
+-- `bars` has none barred: the list without an entry bars nothing.
+abbrev pub nightOf : ℕ → ℕ → List ℤ → List ℕ → Night
+nightOf m n costs bars = record {
+  rowCount = m;
   columnCount = n;
   cost = λ i j. signedAt costs (i * n + j);
   allowed = λ i j. not (bitOf (at bars i) j);
 }
+
+-- "bit j set where column j is barred", of a square night.
+abbrev pub barred : ℕ → List ℤ → List ℕ → Night
+barred n = nightOf n n
 
 -- The first row that is paired at a barred place; n where none is.
 abbrev pub firstBarred : ℕ → List ℕ → List ℕ → ℕ

@@ -1,4 +1,5 @@
 pub mod Blocked
 pub mod Barred
 pub mod Masks
+pub mod Tests
 pub mod Asked

@@ -12,6 +12,17 @@ use crate::bits::has;
 
 pub mod bits;
 pub mod reached;
+pub mod tests;
+
+// The bits of row i: 0 where the list has no entry for it.
+pub fn bits_at(bars: &[u64], i: usize) -> u64
+    ensures { λ r. ⌜ r ≡ at (now (bars .entry)) i ⌝ }
+{
+    if i < bars.len() {
+        return bars[i];
+    }
+    0
+}
 
 // The first row that has a bit from n up, or n where there is none.
 pub fn first_bits_above(n: usize, bars: &[u64]) -> usize
@@ -49,6 +60,9 @@ fn fill_row(row: &mut [i32], bits: u64, dear: i32)
     requires { ⌜ length (now row) ≤ 64 ⌝ }
     ensures { λ r. ⌜ now (row .exit) ≡ table (length (now (row .entry))) (filledIn bits dear (now (row .entry))) ⌝ }
 {
+    if bits == 0 {
+        return;
+    }
     let mut j = 0;
     while j < row.len() {
         if has(bits, j) {

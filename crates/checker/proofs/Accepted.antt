@@ -10,10 +10,10 @@ use Rattle.assignment.specs.Pairings.{square, total}
 use Rattle.matrix.specs.Verdicts.{Passes}
 use Rattle.matrix.specs.declared.Answer.the-variants.{Total}
 use Rattle.matrix.proofs.Verdicts.{then-iff, totalled-iff}
-use Rattle.matrix.proofs.Passed.{shaped-iff, costs-within, columns-inside, prices-within}
+use Rattle.matrix.proofs.Passed.{shaped-iff, costs-within, columns-inside}
 use Rattle.checker.specs.Check.{checks, check}
 use Rattle.checker.specs.Proven.{Proven}
-use Rattle.checker.proofs.Tests.{rows-named, under-costs, tight-on}
+use Rattle.checker.proofs.Tests.{rows-named, price-tests-iff}
 
 module _ (n : ℕ) (costs : List ℤ) (cols rows : List ℕ) (us vs : List ℤ) where
   pub checks-iff : Passes (checks n costs cols rows us vs) ↔ Proven n costs cols rows us vs
@@ -24,18 +24,16 @@ module _ (n : ℕ) (costs : List ℤ) (cols rows : List ℕ) (us vs : List ℤ) 
         let p = then-iff _ _ .0 (t .1) in
         let t7 = then-iff _ _ .0 (p .0) in
         let t6 = then-iff _ _ .0 (t7 .0) in
-        let t10 = then-iff _ _ .0 (p .1) in
-        let t9 = then-iff _ _ .0 (t10 .0) in
         let shape = shaped-iff n costs (length cols) (length rows) (length us) (length vs) .0 (t .0) in
-        let within = prices-within n n us vs .0 (t9 .0) in
+        let prices = price-tests-iff (square n costs) cols us vs (shape .long .third-long) (shape .long .fourth-long) .0 (p .1) in
         record {
           sizes = record { small = shape .small; squared = shape .squared; columns-listed = shape .long .first-long; rows-listed = shape .long .second-long };
           within = costs-within costs .0 (t6 .0);
           named = record { inside = columns-inside n n cols .0 (t6 .1); back = rows-named n cols rows .0 (t7 .1) };
-          row-prices = record { enough = shape .long .third-long; within = within .0 };
-          column-prices = record { enough = shape .long .fourth-long; within = within .1 };
-          feasible = under-costs (square n costs) us vs .0 (t9 .1);
-          tight = tight-on (square n costs) us vs cols .0 (t10 .1);
+          row-prices = prices .0 .row-prices;
+          column-prices = prices .0 .column-prices;
+          feasible = prices .0 .feasible;
+          tight = prices .1;
         },
     λ f.
         let shape = shaped-iff n costs (length cols) (length rows) (length us) (length vs) .1 (record {
@@ -45,8 +43,9 @@ module _ (n : ℕ) (costs : List ℤ) (cols rows : List ℕ) (us vs : List ℤ) 
         }) in
         let t6 = then-iff _ _ .1 (costs-within costs .1 (f .within), columns-inside n n cols .1 (f .named .inside)) in
         let t7 = then-iff _ _ .1 (t6, rows-named n cols rows .1 (f .named .back)) in
-        let t9 = then-iff _ _ .1 (prices-within n n us vs .1 (f .row-prices .within, f .column-prices .within), under-costs (square n costs) us vs .1 (f .feasible)) in
-        then-iff _ _ .1 (shape, then-iff _ _ .1 (t7, then-iff _ _ .1 (t9, tight-on (square n costs) us vs cols .1 (f .tight)))),
+        let prices = price-tests-iff (square n costs) cols us vs (f .row-prices .enough) (f .column-prices .enough) .1
+        (record { row-prices = f .row-prices; column-prices = f .column-prices; feasible = f .feasible }, f .tight) in
+        then-iff _ _ .1 (shape, then-iff _ _ .1 (t7, prices)),
   )
 
   -- The checker accepts, with the total, exactly if all is fair.

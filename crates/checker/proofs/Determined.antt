@@ -1,4 +1,4 @@
--- The checker's promise determines its answer: two answers that meet it are equal. Nothing is lent to be written. Assumes nothing.
+-- The checker's promises determine its answers: two answers that meet one are equal. Nothing is lent to be written. Assumes nothing.
 use mathlib.Core.Path.{_≡_, sym, _∙_}
 use mathlib.Core.List.{List}
 use Prim.Native.Nat.{ℕ}
@@ -6,8 +6,12 @@ use lib.IntN.{ℤ}
 use Rattle.matrix.specs.Answers.{valuesOf}
 use Rattle.matrix.specs.declared.Answer.{Answer}
 use Rattle.matrix.proofs.Determined.{values-determine}
-use Rattle.checker.specs.Check.{check}
+use Rattle.checker.specs.Check.{check, checkBarred}
 
 pub check-determined : (n : ℕ) (costs : List ℤ) (cols rows : List ℕ) (us vs : List ℤ) (answer other : Answer)
     → valuesOf answer ≡ valuesOf (check n costs cols rows us vs) → valuesOf other ≡ valuesOf (check n costs cols rows us vs) → answer ≡ other
 check-determined n costs cols rows us vs answer other e f = values-determine answer other (e ∙ sym f)
+
+pub check-barred-determined : (n : ℕ) (costs : List ℤ) (cols rows : List ℕ) (us vs : List ℤ) (bars : List ℕ) (answer other : Answer)
+    → valuesOf answer ≡ valuesOf (checkBarred n costs cols rows us vs bars) → valuesOf other ≡ valuesOf (checkBarred n costs cols rows us vs bars) → answer ≡ other
+check-barred-determined n costs cols rows us vs bars answer other e f = values-determine answer other (e ∙ sym f)

@@ -6,6 +6,7 @@ pub mod Slacks
 pub mod Accepted
 pub mod Shown
 pub mod Least
+pub mod Barred
 pub mod Determined
 pub mod Codes
 pub mod Nights

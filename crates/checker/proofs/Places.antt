@@ -1,9 +1,9 @@
 -- The prices of one place: their sum does not wrap; and what the tests of that place read. Assumes nothing.
 use mathlib.Core.Path.{_≡_, refl, sym, ap, ap₂, _∙_}
-use mathlib.Core.Bool.{Bool, true, false, not, _||_, or-true, true≢false}
+use mathlib.Core.Bool.{Bool, true, false, not, _&&_, _||_, or-true, true≢false}
 use mathlib.Core.Logic.{⊎-elim}
 use mathlib.Core.List.{List}
-use Prim.Native.Nat.{ℕ, _*_, _<_}
+use Prim.Native.Nat.{ℕ, _+_, _*_, _≤_}
 use borrow.Author.Tests.{eqb-true, eqb-false}
 use lib.Dec.{eqb}
 use lib.IntN.{ℤ, pos, _+ℤ_, _-ℤ_}
@@ -19,11 +19,15 @@ use Rattle.ints.proofs.Tests.{lt-ltZ, le-ltZ, le-or-lt}
 use Rattle.ints.proofs.Bits.{bits-injective}
 use Rattle.lists.specs.Runs.{first}
 use Rattle.lists.specs.Parts.{part}
-use Rattle.assignment.specs.Pairings.{signedAt, square}
+use Rattle.lists.specs.Permutations.{at}
+use Rattle.lists.specs.Counts.{bitOf}
+use Rattle.lists.proofs.BitSets.{bit-none}
+use Rattle.assignment.specs.Pairings.{signedAt}
 use Rattle.matrix.specs.Limits.{K}
 use Rattle.matrix.proofs.SmallLimits.{K-small}
 use Rattle.matrix.proofs.First.{first-cong}
-use Rattle.matrix.proofs.RowParts.{row-length, row-at}
+use Rattle.matrix.proofs.RowParts.{row-of-length, row-at}
+use Rattle.bars.specs.Barred.{nightOf}
 use Rattle.checker.specs.Tests.{over, differ}
 
 module _ (row column : ℤ) (f : SFits w64 row) (g : SFits w64 column) (near : Within (10 * K) row) (close : Within (10 * K) column) where
@@ -74,9 +78,21 @@ differ-bits {w} a b f g = by (eqb (ofZ w a) (ofZ w b)) refl
 abbrev pub overAt : List ℤ → ℤ → List ℤ → ℕ → Bool
 overAt row u vs j = ltZ (signedAt row j -ℤ (u +ℤ signedAt vs j)) (pos 0)
 
+-- The same, where the bits of the row do not bar the column.
+abbrev pub overBits : List ℤ → ℤ → List ℤ → ℕ → ℕ → Bool
+overBits row u vs bits j = not (bitOf bits j) && overAt row u vs j
+
+-- A row without bars.
+pub none-barred-first : (row : List ℤ) (u : ℤ) (vs : List ℤ) (bits : ℕ) → bits ≡ 0 → first (length row) (overAt row u vs) ≡ first (length row) (overBits row u vs bits)
+none-barred-first row u vs bits e =
+    first-cong (length row) (overAt row u vs) (overBits row u vs bits)
+    (λ j k. ap (λ (t : Bool). not t && overAt row u vs j) (sym (bit-none j)) ∙ ap (λ (b : ℕ). overBits row u vs b j) (sym e))
+
 -- What is looked for in the part that holds row i is what is looked for in row i of the night.
-pub row-first : (n : ℕ) (costs us vs : List ℤ) (i : ℕ) → i < n → length costs ≡ n * n → (row : List ℤ) → row ≡ part (i * n) n costs → (u : ℤ) → u ≡ signedAt us i
-    → first (length row) (overAt row u vs) ≡ first n (over (square n costs) us vs i)
-row-first n costs us vs i l e row same u at =
-    ap (λ (m : ℕ). first m (overAt row u vs)) (ap length same ∙ row-length n costs i l e)
-    ∙ first-cong n (overAt row u vs) (over (square n costs) us vs i) (λ j k. ap (λ (z : ℤ). ltZ z (pos 0)) (ap₂ _-ℤ_ (ap (λ (p : List ℤ). signedAt p j) same ∙ row-at n costs i j k) (ap (λ (z : ℤ). z +ℤ signedAt vs j) at)))
+pub row-first : (m n : ℕ) (costs us vs : List ℤ) (bars : List ℕ) (i : ℕ) → i * n + n ≤ length costs → (row : List ℤ) → row ≡ part (i * n) n costs → (u : ℤ) → u ≡ signedAt us i
+    → (bits : ℕ) → bits ≡ at bars i → first (length row) (overBits row u vs bits) ≡ first n (over (nightOf m n costs bars) us vs i)
+row-first m n costs us vs bars i h row same u price bits e =
+    ap (λ (k : ℕ). first k (overBits row u vs bits)) (ap length same ∙ row-of-length n costs i h)
+    ∙ first-cong n (overBits row u vs bits) (over (nightOf m n costs bars) us vs i)
+    (λ j k. ap₂ (λ (b : ℕ) (z : ℤ). not (bitOf b j) && ltZ z (pos 0)) e
+    (ap₂ _-ℤ_ (ap (λ (p : List ℤ). signedAt p j) same ∙ row-at n costs i j k) (ap (λ (z : ℤ). z +ℤ signedAt vs j) price)))

@@ -13,7 +13,7 @@ use lib.ListN.{length}
 use lib.Signed.{ltZ, _<ℤ_, _≤ℤ_}
 use Rattle.ints.specs.Parts.{Within}
 use Rattle.ints.proofs.Sums.{sum, dif}
-use Rattle.ints.proofs.Ranges.{zarith}
+use Rattle.ints.proofs.Ranges.{zarith, within-mono}
 use Rattle.ints.proofs.Tests.{le-or-lt}
 use Rattle.lists.specs.Permutations.{at}
 use Rattle.lists.proofs.Runs.{first-holds}
@@ -28,16 +28,23 @@ use Rattle.matrix.specs.declared.Answer.the-variants.{Refused}
 use Rattle.matrix.proofs.Places.{place-below}
 use Rattle.matrix.proofs.Verdicts.{then-iff, Every, then-every, failsBy-every, failsAtBy-every, refused-every}
 use Rattle.matrix.proofs.Passed.{shaped-iff, costs-within, columns-inside, prices-within}
+use Rattle.bars.specs.Barred.{barred}
+use Rattle.bars.proofs.Passed.{barredMost-small, costs-small, unbarred-iff}
 use Rattle.checker.specs.Tests.{slack, over, overFirst, overIn, refusedOver, underCosts, differ, loose, refusedLoose, tightOn}
-use Rattle.checker.specs.Check.{priceTests, checks, check}
+use Rattle.checker.specs.Check.{priceTests, checks, check, checksBarred, checkBarred}
 use Rattle.checker.specs.Slacks.{SlackRight}
 use Rattle.checker.proofs.Places.{differ-same}
 use Rattle.checker.proofs.Tests.{under-costs}
+use Rattle.checker.proofs.Barred.{shaped-barred-iff}
 
 -- A refusal that is neither 9 nor 10.
 pub neither-right : (number place : ℕ) → ¬ (number ≡ PricesOverCost) → ¬ (number ≡ PricesNotCost) → SlackRight (record { number = number; place = place; slack = pos 0 })
 neither-right number place nine ten =
     record { nine-negative = λ e. absurd (nine e); ten-positive = λ e. absurd (ten e); others-none = λ e f. refl; within = omega zarith }
+
+pub neither-at : (number : ℕ) (place : ℕ → ℕ) (n : ℕ) (test : ℕ → Bool) → 10 < number → Every SlackRight (failsAt number place n test)
+neither-at number place n test l =
+    failsAtBy-every SlackRight number place (λ k. pos 0) n test (λ k h e clear. neither-right number (place k) (λ s. omega arith) (λ s. omega arith))
 
 none-right : (number place : ℕ) → number < 9 → SlackRight (record { number = number; place = place; slack = pos 0 })
 none-right number place l = neither-right number place (λ e. omega arith) (λ e. omega arith)
@@ -129,4 +136,27 @@ check-slacks n costs cols rows us vs e =
     (λ i j l m. costs-within costs .0 (t6 .0) _ (omega (arith, place-below n i j l m, s .squared)))
     cols
     (λ i l. (columns-inside n n cols .0 (t6 .1) i l, refl)))))
+    e
+
+-- So does one of a night with bars.
+pub check-barred-slacks : (n : ℕ) (costs : List ℤ) (cols rows : List ℕ) (us vs : List ℤ) (bars : List ℕ) {refusal : Refusal}
+    → checkBarred n costs cols rows us vs bars ≡ Refused refusal → SlackRight refusal
+unfolding checkBarred checksBarred
+check-barred-slacks n costs cols rows us vs bars e =
+    refused-every SlackRight _ _
+    (then-every SlackRight _ _
+    (then-every SlackRight _ _
+    (then-every SlackRight _ _ (then-every SlackRight _ _ (then-every SlackRight _ _ (none-if _ _ _ (lit< tt)) (λ a. none-if _ _ _ (lit< tt))) (λ a. none-at _ _ _ _ (lit< tt))) (λ a. none-if _ _ _ (lit< tt)))
+    (λ a. then-every SlackRight _ _
+    (then-every SlackRight _ _ (then-every SlackRight _ _ (then-every SlackRight _ _ (none-at _ _ _ _ (lit< tt)) (λ b. neither-at _ _ _ _ (lit< tt))) (λ b. none-at _ _ _ _ (lit< tt))) (λ b. none-at _ _ _ _ (lit< tt)))
+    (λ b. neither-at _ _ _ _ (lit< tt))))
+    (λ passed.
+    let t = then-iff _ _ .0 passed in
+    let t26 = then-iff _ _ .0 (t .1) in
+    let t6 = then-iff _ _ .0 (then-iff _ _ .0 (t26 .0) .0) in
+    let s = shaped-barred-iff n costs (length cols) (length rows) (length us) (length vs) (length bars) .0 (t .0) in
+    prices-slacks (barred n costs bars) us vs
+    (λ i j l m. within-mono barredMost-small (costs-small costs .0 (then-iff _ _ .0 (t6 .0) .0) _ (omega (arith, place-below n i j l m, s .1))))
+    cols
+    (λ i l. (columns-inside n n cols .0 (t6 .1) i l, unbarred-iff n costs bars cols .0 (t26 .1) i l))))
     e

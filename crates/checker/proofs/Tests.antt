@@ -3,11 +3,12 @@ use mathlib.Core.Path.{_≡_, refl, sym, ap}
 use mathlib.Core.Bool.{Bool, true, false, not, _&&_, true≢false}
 use mathlib.Core.Logic.{_↔_}
 use mathlib.Core.List.{List}
-use Prim.Native.Nat.{ℕ, _<_}
+use Prim.Native.Nat.{ℕ, _≤_, _<_}
 use native.Mathlib.Omega.{arith}
 use borrow.Author.Tests.{ltb-false, le-ltb, eqb-true, eq-eqb, not-false}
 use lib.Dec.{ltb}
 use lib.IntN.{ℤ, pos, _-ℤ_}
+use lib.ListN.{length}
 use lib.Signed.{ltZ, _≤ℤ_}
 use Rattle.ints.proofs.Sums.{dif}
 use Rattle.ints.proofs.Ranges.{zarith}
@@ -18,9 +19,11 @@ use Rattle.assignment.specs.Pairings.{Night}
 use Rattle.assignment.specs.Prices.{priced, Feasible, Tight}
 use Rattle.matrix.specs.Verdicts.{Passes}
 use Rattle.matrix.proofs.First.{Clear, nowhere, ended}
-use Rattle.matrix.proofs.Verdicts.{failsAtBy-iff, failsAt-iff}
+use Rattle.matrix.proofs.Verdicts.{then-iff, failsAtBy-iff, failsAt-iff}
+use Rattle.matrix.proofs.Passed.{prices-within}
 use Rattle.checker.specs.Tests.{rowsNamed, slack, over, overIn, underCosts, underCostsBut, loose, tightOn, tightOnBut}
-use Rattle.checker.specs.Proven.{FeasibleBut, TightBut}
+use Rattle.checker.specs.Check.{priceTests}
+use Rattle.checker.specs.Proven.{Fair, FeasibleBut, TightBut}
 use Rattle.checker.proofs.Places.{differ-false, differ-same}
 use Rattle.checker.proofs.But.{but-clear}
 
@@ -93,3 +96,24 @@ module _ (night : Night) (us vs : List ℤ) where
         let t = failsAtBy-iff _ _ _ _ _ in
         let b = but-clear s (loose night cols us vs) (night .rowCount) in
         (λ e. record { met = λ i l d. row-met cols i .0 (b .0 (t .0 e) i l d) }, λ h. t .1 (b .1 (λ i l d. row-met cols i .1 (h .met i l d))))
+
+-- 8, 9 and 10 are passed exactly by fair prices that are tight on the pairing.
+pub price-tests-iff : (night : Night) (cols : List ℕ) (us vs : List ℤ) → night .rowCount ≤ length us → night .columnCount ≤ length vs
+    → Passes (priceTests night cols us vs) ↔ (Fair night us vs × Tight night us vs cols)
+price-tests-iff night cols us vs rows columns = (
+  λ e.
+      let t10 = then-iff _ _ .0 e in
+      let t9 = then-iff _ _ .0 (t10 .0) in
+      let w = prices-within (night .rowCount) (night .columnCount) us vs .0 (t9 .0) in (
+        record {
+          row-prices = record { enough = rows; within = w .0 };
+          column-prices = record { enough = columns; within = w .1 };
+          feasible = under-costs night us vs .0 (t9 .1);
+        },
+        tight-on night us vs cols .0 (t10 .1),
+      ),
+  λ h.
+      let f = h .0 in
+      let t9 = then-iff _ _ .1 (prices-within (night .rowCount) (night .columnCount) us vs .1 (f .row-prices .within, f .column-prices .within), under-costs night us vs .1 (f .feasible)) in
+      then-iff _ _ .1 (t9, tight-on night us vs cols .1 (h .1)),
+)

@@ -4,11 +4,14 @@ use Prim.Native.Nat.{ℕ}
 use lib.IntN.{ℤ}
 use lib.ListN.{length}
 use Rattle.assignment.specs.Pairings.{Night, square, total}
+use Rattle.matrix.specs.Limits.{sheetSide}
 use Rattle.matrix.specs.Verdicts.{_then_}
-use Rattle.matrix.specs.Tests.{shaped, costsWithin, columnsInside, pricesWithin}
+use Rattle.matrix.specs.Tests.{sideWithin, costsFill, listsLong, listLong, shaped, costsWithin, columnsInside, pricesWithin}
 use Rattle.matrix.specs.Answers.{totalled}
 use Rattle.matrix.specs.declared.Verdict.{Verdict}
 use Rattle.matrix.specs.declared.Answer.{Answer}
+use Rattle.bars.specs.Barred.{barred}
+use Rattle.bars.specs.Tests.{costsSmall, barsClear, unbarred}
 use Rattle.checker.specs.Tests.{rowsNamed, underCosts, tightOn}
 
 -- 8, 9, 10: the prices, of any night.
@@ -35,3 +38,32 @@ checks n costs cols rows us vs =
 -- "it accepts with the total".
 unfoldable pub check : ℕ → List ℤ → List ℕ → List ℕ → List ℤ → List ℤ → Answer
 check n costs cols rows us vs = totalled (checks n costs cols rows us vs) (total (square n costs) cols)
+
+-- ---- with bars: "The checker then takes n 64-bit bars (list 5), sides to 64"
+
+-- 1, 2, 3, given the lengths of the lists.
+abbrev pub shapedBarred : ℕ → List ℤ → List ℕ → ℕ → Verdict
+shapedBarred n costs lengths bars =
+    sideWithin sheetSide n
+    then costsFill n n costs
+    then listsLong n lengths
+    then listLong 5 n bars
+
+-- 5, 22, 6, 7, 26: the costs, the bars and the pairing. It "tests 5 and 22 as above", where costs lie within 1,000,000.
+abbrev pub pairedBarred : ℕ → List ℤ → List ℕ → List ℕ → List ℕ → Verdict
+pairedBarred n costs cols rows bars =
+    costsSmall costs
+    then barsClear n bars
+    then columnsInside n n cols
+    then rowsNamed n cols rows
+    then unbarred n bars cols
+
+-- 1, 2, 3, 5, 22, 6, 7, 26, 8, 9, 10: it "skips 9 on barred places".
+unfoldable pub checksBarred : ℕ → List ℤ → List ℕ → List ℕ → List ℤ → List ℤ → List ℕ → Verdict
+checksBarred n costs cols rows us vs bars =
+    shapedBarred n costs (length cols ∷ length rows ∷ length us ∷ length vs ∷ []) (length bars)
+    then pairedBarred n costs cols rows bars
+    then priceTests (barred n costs bars) cols us vs
+
+unfoldable pub checkBarred : ℕ → List ℤ → List ℕ → List ℕ → List ℤ → List ℤ → List ℕ → Answer
+checkBarred n costs cols rows us vs bars = totalled (checksBarred n costs cols rows us vs bars) (total (barred n costs bars) cols)

@@ -1,7 +1,7 @@
 -- What is right about an input that the checker accepts, in the words of `assignment`.
 use mathlib.Core.Path.{_≡_}
 use mathlib.Core.Logic.{_≢_}
-use mathlib.Core.Bool.{true}
+use mathlib.Core.Bool.{true, false}
 use mathlib.Core.List.{List}
 use Prim.Native.Nat.{ℕ, _*_, _≤_, _<_}
 use lib.IntN.{ℤ}
@@ -11,9 +11,11 @@ use Rattle.ints.specs.Parts.{Within}
 use Rattle.assignment.specs.Pairings.{Night, Pairing, square, Named, signedAt}
 use Rattle.lists.specs.Permutations.{at}
 use Rattle.assignment.specs.Prices.{priced, Feasible, Tight, SparesNotBelow}
-use Rattle.matrix.specs.Limits.{side, K}
+use Rattle.matrix.specs.Limits.{side, sheetSide, K}
 use Rattle.matrix.specs.declared.Answer.{Answer}
 use Rattle.matrix.specs.declared.Answer.the-variants.{Total}
+use Rattle.bars.specs.Tests.{barredMost}
+use Rattle.bars.specs.Barred.{barred, bitsAbove}
 
 -- An answer that accepts: with some total.
 abbrev pub Accepts : Answer → Type 0
@@ -30,13 +32,6 @@ pub record Sizes (n : ℕ) (costs : List ℤ) (cols rows : List ℕ) : Type 0 wh
 pub record Prices (n : ℕ) (prices : List ℤ) : Type 0 where
   pub enough : n ≤ length prices
   pub within : (i : ℕ) → i < n → Within (10 * K) (signedAt prices i)
-
--- A square of costs within the limit, with the prices of its rows and of its columns.
-pub record Priced (n : ℕ) (costs : List ℤ) (us vs : List ℤ) : Type 0 where
-  pub small : n ≤ side
-  pub squared : length costs ≡ n * n
-  pub row-prices : Prices n us
-  pub column-prices : Prices n vs
 
 -- Sizes, ranges, names, and prices that are fair: feasible, and tight on the pairing.
 pub record Proven (n : ℕ) (costs : List ℤ) (cols rows : List ℕ) (us vs : List ℤ) : Type 0 where
@@ -61,3 +56,21 @@ pub record Shown (night : Night) (cols : List ℕ) (us vs : List ℤ) : Type 0 w
   pub feasible : Feasible night us vs
   pub tight : Tight night us vs cols
   pub spares : SparesNotBelow night vs cols
+
+-- For any night: a price for each row and each column, each in -10K..10K, and feasible.
+pub record Fair (night : Night) (us vs : List ℤ) : Type 0 where
+  pub row-prices : Prices (night .rowCount) us
+  pub column-prices : Prices (night .columnCount) vs
+  pub feasible : Feasible night us vs
+
+-- A pairing of a night with bars, well-formed: sizes, ranges, names, and no barred pair.
+pub record BarredPaired (n : ℕ) (costs : List ℤ) (bars cols rows : List ℕ) : Type 0 where
+  pub small : n ≤ sheetSide
+  pub squared : length costs ≡ n * n
+  pub columns-listed : n ≤ length cols
+  pub rows-listed : n ≤ length rows
+  pub bars-listed : n ≤ length bars
+  pub within : (k : ℕ) → k < length costs → Within barredMost (signedAt costs k)
+  pub clear : (i : ℕ) → i < n → bitsAbove n (at bars i) ≡ false
+  pub named : Named (barred n costs bars) cols rows
+  pub permitted : (i : ℕ) → i < n → barred n costs bars .allowed i (at cols i) ≡ true

@@ -5,7 +5,7 @@ ghost use Rattle.matrix.specs.Answers.{valuesOf};
 ghost use Rattle.matrix.specs.Asked.{TellableIn};
 ghost use Rattle.score.specs.Score.{score};
 ghost use Rattle.score.specs.ScoreSheet.{Filled, scoreSheet};
-ghost use Rattle.checker.specs.Check.{check};
+ghost use Rattle.checker.specs.Check.{check, checkBarred};
 ghost use Rattle.lapjv.specs.Solve.{lentOf, solve};
 ghost use Rattle.lapjv.specs.Values.{solvedValues, toldOf};
 ghost use Rattle.lapjv.specs.Asked.{TellableSolved};
@@ -99,6 +99,22 @@ pub extern "C" fn bristlefrost_check(
     ensures { λ r. ⌜ r ≡ checked (valuesOf (check n (now (costs .entry)) (now (cols .entry)) (now (rows .entry)) (now («row_prices» .entry)) (now («col_prices» .entry)))) ⌝ }
 {
     told_checked(checker::check(n, costs, cols, rows, row_prices, col_prices))
+}
+
+// The checker with bars.
+#[no_mangle]
+pub extern "C" fn bristlefrost_check_barred(
+    n: usize,
+    costs: &[i32],
+    cols: &[u32],
+    rows: &[u32],
+    row_prices: &[i64],
+    col_prices: &[i64],
+    bars: &[u64],
+) -> Checked
+    ensures { λ r. ⌜ r ≡ checked (valuesOf (checkBarred n (now (costs .entry)) (now (cols .entry)) (now (rows .entry)) (now («row_prices» .entry)) (now («col_prices» .entry)) (now (bars .entry)))) ⌝ }
+{
+    told_checked(checker::check_barred(n, costs, cols, rows, row_prices, col_prices, bars))
 }
 
 // What a C caller gets of the solver's answer.

@@ -1,18 +1,18 @@
 -- The program's whole output, from a sheet's bytes. Every line ends with a line feed.
-use mathlib.Core.Bool.{Bool, false, cond}
+use mathlib.Core.Bool.{cond}
 use mathlib.Core.List.{List, [], _∷_, _++_}
 use Prim.Native.Nat.{ℕ, zero, suc, _+_, _*_}
-use lib.Dec.{eqb}
-use lib.IntN.{ℤ, pos, negsuc}
+use lib.Dec.{ltb}
+use lib.IntN.{ℤ, pos}
 use lib.ListN.{length, drop}
 use Rattle.lists.specs.Permutations.{at}
 use Rattle.layout.specs.Slips.{slipLength}
 use Rattle.assignment.specs.Pairings.{signedAt}
-use Rattle.matrix.specs.Limits.{sheetSide, K}
-use Rattle.matrix.specs.Refusals.{numberOf, placeOf}
+use Rattle.matrix.specs.Limits.{sheetSide}
+use Rattle.matrix.specs.Refusals.{numberOf, placeOf, NoPairing}
 use Rattle.matrix.specs.declared.Refusal.{Refusal}
-use Rattle.lapjv.specs.Answers.{answer}
-use Rattle.sheet.specs.Reading.{Read, refused, night, read}
+use Rattle.sheet.specs.Reading.{Laid, Read, refused, night, read}
+use Rattle.sheet.specs.Settle.{found, barredRow}
 use Rattle.lines.specs.Decimal.{decimal, signedDecimal}
 
 -- "accepted "
@@ -22,10 +22,6 @@ acceptedText = 97 ∷ 99 ∷ 99 ∷ 101 ∷ 112 ∷ 116 ∷ 101 ∷ 100 ∷ 32 �
 -- " total "
 abbrev pub totalText : List ℕ
 totalText = 32 ∷ 116 ∷ 111 ∷ 116 ∷ 97 ∷ 108 ∷ 32 ∷ []
-
--- " barred"
-abbrev pub barredText : List ℕ
-barredText = 32 ∷ 98 ∷ 97 ∷ 114 ∷ 114 ∷ 101 ∷ 100 ∷ []
 
 -- "refused "
 abbrev pub refusedText : List ℕ
@@ -43,22 +39,13 @@ feed = 10 ∷ []
 abbrev pub blank : List ℕ
 blank = 32 ∷ []
 
--- "A pair that must not be made is written as cost K."
-abbrev pub isBarred : ℤ → Bool
-isBarred (pos n) = eqb n K
-isBarred (negsuc n) = false
-
--- "A paired cost of K ends its line with " barred"."
-abbrev pub barredMark : ℤ → List ℕ
-barredMark cost = cond (isBarred cost) barredText []
-
 -- "`accepted`, side, `total` and total".
 unfoldable pub acceptedLine : ℕ → ℤ → List ℕ
 acceptedLine side total = acceptedText ++ (decimal side ++ (totalText ++ (signedDecimal total ++ feed)))
 
 -- "a line per row: row, column, cost".
 unfoldable pub rowLine : ℕ → ℕ → ℤ → List ℕ
-rowLine row column cost = decimal row ++ (blank ++ (decimal column ++ (blank ++ (signedDecimal cost ++ (barredMark cost ++ feed)))))
+rowLine row column cost = decimal row ++ (blank ++ (decimal column ++ (blank ++ (signedDecimal cost ++ feed))))
 
 -- The lines of the first k rows.
 unfoldable pub rowLines : ℕ → List ℤ → List ℕ → ℕ → List ℕ
@@ -69,10 +56,18 @@ rowLines n costs cols (suc k) = rowLines n costs cols k ++ rowLine k (at cols k)
 unfoldable pub refusedLine : Refusal → List ℕ
 refusedLine refusal = refusedText ++ (decimal (numberOf refusal) ++ (placeText ++ (decimal (placeOf refusal) ++ feed)))
 
+-- 20 is a refusal like any other.
+abbrev pub noPairing : Refusal
+noPairing = record { number = NoPairing; place = 0; slack = pos 0 }
+
+-- The lines of a paired night: the costs are those of the sheet.
+abbrev pub nightLines : Laid → List ℕ
+nightLines laid = acceptedLine (laid .side) (found laid .total) ++ rowLines (laid .side) (laid .costs) (found laid .cols) (laid .side)
+
 -- The lines of a sheet as it was read.
 abbrev pub linesAs : Read → List ℕ
 linesAs (refused refusal) = refusedLine refusal
-linesAs (night n costs) = acceptedLine n (answer n costs .total) ++ rowLines n costs (answer n costs .cols) n
+linesAs (night laid) = cond (ltb (barredRow laid) (laid .side)) (refusedLine noPairing) (nightLines laid)
 
 -- The lines of a sheet. The program's slip room is long enough for every side: 16 does not arise.
 unfoldable pub output : List ℕ → List ℕ

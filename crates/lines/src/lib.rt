@@ -5,7 +5,7 @@ ghost use Prim.Native.Nat.{_+_, _*_, _%_, _<_, _≤_};
 ghost use lib.ListN.{length, take};
 ghost use Rattle.lines.specs.Decimal.{decimal, signedDecimal};
 ghost use Rattle.lines.specs.Put.{Put};
-ghost use Rattle.lines.specs.Lines.{barredMark, acceptedLine, rowLine, rowLines, refusedLine, Printed, printed};
+ghost use Rattle.lines.specs.Lines.{acceptedLine, rowLine, rowLines, refusedLine, noPairing, Printed, printed};
 ghost use Rattle.lines.specs.Asked.{Rows};
 use matrix::Refusal;
 use sheet::Reply;
@@ -68,18 +68,6 @@ fn put_signed(out: &mut [u8], place: usize, z: i64) -> usize
     }
 }
 
-// The mark of a barred pair: " barred" after a cost of K, nothing after any other.
-fn put_barred(out: &mut [u8], place: usize, cost: i32) -> usize
-    requires { ⌜ place + 7 ≤ length (now out) ⌝ }
-    ensures { λ r. ⌜ Put (now (out .entry)) place (barredMark cost) (now (out .exit)) r ⌝ }
-{
-    if cost as i64 == matrix::limits::bound() {
-        put_text(out, place, b" barred")
-    } else {
-        place
-    }
-}
-
 // The line of a row.
 fn put_row(out: &mut [u8], place: usize, row: usize, column: u32, cost: i32) -> usize
     requires { ⌜ place + 80 ≤ length (now out) ⌝ }
@@ -90,8 +78,7 @@ fn put_row(out: &mut [u8], place: usize, row: usize, column: u32, cost: i32) -> 
     let after_column = put_decimal(out, after_blank, column as u64);
     let after_second = put_byte(out, after_column, b' ');
     let after_cost = put_signed(out, after_second, cost as i64);
-    let after_mark = put_barred(out, after_cost, cost);
-    put_byte(out, after_mark, b'\n')
+    put_byte(out, after_cost, b'\n')
 }
 
 // The lines of n rows.
@@ -163,6 +150,17 @@ fn put_night(out: &mut [u8], n: usize, total: i64, state: State) -> usize
     put_arrays(out, place, n, &costs, &cols)
 }
 
+// 20.
+fn no_pairing() -> Refusal
+    ensures { λ r. ⌜ r ≡ noPairing ⌝ }
+{
+    Refusal {
+        number: matrix::refusals::NO_PAIRING,
+        place: 0,
+        slack: 0,
+    }
+}
+
 // The program's whole output of a sheet, at the front of the room; how many bytes it is. The slip's room is taken as 18*64 + 20, so that 16 does not
 // arise.
 pub fn print(sheet: &[u8], out: &mut [u8; 8192]) -> usize
@@ -173,7 +171,8 @@ pub fn print(sheet: &[u8], out: &mut [u8; 8192]) -> usize
     let reply = settled.reply;
     match reply {
         Reply::Refused(refusal) => put_refused(room, refusal),
-        Reply::Accepted(n, total) => {
+        Reply::Blocked(_) => put_refused(room, no_pairing()),
+        Reply::Accepted(_, n, total) => {
             let state = settled.state;
             put_night(room, n, total, state)
         }

@@ -5,22 +5,32 @@ use Prim.Native.Nat.{ℕ, _*_, _^_, _≤_, _<_}
 use native.Mathlib.Nat.{mul-le-mul, le-of-lt, lt-of-le-of-lt}
 use native.Mathlib.Omega.{arith}
 use lib.Dec.{lit<}
+use borrow.Author.Tests.{lt-ltb}
 use lib.IntN.{ℤ}
 use lib.ListN.{length}
 use Rattle.matrix.specs.Limits.{side}
 use Rattle.matrix.specs.Cost.{costTests, cost}
 use Rattle.matrix.specs.Answers.{totalled}
 use Rattle.matrix.specs.Tests.{shaped, roomsLong}
-use Rattle.matrix.specs.Asked.{TellableIn}
+use Rattle.matrix.specs.Asked.{Tellable, TellableIn}
+use Rattle.matrix.specs.Refusals.{placeOf, codeOf, cappedCodeOf}
+use Rattle.matrix.specs.declared.Refusal.{Refusal}
 use Rattle.matrix.proofs.SmallLimits.{side-small}
 use Rattle.matrix.proofs.Verdicts.{then-iff, Small, then-small, failsIf-small, failsAt-small}
 use Rattle.matrix.proofs.Passed.{side-within, costs-fill, list-short}
 use Rattle.matrix.specs.declared.Verdict.{Verdict}
 use Rattle.matrix.specs.declared.Verdict.the-variants.{Passed, Fails}
 
--- A square of costs within the limit has at most 2^32 places.
+-- Costs within the limit have at most 2^32 places.
+pub filled-small : (m n k : ℕ) → m ≤ side → n ≤ side → k ≡ m * n → k ≤ 2 ^ 32
+filled-small m n k h l e = omega (arith, mul-le-mul (le-of-lt (lt-of-le-of-lt h side-small)) (le-of-lt (lt-of-le-of-lt l side-small)))
+
 pub square-small : (n m : ℕ) → n ≤ side → m ≡ n * n → m ≤ 2 ^ 32
-square-small n m h e = omega (arith, mul-le-mul (le-of-lt (lt-of-le-of-lt h side-small)) (le-of-lt (lt-of-le-of-lt h side-small)))
+square-small n m h e = filled-small n n m h h e
+
+-- A place that is far below 2^48 is told as it is.
+pub capped-same : (refusal : Refusal) → Tellable refusal → cappedCodeOf refusal ≡ codeOf refusal
+capped-same refusal h = rw (lt-ltb (placeOf refusal) (2 ^ 56) (omega (arith, h .1)))
 
 pub totalled-small : (verdict : Verdict) (total : ℤ) → Small verdict → TellableIn (totalled verdict total)
 unfolding totalled

@@ -14,7 +14,7 @@ use Rattle.matrix.specs.Limits.{side, K}
 use Rattle.matrix.specs.Refusals.{PriceOutside}
 use Rattle.matrix.specs.Tests.{short}
 use Rattle.matrix.specs.Verdicts.{Passes, _then_}
-use Rattle.matrix.specs.Tests.{sideWithin, costsFill, listsLong, shaped, listShort, roomsLong, costsIn, costsWithin, columnsInside, pricesIn, pricesWithin}
+use Rattle.matrix.specs.Tests.{sideWithin, costsFill, listsLong, listLong, shaped, listShort, roomsLong, costsIn, costsWithin, columnsInside, pricesIn, pricesWithin}
 use Rattle.matrix.proofs.Bounds.{outside-within}
 use Rattle.matrix.specs.Asked.{Long, Shaped}
 use Rattle.matrix.proofs.Lengths.{clear-long, long-clear}
@@ -32,6 +32,9 @@ pub lists-long : (n a b c d : ℕ) → Passes (listsLong n (a ∷ b ∷ c ∷ d 
 lists-long n a b c d =
     let t = failsAt-iff _ (λ k. k + 1) 4 (short n (a ∷ b ∷ c ∷ d ∷ [])) in
     (λ e. clear-long n a b c d (t .0 e), λ h. t .1 (long-clear n a b c d h))
+
+pub list-long : (number n length : ℕ) → Passes (listLong number n length) ↔ (n ≤ length)
+list-long number n length = let t = failsIf-iff _ _ _ in (λ e. ltb-false length n (t .0 e), λ h. t .1 (le-ltb length n h))
 
 pub shaped-iff : (n : ℕ) (costs : List ℤ) (a b c d : ℕ) → Passes (shaped n costs (a ∷ b ∷ c ∷ d ∷ [])) ↔ Shaped n costs a b c d
 shaped-iff n costs a b c d =

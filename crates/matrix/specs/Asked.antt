@@ -20,6 +20,11 @@ abbrev pub TellableIn : Answer → Type 0
 TellableIn (Total total) = Unit {0}
 TellableIn (Refused refusal) = Tellable refusal
 
+-- For each of m rows a column below n.
+pub record ColumnsListed (m n : ℕ) (cols : List ℕ) : Type 0 where
+  pub listed : m ≤ length cols
+  pub inside : (i : ℕ) → i < m → at cols i < n
+
 -- What `total` is asked with: a square of costs, and for each of m rows a column.
 pub record Listed (n : ℕ) (costs : List ℤ) (m : ℕ) (cols : List ℕ) : Type 0 where
   pub small : n ≤ side

@@ -1,5 +1,7 @@
 -- The scope's refusals: number and place of each, and the slack that it carries.
-use Prim.Native.Nat.{ℕ, _+_, _*_}
+use mathlib.Core.Bool.{cond}
+use Prim.Native.Nat.{ℕ, _+_, _-_, _*_, _^_}
+use lib.Dec.{ltb}
 use lib.IntN.{ℤ}
 use Rattle.matrix.specs.declared.Refusal.{Refusal}
 
@@ -93,6 +95,10 @@ NoteUnfit = 21
 abbrev pub BarsPastSide : ℕ
 BarsPastSide = 22
 
+-- "More rows than columns"
+abbrev pub RowsOver : ℕ
+RowsOver = 23
+
 -- "Prices outside 7K either side of zero": a repair could take them out of -10K..10K.
 abbrev pub PriceFar : ℕ
 PriceFar = 24
@@ -100,6 +106,10 @@ PriceFar = 24
 -- "a barred pair"
 abbrev pub BarredPair : ℕ
 BarredPair = 26
+
+-- "No spare column's price may be below a used one's"
+abbrev pub SpareBelow : ℕ
+SpareBelow = 27
 
 -- "any call after the end", but a reset
 abbrev pub SheetEnded : ℕ
@@ -120,3 +130,7 @@ slackOf refusal = refusal .slack
 -- "It gets 0, or number + 256*place": a refusal as one number.
 abbrev pub codeOf : Refusal → ℕ
 codeOf refusal = numberOf refusal + 256 * placeOf refusal
+
+-- The same whatever the place: one from 2^56 up, which would not fit, is told as 2^56 - 1.
+abbrev pub cappedCodeOf : Refusal → ℕ
+cappedCodeOf refusal = numberOf refusal + 256 * cond (ltb (placeOf refusal) (2 ^ 56)) (placeOf refusal) (2 ^ 56 - 1)

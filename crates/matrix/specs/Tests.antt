@@ -33,6 +33,10 @@ costsFill m n costs = failsIf CostsLength 0 (not (eqb (length costs) (m * n)))
 abbrev pub listsLong : ℕ → List ℕ → Verdict
 listsLong n lengths = failsAt ListLength (λ k. k + 1) 4 (short n lengths)
 
+-- 3, of the list with this number, which needs n entries.
+abbrev pub listLong : ℕ → ℕ → ℕ → Verdict
+listLong number n length = failsIf ListLength number (ltb length n)
+
 -- 1, 2, 3 of a square night and its four lists.
 abbrev pub shaped : ℕ → List ℤ → List ℕ → Verdict
 shaped n costs lengths = sideWithin side n then costsFill n n costs then listsLong n lengths

@@ -1,11 +1,13 @@
 // A night's costs: the limits, the refusals, the tests that several entries share, a row as a part, and the crate's `cost`.
 // What is promised is said in specs/.
 ghost use mathlib.Core.Path.{_≡_};
-ghost use Prim.Native.Nat.{_^_};
+ghost use Prim.Native.Nat.{_*_, _^_, _≤_};
 ghost use lib.IntN.{_+ℤ_};
+ghost use lib.ListN.{length};
 ghost use Rattle.ints.specs.Parts.{Within};
 ghost use Rattle.matrix.specs.Answers.{valuesOf};
-ghost use Rattle.matrix.specs.Asked.{Listed};
+ghost use Rattle.matrix.specs.Asked.{ColumnsListed, Listed};
+ghost use Rattle.matrix.specs.Limits.{side};
 ghost use Rattle.matrix.specs.Cost.{totalOf, costTests, cost};
 
 pub mod limits;
@@ -40,21 +42,29 @@ fn plus(total: i64, cost: i32) -> i64
     total + cost as i64
 }
 
-// What the first `count` rows cost at their listed columns.
-pub fn total(n: usize, costs: &[i32], count: usize, cols: &[u32]) -> i64
-    requires { ⌜ Listed n (now costs) count (now cols) ⌝ }
-    ensures { λ r. ⌜ r ≡ totalOf n (now (costs .entry)) count (now (cols .entry)) ⌝ }
+// What m rows of costs in n columns cost at their listed columns.
+pub fn total_of(m: usize, n: usize, costs: &[i32], cols: &[u32]) -> i64
+    requires { ⌜ (m ≤ side) × (n ≤ side) × (m * n ≤ length (now costs)) × ColumnsListed m n (now cols) ⌝ }
+    ensures { λ r. ⌜ r ≡ totalOf n (now (costs .entry)) m (now (cols .entry)) ⌝ }
 {
     let mut total: i64 = 0;
     let mut start = 0;
     let mut i = 0;
-    while i < count {
+    while i < m {
         let at = start + cols[i] as usize;
         total = plus(total, costs[at]);
         start += n;
         i += 1;
     }
     total
+}
+
+// What the first `count` rows of a square cost at their listed columns.
+pub fn total(n: usize, costs: &[i32], count: usize, cols: &[u32]) -> i64
+    requires { ⌜ Listed n (now costs) count (now cols) ⌝ }
+    ensures { λ r. ⌜ r ≡ totalOf n (now (costs .entry)) count (now (cols .entry)) ⌝ }
+{
+    total_of(count, n, costs, cols)
 }
 
 // Tests 1, 2, 3, 5, 6 of `cost`.

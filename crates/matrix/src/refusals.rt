@@ -1,6 +1,7 @@
 // The refusals' numbers, and a refusal as one number.
 ghost use mathlib.Core.Path.{_≡_};
-ghost use Rattle.matrix.specs.Refusals.{numberOf, placeOf, slackOf, codeOf};
+ghost use Prim.Native.Nat.{_<_};
+ghost use Rattle.matrix.specs.Refusals.{numberOf, placeOf, slackOf, codeOf, cappedCodeOf};
 ghost use Rattle.matrix.specs.Asked.{Tellable};
 use crate::Refusal;
 
@@ -49,9 +50,13 @@ pub const NOTE_UNFIT: u64 = 21;
 
 pub const BARS_PAST_SIDE: u64 = 22;
 
+pub const ROWS_OVER: u64 = 23;
+
 pub const PRICE_FAR: u64 = 24;
 
 pub const BARRED_PAIR: u64 = 26;
+
+pub const SPARE_BELOW: u64 = 27;
 
 pub const SHEET_ENDED: u64 = 28;
 
@@ -82,4 +87,16 @@ pub fn code(refusal: Refusal) -> u64
     ensures { λ r. ⌜ r ≡ codeOf refusal ⌝ }
 {
     refusal.number + 256 * (refusal.place as u64)
+}
+
+// A refusal as one number, whatever its place.
+pub fn capped_code(refusal: Refusal) -> u64
+    requires { ⌜ numberOf refusal < 256 ⌝ }
+    ensures { λ r. ⌜ r ≡ cappedCodeOf refusal ⌝ }
+{
+    let place = refusal.place as u64;
+    if place < 0x100_0000_0000_0000 {
+        return refusal.number + 256 * place;
+    }
+    refusal.number + 256 * 0xff_ffff_ffff_ffff
 }

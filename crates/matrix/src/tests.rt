@@ -11,7 +11,7 @@ ghost use Rattle.lists.specs.Permutations.{at};
 ghost use Rattle.assignment.specs.Pairings.{signedAt};
 ghost use Rattle.matrix.specs.Limits.{side, K};
 ghost use Rattle.matrix.specs.Verdicts.{Passes, _then_, failsBy, failsIf};
-ghost use Rattle.matrix.specs.Tests.{short, outside, sideWithin, costsFill, listsLong, shaped, listShort, roomsLong, costsIn, costsWithin, columnsInside, pricesIn, pricesWithin};
+ghost use Rattle.matrix.specs.Tests.{short, outside, sideWithin, costsFill, listsLong, listLong, shaped, listShort, roomsLong, costsIn, costsWithin, columnsInside, pricesIn, pricesWithin};
 use crate::Refusal;
 use crate::Verdict;
 use crate::limits::bound;
@@ -101,8 +101,15 @@ fn first_list_short(n: usize, cols: usize, rows: usize, us: usize, vs: usize) ->
     4
 }
 
-// Test 3.
-fn lists_long(before: Verdict, n: usize, cols: usize, rows: usize, us: usize, vs: usize) -> Verdict
+// Test 3, of four lists.
+pub fn lists_long(
+    before: Verdict,
+    n: usize,
+    cols: usize,
+    rows: usize,
+    us: usize,
+    vs: usize,
+) -> Verdict
     ensures { λ r. ⌜ r ≡ (before then listsLong n (cols ∷ rows ∷ us ∷ vs ∷ [])) ⌝ }
 {
     match before {
@@ -113,6 +120,19 @@ fn lists_long(before: Verdict, n: usize, cols: usize, rows: usize, us: usize, vs
     }
     let k = first_list_short(n, cols, rows, us, vs);
     fails_if(k < 4, refusals::LIST_LENGTH, k + 1)
+}
+
+// Test 3, of the list with this number.
+pub fn list_long(before: Verdict, number: usize, n: usize, length: usize) -> Verdict
+    ensures { λ r. ⌜ r ≡ (before then listLong number n length) ⌝ }
+{
+    match before {
+        Verdict::Fails(refusal) => {
+            return Verdict::Fails(refusal);
+        }
+        Verdict::Passed => {}
+    }
+    fails_if(length < n, refusals::LIST_LENGTH, number)
 }
 
 // Tests 1, 2, 3 of a square night and its four lists.

@@ -13,6 +13,8 @@ ghost use Rattle.repair.specs.Tests.{rowInside, pricesNear, repairTests}
 ghost use Rattle.repair.specs.Repair.{mended, outcomeOf, repair};
 ghost use Rattle.repair.specs.Values.{toldOf};
 ghost use Rattle.repair.specs.Asked.{CanMend, RepairedBy};
+use checker::prices::tight_on;
+use checker::prices::under_costs;
 use matrix::Answer;
 use matrix::Verdict;
 use matrix::refusals;
@@ -75,8 +77,8 @@ fn tested(
     let named = checker::rows_named(inside, n, cols, rows);
     let within = tests::prices_within(named, n, n, row_prices, col_prices);
     let near = prices_near(within, n, row_prices, col_prices);
-    let under = checker::under_costs(near, n, row, costs, row_prices, col_prices);
-    checker::tight_on(under, n, row, costs, cols, row_prices, col_prices)
+    let under = under_costs(near, n, n, row, costs, row_prices, col_prices, &[]);
+    tight_on(under, n, n, row, costs, cols, row_prices, col_prices)
 }
 
 // The row of a free column: the number once more, beside rules/specs/Columns.antt. The promise of `mend` holds the two together.

@@ -2,16 +2,14 @@
 use mathlib.Core.Path.{_≡_}
 use mathlib.Core.List.{List}
 use Prim.Native.Nat.{ℕ}
-use lib.IntN.{ℤ}
 use Rattle.matrix.specs.Verdicts.{bare}
-use Rattle.matrix.specs.Tests.{costsWithin}
 use Rattle.matrix.proofs.Verdicts.{bare-then, bare-if, bare-at}
-use Rattle.sheet.specs.Reading.{sheetTests}
+use Rattle.sheet.specs.Reading.{Laid, sheetTests, nightTests}
 
--- The tests before the costs, and that of the costs.
-pub sheet-bare : (room : ℕ) (sheet : List ℕ) (costs : List ℤ) → (bare (sheetTests room sheet) ≡ sheetTests room sheet) × (bare (costsWithin costs) ≡ costsWithin costs)
+-- The tests before the costs, and those of the night.
+pub sheet-bare : (room : ℕ) (sheet : List ℕ) (laid : Laid) → (bare (sheetTests room sheet) ≡ sheetTests room sheet) × (bare (nightTests laid) ≡ nightTests laid)
 unfolding sheetTests
-sheet-bare room sheet costs = (
+sheet-bare room sheet laid = (
   bare-then _ _
       (bare-then _ _
       (bare-then _ _
@@ -19,5 +17,5 @@ sheet-bare room sheet costs = (
       (bare-then _ _ (bare-if _ _ _ _) (bare-if _ _ _ _)))
       (bare-at _ _ _ _ _))
       (bare-if _ _ _ _),
-  bare-at _ _ _ _ _,
+  bare-then _ _ (bare-at _ _ _ _ _) (bare-at _ _ _ _ _),
 )

@@ -6,7 +6,7 @@ use Prim.Native.Nat.{ℕ}
 use Rattle.matrix.proofs.Determined.{refusal-determined}
 use Rattle.sheet.specs.declared.State.{State}
 use Rattle.sheet.specs.declared.Reply.{Reply}
-use Rattle.sheet.specs.declared.Reply.the-variants.{Accepted, Refused}
+use Rattle.sheet.specs.declared.Reply.the-variants.{Accepted, Refused, Blocked}
 use Rattle.sheet.specs.declared.Settled.{Settled}
 use Rattle.sheet.specs.Settle.{settled, Delivery, pair}
 use Rattle.sheet.specs.Values.{ReplyValues, replyValues, SettledValues, settledValues}
@@ -15,11 +15,18 @@ pub pair-determined : (sheet room : List ℕ) (outcome other : Delivery) → out
 pair-determined sheet room outcome other e f = e ∙ sym f
 
 reply-values-determine : (a b : Reply) → replyValues a ≡ replyValues b → a ≡ b
-reply-values-determine (Accepted m s) (Accepted n t) e = ap₂ Accepted (ap (λ (v : ReplyValues). v .side) e) (ap (λ (v : ReplyValues). v .total) e)
-reply-values-determine (Accepted m s) (Refused r) e = absurd (true≢false (ap (λ (v : ReplyValues). v .accepted) e))
-reply-values-determine (Refused q) (Accepted n t) e = absurd (true≢false (sym (ap (λ (v : ReplyValues). v .accepted) e)))
-reply-values-determine (Refused q) (Refused r) e =
-    ap Refused (refusal-determined q r (ap (λ (v : ReplyValues). v .number) e) (ap (λ (v : ReplyValues). v .place) e) (ap (λ (v : ReplyValues). v .slack) e))
+reply-values-determine (Accepted d m s) (Accepted e n t) same =
+    ap₂ (λ (edition side : ℕ). Accepted edition side s) (ap (λ (v : ReplyValues). v .edition) same) (ap (λ (v : ReplyValues). v .side) same)
+    ∙ ap (Accepted e n) (ap (λ (v : ReplyValues). v .total) same)
+reply-values-determine (Accepted d m s) (Refused r) same = absurd (true≢false (ap (λ (v : ReplyValues). v .accepted) same))
+reply-values-determine (Accepted d m s) (Blocked rows) same = absurd (true≢false (ap (λ (v : ReplyValues). v .accepted) same))
+reply-values-determine (Refused q) (Accepted e n t) same = absurd (true≢false (sym (ap (λ (v : ReplyValues). v .accepted) same)))
+reply-values-determine (Refused q) (Refused r) same =
+    ap Refused (refusal-determined q r (ap (λ (v : ReplyValues). v .number) same) (ap (λ (v : ReplyValues). v .place) same) (ap (λ (v : ReplyValues). v .slack) same))
+reply-values-determine (Refused q) (Blocked rows) same = absurd (true≢false (sym (ap (λ (v : ReplyValues). v .shown) same)))
+reply-values-determine (Blocked rows) (Refused r) same = absurd (true≢false (ap (λ (v : ReplyValues). v .shown) same))
+reply-values-determine (Blocked rows) (Accepted e n t) same = absurd (true≢false (sym (ap (λ (v : ReplyValues). v .accepted) same)))
+reply-values-determine (Blocked rows) (Blocked others) same = ap Blocked (ap (λ (v : ReplyValues). v .rows) same)
 
 pub settled-values-determine : (a b : Settled) → settledValues a ≡ settledValues b → a ≡ b
 settled-values-determine a b e =

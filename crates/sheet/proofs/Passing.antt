@@ -6,13 +6,12 @@ use Prim.Native.Nat.{ℕ, _+_, _*_, _-_, _≤_}
 use native.Mathlib.Omega.{arith}
 use borrow.Author.Tests.{ltb-false, eqb-true, not-false}
 use lib.ListN.{length}
-use Rattle.layout.specs.Trailers.{distanceOf, sideOf, unmarked}
-use Rattle.layout.specs.Sheets.{costsAt}
+use Rattle.layout.specs.Trailers.{distanceOf, sideOf, editionOf, unmarked}
 use Rattle.layout.specs.Slips.{slipLength}
 use Rattle.matrix.specs.Limits.{sheetSide}
 use Rattle.matrix.specs.Verdicts.{Passes}
 use Rattle.matrix.proofs.Verdicts.{then-iff, failsIf-iff}
-use Rattle.sheet.specs.Reading.{sheetMost, costsOf, trailed, pointed, sheetTests}
+use Rattle.sheet.specs.Reading.{sheetMost, distanceDue, laidAt, laidOf, trailed, pointed, sheetTests}
 
 -- A sheet that is not refused by 11 has a trailer.
 pub has-trailer : (mark : ℕ) (sheet : List ℕ) → unmarked mark sheet ≡ false → 12 ≤ length sheet
@@ -35,7 +34,7 @@ trailed-passed sheet p =
 
 -- 14, 15.
 pub pointed-passed : (sheet : List ℕ) → 12 ≤ length sheet → Passes (pointed sheet)
-    → (distanceOf sheet ≡ 4 * (sideOf sheet * sideOf sheet)) × (distanceOf sheet + 12 ≤ length sheet)
+    → (distanceOf sheet ≡ distanceDue (editionOf sheet) (sideOf sheet)) × (distanceOf sheet + 12 ≤ length sheet)
 pointed-passed sheet long p =
     let t15 = then-iff _ _ .0 p in (
       eqb-true _ _ (not-false _ (failsIf-iff _ _ _ .0 (t15 .0))),
@@ -49,8 +48,8 @@ module _ (room : ℕ) (sheet : List ℕ) where
   pub record SheetPassed : Type 0 where
     pub ended : 12 ≤ length sheet
     pub small : n ≤ sheetSide
-    pub distance : distanceOf sheet ≡ 4 * (n * n)
-    pub inside : 4 * (n * n) + 12 ≤ length sheet
+    pub distance : distanceOf sheet ≡ distanceDue (editionOf sheet) n
+    pub inside : distanceDue (editionOf sheet) n + 12 ≤ length sheet
     pub roomy : slipLength n ≤ room
 
   pub tests-passed : Passes (sheetTests room sheet) → SheetPassed
@@ -69,6 +68,6 @@ module _ (room : ℕ) (sheet : List ℕ) where
         roomy = ltb-false room (slipLength n) (failsIf-iff _ _ _ .0 (t16 .1));
       }
 
-  -- The costs are where the side says.
-  pub costs-found : SheetPassed → costsOf sheet ≡ costsAt (4 * (n * n)) (n * n) sheet
-  costs-found p = ap (λ (d : ℕ). costsAt d (n * n) sheet) (p .distance)
+  -- The night lies where edition and side say.
+  pub laid-found : SheetPassed → laidOf sheet ≡ laidAt (editionOf sheet) n (distanceDue (editionOf sheet) n) sheet
+  laid-found p = ap (λ (d : ℕ). laidAt (editionOf sheet) n d sheet) (p .distance)

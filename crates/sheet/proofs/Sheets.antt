@@ -1,75 +1,135 @@
--- A sheet made of costs reads as these costs, whatever its note for people says. Assumes nothing.
-use mathlib.Core.Path.{_≡_, sym, ap, ap₂, _∙_}
-use mathlib.Core.Bool.{not, _||_}
+-- A night that is laid on a sheet of its edition is read again, whatever the sheet's note for people says. Assumes nothing.
+use mathlib.Core.Path.{_≡_, refl, sym, ap, ap₂, _∙_}
+use mathlib.Core.Bool.{Bool, true, false, true≢false, cond, not, _&&_, _||_}
 use mathlib.Core.List.{List, [], _++_, flatMap}
 use Prim.Native.Nat.{ℕ, _+_, _*_, _-_, _/_, _^_, _≤_, _<_}
-use native.Mathlib.Nat.{mul-le-mul}
+use native.Mathlib.Nat.{zero-lt-suc, lt-of-lt-of-le, pow-le-pow-right}
 use native.Mathlib.Omega.{arith}
-use borrow.Author.Tests.{le-ltb, lt-leb, eq-eqb}
+use borrow.Author.Tests.{le-ltb, lt-leb, eq-eqb, eqb-true}
+use lib.Dec.{eqb}
 use lib.IntN.{ℤ, pos, negsuc}
-use lib.ListN.{length, List·getD-append}
+use lib.ListN.{length, replicate, List·getD-append}
 use lib.Signed.{mag}
 use Rattle.ints.specs.Parts.{Within}
-use Rattle.layout.specs.Values.{valueOf, signedBytes}
+use Rattle.ints.proofs.Ranges.{within-mono}
 use Rattle.lists.specs.Permutations.{at}
+use Rattle.layout.specs.Values.{bytesOf, valueOf, signedBytes}
 use Rattle.layout.specs.Trailers.{sheetMark, trailer, distanceOf, sideOf, editionOf, markOf}
-use Rattle.layout.specs.Sheets.{sheetOf, costsAt}
+use Rattle.layout.specs.Sheets.{sheetWith, costsAt, barsAt}
 use Rattle.layout.specs.Slips.{slipLength}
-use Rattle.layout.proofs.Sheets.{sheet-length, sheet-distance, sheet-side, sheet-edition, sheet-mark, sheet-costs}
+use Rattle.layout.proofs.Values.{length-bytesOf}
+use Rattle.layout.proofs.Fields.{length-flatMap}
+use Rattle.layout.proofs.Sheets.{sheet-length, sheet-distance, sheet-side, sheet-edition, sheet-mark, sheet-costs, sheet-bars}
 use Rattle.assignment.specs.Pairings.{signedAt}
+use Rattle.bars.specs.Barred.{bitsAbove}
 use Rattle.matrix.specs.Limits.{sheetSide, K}
 use Rattle.matrix.specs.Verdicts.{Passes}
 use Rattle.matrix.proofs.SmallLimits.{sheetSide-small, K-small}
 use Rattle.matrix.proofs.Verdicts.{then-iff, failsIf-iff, failsAt-iff}
-use Rattle.matrix.proofs.Passed.{costs-within}
-use Rattle.sheet.specs.Reading.{sheetMost, noteMost, costsOf, noteLength, unprintable, unfit, trailed, pointed, noteFit, sheetTests, nightIf, readIf, costsTested, night, read, Built}
+use Rattle.matrix.proofs.Passed.{costs-in}
+use Rattle.sheet.specs.Reading.{sheetMost, noteMost, hasBars, unknown, distanceDue, costMost, Laid, laidAt, laidOf, barsIn, noteLength, unprintable, unfit, trailed, pointed, noteFit, roomLong, sheetTests, nightTests, nightIf, readIf, nightTested, night, read, Printable, Layable}
 use Rattle.sheet.proofs.Limits.{sheetMost-large}
+use Rattle.sheet.proofs.Editions.{costMost-within, due-short}
 
--- A cost in -K..K fits four bytes.
+-- A cost within K fits four bytes.
 fits-four : (z : ℤ) → Within K z → mag z < 256 ^ 4 / 2
 fits-four (pos m) w = omega (arith, K-small)
 fits-four (negsuc m) w = omega (arith, K-small)
 
-module _ (note : List ℕ) (n : ℕ) (costs : List ℤ) (room : ℕ) (g : Built note n costs room) where
+-- A known edition is a small number, and bits below those of a side up to 64 fit eight bytes.
+known-small : (edition : ℕ) → unknown edition ≡ false → edition < 256 ^ 2
+known-small edition e = by (eqb edition 1) (eqb edition 2) refl refl e
+  where
+    by : (s t : Bool) → eqb edition 1 ≡ s → eqb edition 2 ≡ t → not s && not t ≡ false → edition < 256 ^ 2
+    by true t f g h = omega (arith, eqb-true edition 1 f)
+    by false true f g h = omega (arith, eqb-true edition 2 g)
+    by false false f g h = absurd (true≢false h)
+
+pub below-word : (n : ℕ) → n ≤ 64 → (bits : ℕ) → bits < 2 ^ n → bits < 256 ^ 8
+below-word n h bits l = lt-of-lt-of-le l (pow-le-pow-right (zero-lt-suc 1) h)
+
+-- What an edition puts between costs and trailer.
+abbrev pub moreOf : Bool → List ℕ → List ℕ
+moreOf barred bars = cond barred (flatMap (bytesOf 8) bars) []
+
+more-length : (t : Bool) (n : ℕ) (bars : List ℕ) → length bars ≡ n → length (moreOf t bars) ≡ cond t (8 * n) 0
+more-length true n bars e = omega (arith, e, length-flatMap (bytesOf 8) 8 (length-bytesOf 8) bars)
+more-length false n bars e = refl
+
+-- A sheet of a night, by its edition.
+abbrev pub sheetLaid : List ℕ → Laid → List ℕ
+sheetLaid note laid = sheetWith (laid .edition) note (laid .side) (laid .costs) (moreOf (hasBars (laid .edition)) (laid .bars))
+
+module _ (note : List ℕ) (laid : Laid) (room : ℕ) (printable : Printable note) (g : Layable laid) (roomy : slipLength (laid .side) ≤ room) where
+  abbrev n : ℕ
+  n = laid .side
+
+  abbrev edition : ℕ
+  edition = laid .edition
+
+  abbrev costs : List ℤ
+  costs = laid .costs
+
+  abbrev more : List ℕ
+  more = moreOf (hasBars edition) (laid .bars)
+
   abbrev sheet : List ℕ
-  sheet = sheetOf note n costs
+  sheet = sheetLaid note laid
 
   few : n ≤ 64
-  few = omega (arith, g .side, sheetSide-small)
+  few = omega (arith, g .small, sheetSide-small)
 
-  squares : n * n ≤ 4096
-  squares = mul-le-mul few few
+  edition-small : edition < 256 ^ 2
+  edition-small = known-small edition (g .known)
 
-  long : length sheet ≡ length note + 4 * (n * n) + 12
-  long = omega (arith, sheet-length 1 note n costs [], g .squared)
+  due : 4 * length costs + length more ≡ distanceDue edition n
+  due = ap₂ (λ (c m : ℕ). 4 * c + m) (g .squared) (more-length (hasBars edition) n (laid .bars) (g .rows))
+
+  long : length sheet ≡ length note + distanceDue edition n + 12
+  long = omega (arith, sheet-length edition note n costs more, due)
 
   side-read : sideOf sheet ≡ n
-  side-read = sheet-side 1 note n costs [] (omega (arith, few))
+  side-read = sheet-side edition note n costs more (omega (arith, few))
 
-  edition-read : editionOf sheet ≡ 1
-  edition-read = sheet-edition 1 note n costs [] (omega arith)
+  edition-read : editionOf sheet ≡ edition
+  edition-read = sheet-edition edition note n costs more edition-small
 
-  distance-read : distanceOf sheet ≡ 4 * (n * n)
-  distance-read = sheet-distance 1 note n costs [] (omega (arith, squares, g .squared)) ∙ omega (arith, g .squared)
+  distance-read : distanceOf sheet ≡ distanceDue edition n
+  distance-read = sheet-distance edition note n costs more (omega (arith, due, due-short edition n few)) ∙ due
 
-  costs-read : costsOf sheet ≡ costs
+  costs-read : costsAt (distanceOf sheet) (sideOf sheet * sideOf sheet) sheet ≡ costs
   costs-read =
-      let d : distanceOf sheet ≡ 4 * length costs + 0 = omega (arith, distance-read, g .squared) in
       let count : sideOf sheet * sideOf sheet ≡ length costs = ap (λ (m : ℕ). m * m) side-read ∙ sym (g .squared) in
-      ap₂ (λ (far many : ℕ). costsAt far many sheet) d count
-      ∙ sheet-costs 1 note n costs [] (λ k l. fits-four (signedAt costs k) (g .inside k (omega (arith, g .squared))))
+      ap₂ (λ (far many : ℕ). costsAt far many sheet) (distance-read ∙ sym due) count
+      ∙ sheet-costs edition note n costs more (λ k l. fits-four (signedAt costs k) (within-mono (costMost-within edition) (g .inside k (omega (arith, g .squared)))))
+
+  bars-of : (t : Bool) → hasBars edition ≡ t → barsIn edition n (sheetWith edition note n costs (moreOf t (laid .bars))) ≡ laid .bars
+  bars-of true e =
+      let whole = sheetWith edition note n costs (flatMap (bytesOf 8) (laid .bars)) in
+      ap (λ (t : Bool). cond t (barsAt n whole) (replicate n 0)) e ∙ ap (λ (m : ℕ). barsAt m whole) (sym (g .rows))
+      ∙ sheet-bars edition note n costs (laid .bars) (λ i l. below-word n few (at (laid .bars) i) (g .clear i (omega (arith, g .rows))))
+  bars-of false e =
+      ap (λ (t : Bool). cond t (barsAt n (sheetWith edition note n costs [])) (replicate n 0)) e ∙ sym (g .unbarred e)
+
+  bars-read : barsIn (editionOf sheet) (sideOf sheet) sheet ≡ laid .bars
+  bars-read = ap₂ (λ (d m : ℕ). barsIn d m sheet) edition-read side-read ∙ bars-of (hasBars edition) refl
+
+  laid-read : laidOf sheet ≡ laid
+  laid-read =
+      ap₂ (λ (d m : ℕ). record { edition = d; side = m; costs = costsAt (distanceOf sheet) (sideOf sheet * sideOf sheet) sheet; bars = barsIn (editionOf sheet) (sideOf sheet) sheet }) edition-read side-read
+      ∙ ap₂ (λ (c : List ℤ) (b : List ℕ). record { edition = edition; side = n; costs = c; bars = b }) costs-read bars-read
 
   trailer-passed : Passes (trailed sheet)
   trailer-passed =
-      let short : length sheet ≤ sheetMost = omega (arith, long, squares, g .note-fit .short, sheetMost-large) in
+      let short : length sheet ≤ sheetMost = omega (arith, long, due-short edition n few, printable .short, sheetMost-large) in
       let t17 = failsIf-iff _ _ _ .1 (le-ltb sheetMost (length sheet) short) in
-      let t11 = then-iff _ _ .1 (t17, failsIf-iff _ _ _ .1 (ap₂ _||_ (le-ltb (length sheet) 12 (omega (arith, long))) (ap not (eq-eqb (markOf sheet) (valueOf sheetMark) (sheet-mark 1 note n costs []))))) in
-      let t12 = then-iff _ _ .1 (t11, failsIf-iff _ _ _ .1 (ap not (eq-eqb (editionOf sheet) 1 edition-read))) in
-      then-iff _ _ .1 (t12, failsIf-iff _ _ _ .1 (le-ltb sheetSide (sideOf sheet) (omega (arith, g .side, side-read))))
+      let t11 = then-iff _ _ .1 (t17, failsIf-iff _ _ _ .1 (ap₂ _||_ (le-ltb (length sheet) 12 (omega (arith, long))) (ap not (eq-eqb (markOf sheet) (valueOf sheetMark) (sheet-mark edition note n costs more))))) in
+      let t12 = then-iff _ _ .1 (t11, failsIf-iff _ _ _ .1 (ap unknown edition-read ∙ g .known)) in
+      then-iff _ _ .1 (t12, failsIf-iff _ _ _ .1 (le-ltb sheetSide (sideOf sheet) (omega (arith, g .small, side-read))))
 
   distance-passed : Passes (pointed sheet)
   distance-passed =
-      let t14 = failsIf-iff _ _ _ .1 (ap not (eq-eqb (distanceOf sheet) (4 * (sideOf sheet * sideOf sheet)) (distance-read ∙ ap (λ (m : ℕ). 4 * (m * m)) (sym side-read)))) in
+      let t14 = failsIf-iff _ _ _ .1 (ap not (eq-eqb (distanceOf sheet) (distanceDue (editionOf sheet) (sideOf sheet)) (distance-read ∙ ap₂ distanceDue (sym edition-read) (sym side-read)))) in
       then-iff _ _ .1 (t14, failsIf-iff _ _ _ .1 (le-ltb (length sheet - 12) (distanceOf sheet) (omega (arith, long, distance-read))))
 
   -- The note is read at the sheet's front.
@@ -77,20 +137,25 @@ module _ (note : List ℕ) (n : ℕ) (costs : List ℤ) (room : ℕ) (g : Built 
   note-read = omega (arith, long, distance-read)
 
   note-passed : Passes (noteFit sheet)
-  note-passed = failsAt-iff _ (λ k. k) (noteLength sheet) (unfit sheet) .1 (λ k l.
+  note-passed = failsAt-iff _ (λ k. k) (noteLength sheet) (unfit sheet) .1
+      (λ k l.
       let inside : k < length note = omega (arith, note-read) in
-      let byte : at sheet k ≡ at note k = List·getD-append note (flatMap (signedBytes 4) costs ++ ([] ++ trailer (4 * length costs + 0) n 1 sheetMark)) 0 k inside in
-      ap₂ _||_ (lt-leb noteMost k (omega (arith, g .note-fit .short))) (ap unprintable byte ∙ g .note-fit .printed k inside))
+      let byte : at sheet k ≡ at note k = List·getD-append note (flatMap (signedBytes 4) costs ++ (more ++ trailer (4 * length costs + length more) n edition sheetMark)) 0 k inside in
+      ap₂ _||_ (lt-leb noteMost k (omega (arith, printable .short))) (ap unprintable byte ∙ printable .printed k inside))
 
   all-passed : Passes (sheetTests room sheet)
   unfolding sheetTests
   all-passed =
       let t15 = then-iff _ _ .1 (trailer-passed, distance-passed) in
       let t21 = then-iff _ _ .1 (t15, note-passed) in
-      then-iff _ _ .1 (t21, failsIf-iff _ _ _ .1 (le-ltb room (slipLength (sideOf sheet)) (omega (arith, g .roomy, side-read))))
+      then-iff _ _ .1 (t21, failsIf-iff _ _ _ .1 (le-ltb room (slipLength (sideOf sheet)) (omega (arith, roomy, side-read))))
 
-  pub read-sheet : read room sheet ≡ night n costs
+  night-passed : Passes (nightTests laid)
+  night-passed = then-iff _ _ .1 (
+    costs-in (costMost edition) costs .1 (λ k l. g .inside k (omega (arith, g .squared))),
+    failsAt-iff _ (λ i. i) n (λ i. bitsAbove n (at (laid .bars) i)) .1 (λ i l. lt-leb (2 ^ n) (at (laid .bars) i) (g .clear i l)),
+  )
+
+  pub read-sheet : read room sheet ≡ night laid
   unfolding read
-  read-sheet =
-      ap (readIf sheet) all-passed ∙ ap₂ costsTested side-read costs-read
-      ∙ ap (nightIf n costs) (costs-within costs .1 (λ k l. g .inside k (omega (arith, g .squared))))
+  read-sheet = ap (readIf sheet) all-passed ∙ ap nightTested laid-read ∙ ap (nightIf laid) night-passed

@@ -1,21 +1,22 @@
--- How a sheet is read: its refusals in order, else its side and costs.
+-- How a sheet is read: its refusals in order, else its night as it lies on it. Editions 1 and 2.
 use mathlib.Core.Path.{_≡_}
-use mathlib.Core.Bool.{Bool, false, not, _||_}
+use mathlib.Core.Bool.{Bool, false, cond, not, _&&_, _||_}
 use mathlib.Core.List.{List}
-use Prim.Native.Nat.{ℕ, _*_, _-_, _≤_, _<_}
+use Prim.Native.Nat.{ℕ, _+_, _*_, _-_, _^_, _≤_, _<_}
 use lib.Dec.{leb, ltb, eqb}
-use lib.IntN.{ℤ}
-use lib.ListN.{length}
+use lib.IntN.{ℤ, pos}
+use lib.ListN.{length, replicate}
 use Rattle.ints.specs.Parts.{Within}
 use Rattle.lists.specs.Permutations.{at}
 use Rattle.layout.specs.Values.{valueOf}
 use Rattle.layout.specs.Trailers.{sheetMark, distanceOf, sideOf, editionOf, unmarked}
-use Rattle.layout.specs.Sheets.{sheetOf, costsAt}
+use Rattle.layout.specs.Sheets.{costsAt, barsAt}
 use Rattle.layout.specs.Slips.{slipLength}
 use Rattle.assignment.specs.Pairings.{signedAt}
+use Rattle.bars.specs.Tests.{barredMost, barsClear}
 use Rattle.matrix.specs.Limits.{sheetSide, K}
 use Rattle.matrix.specs.Verdicts.{_then_, failsIf, failsAt}
-use Rattle.matrix.specs.Tests.{costsWithin}
+use Rattle.matrix.specs.Tests.{costsIn}
 use Rattle.matrix.specs.declared.Verdict.{Verdict}
 use Rattle.matrix.specs.declared.Verdict.the-variants.{Passed, Fails}
 use Rattle.matrix.specs.declared.Refusal.{Refusal}
@@ -29,22 +30,53 @@ sheetMost = 65536
 unfoldable pub noteMost : ℕ
 noteMost = 4096
 
--- n*n costs in row order, the first at the trailer's distance before it.
-abbrev pub costsOf : List ℕ → List ℤ
-costsOf sheet = costsAt (distanceOf sheet) (sideOf sheet * sideOf sheet) sheet
+-- Whether an edition has bars: 2.
+abbrev pub hasBars : ℕ → Bool
+hasBars edition = eqb edition 2
+
+-- "neither edition".
+abbrev pub unknown : ℕ → Bool
+unknown edition = not (eqb edition 1) && not (hasBars edition)
+
+-- The distance that an edition wants: "4*n*n", with bars "4*n*n + 8*n".
+abbrev pub distanceDue : ℕ → ℕ → ℕ
+distanceDue edition n = 4 * (n * n) + cond (hasBars edition) (8 * n) 0
+
+-- The limit of an edition's costs.
+abbrev pub costMost : ℕ → ℕ
+costMost edition = cond (hasBars edition) barredMost K
+
+-- A night as it lies on a sheet: edition, side, n*n costs in row order, and for each row a number whose bits are the columns barred to it.
+pub record Laid : Type 0 where
+  pub edition : ℕ
+  pub side : ℕ
+  pub costs : List ℤ
+  pub bars : List ℕ
+
+-- The bars of n rows, where the edition has some: else none is set.
+abbrev pub barsIn : ℕ → ℕ → List ℕ → List ℕ
+barsIn edition n sheet = cond (hasBars edition) (barsAt n sheet) (replicate n 0)
+
+-- A sheet of an edition and a side, whose first cost lies so far before the trailer.
+abbrev pub laidAt : ℕ → ℕ → ℕ → List ℕ → Laid
+laidAt edition n distance sheet = record { edition = edition; side = n; costs = costsAt distance (n * n) sheet; bars = barsIn edition n sheet }
+
+-- A sheet's night, by its trailer.
+abbrev pub laidOf : List ℕ → Laid
+laidOf sheet = laidAt (editionOf sheet) (sideOf sheet) (distanceOf sheet) sheet
 
 -- 17, 11, 12, 13: the sheet's length, and what its trailer says.
 abbrev pub trailed : List ℕ → Verdict
 trailed sheet =
     failsIf SheetOver 0 (ltb sheetMost (length sheet))
     then failsIf NoMark 0 (unmarked (valueOf sheetMark) sheet)
-    then failsIf EditionUnknown 0 (not (eqb (editionOf sheet) 1))
+    then failsIf EditionUnknown 0 (unknown (editionOf sheet))
     then failsIf SheetSideOver 0 (ltb sheetSide (sideOf sheet))
 
 -- 14, 15: where it points.
 abbrev pub pointed : List ℕ → Verdict
 pointed sheet =
-    failsIf DistanceWrong 0 (not (eqb (distanceOf sheet) (4 * (sideOf sheet * sideOf sheet))))
+    failsIf DistanceWrong 0 (not (eqb (distanceOf sheet) (distanceDue (editionOf sheet) (sideOf sheet))))
     then failsIf DistancePastBytes 0 (ltb (length sheet - 12) (distanceOf sheet))
 
 -- How long the note is: all bytes before the first cost.
@@ -70,26 +102,29 @@ noteFit sheet = failsAt NoteUnfit (λ k. k) (noteLength sheet) (unfit sheet)
 abbrev pub roomLong : ℕ → List ℕ → Verdict
 roomLong room sheet = failsIf SlipRoomShort 0 (ltb room (slipLength (sideOf sheet)))
 
--- "Sheets: 17, 11, 12, 13, 14, 15," 21, "16, 5. Where several apply, the first in its entry's order is given": those that come before the costs.
+-- "Sheets: 17, 11, 12, 13, 14, 15," 21, "16, 5", 22, 20. "Where several apply, the first in its entry's order is given": those that come before the costs.
 unfoldable pub sheetTests : ℕ → List ℕ → Verdict
 sheetTests room sheet = trailed sheet then pointed sheet then noteFit sheet then roomLong room sheet
+
+-- 5 and 22, of the night.
+abbrev pub nightTests : Laid → Verdict
+nightTests laid = costsIn (pos (costMost (laid .edition))) (laid .costs) then barsClear (laid .side) (laid .bars)
 
 -- What a sheet reads as.
 pub data Read : Type 0 where
   refused : Refusal → Read
-  night : ℕ → List ℤ → Read
+  night : Laid → Read
 
--- The last: 5.
-abbrev pub nightIf : ℕ → List ℤ → Verdict → Read
-nightIf n costs Passed = night n costs
-nightIf n costs (Fails refusal) = refused refusal
+abbrev pub nightIf : Laid → Verdict → Read
+nightIf laid Passed = night laid
+nightIf laid (Fails refusal) = refused refusal
 
-abbrev pub costsTested : ℕ → List ℤ → Read
-costsTested n costs = nightIf n costs (costsWithin costs)
+abbrev pub nightTested : Laid → Read
+nightTested laid = nightIf laid (nightTests laid)
 
--- A sheet from the verdict of those before it.
+-- A sheet from the verdict of those before them.
 abbrev pub readIf : List ℕ → Verdict → Read
-readIf sheet Passed = costsTested (sideOf sheet) (costsOf sheet)
+readIf sheet Passed = nightTested (laidOf sheet)
 readIf sheet (Fails refusal) = refused refusal
 
 -- A sheet, read for a slip room of so many bytes.
@@ -101,10 +136,12 @@ pub record Printable (note : List ℕ) : Type 0 where
   pub short : length note ≤ noteMost
   pub printed : (k : ℕ) → k < length note → unprintable (at note k) ≡ false
 
--- What makes a sheet good: a note for people, a side and as many costs as it says, each in -K..K, and room for the slip.
-pub record Built (note : List ℕ) (n : ℕ) (costs : List ℤ) (room : ℕ) : Type 0 where
-  pub side : n ≤ sheetSide
-  pub squared : length costs ≡ n * n
-  pub inside : (k : ℕ) → k < n * n → Within K (signedAt costs k)
-  pub note-fit : Printable note
-  pub roomy : slipLength n ≤ room
+-- What makes a night good to lay on a sheet of its edition: a side and as many costs and bars as it says, each within its limit.
+pub record Layable (laid : Laid) : Type 0 where
+  pub known : unknown (laid .edition) ≡ false
+  pub small : laid .side ≤ sheetSide
+  pub squared : length (laid .costs) ≡ laid .side * laid .side
+  pub inside : (k : ℕ) → k < laid .side * laid .side → Within (costMost (laid .edition)) (signedAt (laid .costs) k)
+  pub rows : length (laid .bars) ≡ laid .side
+  pub clear : (i : ℕ) → i < laid .side → at (laid .bars) i < 2 ^ laid .side
+  pub unbarred : hasBars (laid .edition) ≡ false → laid .bars ≡ replicate (laid .side) 0

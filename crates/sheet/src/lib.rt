@@ -1,18 +1,26 @@
 // Sheets and slips: a sheet is read, its night is solved, and the slip is written. What is promised is said in specs/.
 ghost use mathlib.Core.Path.{_≡_};
 ghost use mathlib.Core.List.{_++_};
-ghost use Prim.Native.Nat.{_+_, _*_, _≤_};
+ghost use Prim.Native.Nat.{ℕ, _+_, _*_, _≤_, _<_};
+ghost use lib.IntN.{pos};
 ghost use lib.ListN.{length, take, drop};
 ghost use lib.Seq.{sets};
-ghost use Rattle.layout.specs.Sheets.{costsAt};
+ghost use Rattle.lists.specs.Permutations.{at};
+ghost use Rattle.layout.specs.Sheets.{costsAt, barsAt};
 ghost use Rattle.layout.specs.Slips.{slipOf, slipLength};
-ghost use Rattle.matrix.specs.Limits.{sheetSide};
+ghost use Rattle.bars.specs.Barred.{firstBarred, filledCosts};
+ghost use Rattle.bars.specs.Masks.{reachedMask};
+ghost use Rattle.bars.specs.Tests.{barsClear};
+ghost use Rattle.matrix.specs.Limits.{sheetSide, K};
+ghost use Rattle.matrix.specs.Verdicts.{_then_};
+ghost use Rattle.matrix.specs.Tests.{costsIn};
 ghost use Rattle.lapjv.specs.Solve.{lentOf, outcomeOf, solve};
-ghost use Rattle.sheet.specs.Reading.{refused, costsTested};
+ghost use Rattle.sheet.specs.Reading.{distanceDue, costMost, laidAt, refused, nightTested};
 ghost use Rattle.sheet.specs.Settle.{fresh, settledAs, settled, Delivery, pair};
 ghost use Rattle.sheet.specs.Values.{settledValues};
 ghost use Rattle.sheet.specs.Asked.{Inside};
-ghost use Rattle.sheet.specs.Steps.{readInto, solvedIn};
+ghost use Rattle.sheet.specs.Steps.{readInto, barsInto, filledIn, unlessBarred, solvedIn, settledIn};
+ghost use Rattle.sheet.specs.declared.Reply.the-variants.{Accepted, Blocked};
 
 mod reading;
 
@@ -24,6 +32,7 @@ use reading::tests;
 // The arrays of a night of side up to 64, by value.
 pub struct State {
     pub costs: [i32; 4096],
+    pub bars: [u64; 64],
     pub cols: [u32; 64],
     pub rows: [u32; 64],
     pub row_prices: [i64; 64],
@@ -32,10 +41,11 @@ pub struct State {
     pub numbers: [i64; 64],
 }
 
-// What the front desk is told of a sheet: side and total, or a refusal.
+// What the front desk is told of a sheet: edition, side and total; a refusal; or a set of rows that shows that there is no pairing.
 pub enum Reply {
-    Accepted(usize, i64),
+    Accepted(usize, usize, i64),
     Refused(Refusal),
+    Blocked(u64),
 }
 
 // A sheet settled.
@@ -49,6 +59,7 @@ fn fresh() -> State
     ensures { λ r. ⌜ r ≡ fresh ⌝ }
 {
     let costs = [0i32; 4096];
+    let bars = [0u64; 64];
     let cols = [0u32; 64];
     let rows = [0u32; 64];
     let row_prices = [0i64; 64];
@@ -57,6 +68,7 @@ fn fresh() -> State
     let numbers = [0i64; 64];
     State {
         costs,
+        bars,
         cols,
         rows,
         row_prices,
@@ -82,6 +94,7 @@ fn read_night(state: State, sheet: &[u8], distance: usize, count: usize) -> Stat
     ensures { λ r. ⌜ r ≡ readInto distance count (now (sheet .entry)) state ⌝ }
 {
     let mut costs = state.costs;
+    let bars = state.bars;
     let cols = state.cols;
     let rows = state.rows;
     let row_prices = state.row_prices;
@@ -91,6 +104,89 @@ fn read_night(state: State, sheet: &[u8], distance: usize, count: usize) -> Stat
     read_array(&mut costs, sheet, distance, count);
     State {
         costs,
+        bars,
+        cols,
+        rows,
+        row_prices,
+        col_prices,
+        indices,
+        numbers,
+    }
+}
+
+// The bars of n rows, which end at the trailer, are read over the front of an array.
+fn read_bars_array(bars: &mut [u64; 64], sheet: &[u8], n: usize)
+    requires { ⌜ (n ≤ 64) × (8 * n + 12 ≤ length (now sheet)) ⌝ }
+    ensures { λ _. ⌜ now (bars .exit) ≡ sets (now (bars .entry)) 0 (barsAt n (now (sheet .entry))) ⌝ }
+{
+    let first = sheet.len() - 12 - 8 * n;
+    let all: &mut [u64] = bars;
+    layout::sheet::read_bars(sheet, first, n, all);
+}
+
+// They are read into the state, where the edition has some.
+fn read_bars(state: State, sheet: &[u8], edition: usize, n: usize) -> State
+    requires { ⌜ (n ≤ 64) × (distanceDue edition n + 12 ≤ length (now sheet)) ⌝ }
+    ensures { λ r. ⌜ r ≡ barsInto edition n (now (sheet .entry)) state ⌝ }
+{
+    if edition != 2 {
+        return state;
+    }
+    let costs = state.costs;
+    let mut bars = state.bars;
+    let cols = state.cols;
+    let rows = state.rows;
+    let row_prices = state.row_prices;
+    let col_prices = state.col_prices;
+    let indices = state.indices;
+    let numbers = state.numbers;
+    read_bars_array(&mut bars, sheet, n);
+    State {
+        costs,
+        bars,
+        cols,
+        rows,
+        row_prices,
+        col_prices,
+        indices,
+        numbers,
+    }
+}
+
+// K, once more as a cost: the promise holds the two together.
+fn dear() -> i32
+    ensures { λ r. ⌜ r ≡ pos K ⌝ }
+{
+    1000000000
+}
+
+// The first n*n costs have K on barred places.
+fn fill_arrays(n: usize, costs: &mut [i32; 4096], bars: &[u64; 64])
+    requires { ⌜ n ≤ 64 ⌝ }
+    ensures { λ _. ⌜ now (costs .exit) ≡ filledCosts n (pos K) (now (costs .entry)) (now (bars .entry)) ++ drop (n * n) (now (costs .entry)) ⌝ }
+{
+    let all: &mut [i32] = costs;
+    let barred: &[u64] = bars;
+    bars::fill(n, all, barred, dear());
+}
+
+// The night in the state is filled.
+fn fill_night(state: State, n: usize) -> State
+    requires { ⌜ n ≤ 64 ⌝ }
+    ensures { λ r. ⌜ r ≡ filledIn n state ⌝ }
+{
+    let mut costs = state.costs;
+    let bars = state.bars;
+    let cols = state.cols;
+    let rows = state.rows;
+    let row_prices = state.row_prices;
+    let col_prices = state.col_prices;
+    let indices = state.indices;
+    let numbers = state.numbers;
+    fill_arrays(n, &mut costs, &bars);
+    State {
+        costs,
+        bars,
         cols,
         rows,
         row_prices,
@@ -139,12 +235,77 @@ fn refused(refusal: Refusal) -> Settled
     }
 }
 
-// The night of side n whose costs stand in the state is solved in it.
-fn solve_night(state: State, n: usize) -> Settled
-    requires { ⌜ n ≤ 64 ⌝ }
-    ensures { λ r. ⌜ r ≡ solvedIn n state ⌝ }
+// Nor does a set of rows that is shown.
+fn blocked(rows: u64) -> Settled
+    ensures { λ r. ⌜ r ≡ record { reply = Blocked rows; state = fresh } ⌝ }
+{
+    let state = fresh();
+    Settled {
+        reply: Reply::Blocked(rows),
+        state,
+    }
+}
+
+// The first row that is paired at a barred place, or n.
+fn first_barred(n: usize, bars: &[u64; 64], cols: &[u32; 64]) -> usize
+    requires { ⌜ (n ≤ 64) × ((i : ℕ) → i < n → at (now cols) i < n) ⌝ }
+    ensures { λ r. ⌜ r ≡ firstBarred n (now (bars .entry)) (now (cols .entry)) ⌝ }
+{
+    let barred: &[u64] = bars;
+    let columns: &[u32] = cols;
+    bars::first_barred(n, barred, columns)
+}
+
+// The rows that are reached from it.
+fn rows_shown(n: usize, bars: &[u64; 64], cols: &[u32; 64], i: usize) -> u64
+    requires { ⌜ (n ≤ 64) × ((k : ℕ) → k < n → at (now cols) k < n) × (i < n) ⌝ }
+    ensures { λ r. ⌜ r ≡ reachedMask n (now (bars .entry)) (now (cols .entry)) i ⌝ }
+{
+    let barred: &[u64] = bars;
+    let columns: &[u32] = cols;
+    bars::reached::reached_mask(n, barred, columns, i)
+}
+
+// A state that the solver has worked in: its pairs are those of the night, or the first that is barred leads to rows that are shown.
+fn unless_barred(state: State, edition: usize, n: usize, total: i64) -> Settled
+    requires { ⌜ (n ≤ 64) × ((i : ℕ) → i < n → at (state .cols) i < n) ⌝ }
+    ensures { λ r. ⌜ r ≡ unlessBarred n (firstBarred n (state .bars) (state .cols)) (record { reply = Accepted edition n total; state = state }) state ⌝ }
 {
     let costs = state.costs;
+    let bars = state.bars;
+    let cols = state.cols;
+    let rows = state.rows;
+    let row_prices = state.row_prices;
+    let col_prices = state.col_prices;
+    let indices = state.indices;
+    let numbers = state.numbers;
+    let i = first_barred(n, &bars, &cols);
+    if i < n {
+        return blocked(rows_shown(n, &bars, &cols, i));
+    }
+    let state = State {
+        costs,
+        bars,
+        cols,
+        rows,
+        row_prices,
+        col_prices,
+        indices,
+        numbers,
+    };
+    Settled {
+        reply: Reply::Accepted(edition, n, total),
+        state,
+    }
+}
+
+// The night of side n whose costs stand in the state is solved in it.
+fn solve_night(state: State, edition: usize, n: usize) -> Settled
+    requires { ⌜ n ≤ 64 ⌝ }
+    ensures { λ r. ⌜ r ≡ solvedIn edition n state ⌝ }
+{
+    let costs = state.costs;
+    let bars = state.bars;
     let mut cols = state.cols;
     let mut rows = state.rows;
     let mut row_prices = state.row_prices;
@@ -165,6 +326,7 @@ fn solve_night(state: State, n: usize) -> Settled
         Solved::Paired(night) => {
             let state = State {
                 costs,
+                bars,
                 cols,
                 rows,
                 row_prices,
@@ -172,22 +334,68 @@ fn solve_night(state: State, n: usize) -> Settled
                 indices,
                 numbers,
             };
-            Settled {
-                reply: Reply::Accepted(n, night.total),
-                state,
-            }
+            unless_barred(state, edition, n, night.total)
         }
     }
 }
 
-// A sheet of side n that has passed its tests: its costs are read, and the night is solved.
-fn settle_night(sheet: &[u8], n: usize) -> Settled
-    requires { ⌜ (n ≤ sheetSide) × (4 * (n * n) + 12 ≤ length (now sheet)) ⌝ }
-    ensures { λ r. ⌜ r ≡ settledAs (costsTested n (costsAt (4 * (n * n)) (n * n) (now (sheet .entry)))) ⌝ }
+// Tests 5 and 22, of the first n*n costs and n bars.
+fn night_tested(edition: usize, n: usize, costs: &[i32; 4096], bars: &[u64; 64]) -> Verdict
+    requires { ⌜ n ≤ 64 ⌝ }
+    ensures { λ r. ⌜ r ≡ (costsIn (pos (costMost edition)) (take (n * n) (now (costs .entry))) then barsClear n (now (bars .entry))) ⌝ }
 {
     let count = n * n;
-    let read = read_night(fresh(), sheet, 4 * count, count);
-    solve_night(read, n)
+    let all: &[i32] = costs;
+    let barred: &[u64] = bars;
+    let inside = matrix::tests::costs_in(
+        Verdict::Passed,
+        reading::cost_most(edition),
+        &all[0..count],
+    );
+    bars::tests::bars_clear(inside, n, barred)
+}
+
+// A night that was read into the state is tested, filled and solved.
+fn settle_in(state: State, edition: usize, n: usize) -> Settled
+    requires { ⌜ n ≤ 64 ⌝ }
+    ensures { λ r. ⌜ r ≡ settledIn edition n state ⌝ }
+{
+    let costs = state.costs;
+    let bars = state.bars;
+    let cols = state.cols;
+    let rows = state.rows;
+    let row_prices = state.row_prices;
+    let col_prices = state.col_prices;
+    let indices = state.indices;
+    let numbers = state.numbers;
+    match night_tested(edition, n, &costs, &bars) {
+        Verdict::Fails(refusal) => refused(refusal),
+        Verdict::Passed => {
+            let state = State {
+                costs,
+                bars,
+                cols,
+                rows,
+                row_prices,
+                col_prices,
+                indices,
+                numbers,
+            };
+            solve_night(fill_night(state, n), edition, n)
+        }
+    }
+}
+
+// A sheet of an edition and a side that has passed its tests: its night is read, and settled.
+fn settle_night(sheet: &[u8], edition: usize, n: usize) -> Settled
+    requires { ⌜ (n ≤ sheetSide) × (distanceDue edition n + 12 ≤ length (now sheet)) ⌝ }
+    ensures { λ r. ⌜ r ≡ settledAs (nightTested (laidAt edition n (distanceDue edition n) (now (sheet .entry)))) ⌝ }
+{
+    let count = n * n;
+    let distance = reading::distance_due(edition, n);
+    let read = read_night(fresh(), sheet, distance, count);
+    let barred = read_bars(read, sheet, edition, n);
+    settle_in(barred, edition, n)
 }
 
 // A sheet is read and its night solved, for a slip room of so many bytes.
@@ -196,13 +404,18 @@ pub fn settle(sheet: &[u8], room: usize) -> Settled
 {
     match tests(sheet, room) {
         Verdict::Fails(refusal) => refused(refusal),
-        Verdict::Passed => settle_night(sheet, layout::trailer::side_of(sheet)),
+        Verdict::Passed => settle_night(
+            sheet,
+            layout::trailer::edition_of(sheet),
+            layout::trailer::side_of(sheet),
+        ),
     }
 }
 
 // A slip is written from the first n entries of the arrays.
 fn write_arrays(
     slip: &mut [u8],
+    edition: usize,
     n: usize,
     cols: &[u32; 64],
     row_prices: &[i64; 64],
@@ -210,14 +423,14 @@ fn write_arrays(
     total: i64,
 )
     requires { ⌜ (n ≤ 64) × (slipLength n ≤ length (now slip)) ⌝ }
-    ensures { λ _. ⌜ now (slip .exit) ≡ slipOf 1 n (take n (now (cols .entry))) (take n (now («row_prices» .entry))) (take n (now («col_prices» .entry))) total ++ drop (slipLength n) (now (slip .entry)) ⌝ }
+    ensures { λ _. ⌜ now (slip .exit) ≡ slipOf edition n (take n (now (cols .entry))) (take n (now («row_prices» .entry))) (take n (now («col_prices» .entry))) total ++ drop (slipLength n) (now (slip .entry)) ⌝ }
 {
     let all_cols: &[u32] = cols;
     let all_row_prices: &[i64] = row_prices;
     let all_col_prices: &[i64] = col_prices;
     layout::slip::write_slip(
         slip,
-        1,
+        edition,
         &all_cols[0..n],
         &all_row_prices[0..n],
         &all_col_prices[0..n],
@@ -226,17 +439,18 @@ fn write_arrays(
 }
 
 // The slip of a solved state is written over the front of its room.
-fn write_state(slip: &mut [u8], state: State, n: usize, total: i64)
+fn write_state(slip: &mut [u8], state: State, edition: usize, n: usize, total: i64)
     requires { ⌜ (n ≤ 64) × (slipLength n ≤ length (now slip)) ⌝ }
-    ensures { λ _. ⌜ now (slip .exit) ≡ slipOf 1 n (take n (state .cols)) (take n (state .«row_prices»)) (take n (state .«col_prices»)) total ++ drop (slipLength n) (now (slip .entry)) ⌝ }
+    ensures { λ _. ⌜ now (slip .exit) ≡ slipOf edition n (take n (state .cols)) (take n (state .«row_prices»)) (take n (state .«col_prices»)) total ++ drop (slipLength n) (now (slip .entry)) ⌝ }
 {
     let cols = state.cols;
     let row_prices = state.row_prices;
     let col_prices = state.col_prices;
-    write_arrays(slip, n, &cols, &row_prices, &col_prices, total);
+    write_arrays(slip, edition, n, &cols, &row_prices, &col_prices, total);
 }
 
-// The entry: a sheet's slip is written over the front of its room; 0, or the refusal as number + 256*place.
+// The entry: a sheet's slip is written over the front of its room; 0, or the refusal as number + 256*place. A 20 writes the rows that it
+// shows, as 8 bytes.
 pub fn pair(sheet: &[u8], slip: &mut [u8]) -> u64
     ensures { λ r. ⌜ _≡_ {A = Delivery} (record { number = r; slip = now (slip .exit) }) (pair (now (sheet .entry)) (now (slip .entry))) ⌝ }
 {
@@ -244,9 +458,13 @@ pub fn pair(sheet: &[u8], slip: &mut [u8]) -> u64
     let reply = settled.reply;
     match reply {
         Reply::Refused(refusal) => matrix::refusals::code(refusal),
-        Reply::Accepted(n, total) => {
+        Reply::Blocked(rows) => {
+            layout::value::write_value(slip, 0, 8, rows as usize);
+            matrix::refusals::NO_PAIRING
+        }
+        Reply::Accepted(edition, n, total) => {
             let state = settled.state;
-            write_state(slip, state, n, total);
+            write_state(slip, state, edition, n, total);
             0
         }
     }

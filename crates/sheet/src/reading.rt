@@ -1,12 +1,13 @@
 // A sheet's tests.
 ghost use mathlib.Core.Path.{_≡_};
 ghost use Prim.Native.Nat.{_+_, _≤_};
+ghost use lib.IntN.{pos};
 ghost use lib.ListN.{length};
 ghost use Rattle.lists.specs.Runs.{first};
 ghost use Rattle.layout.specs.Trailers.{distanceOf, sideOf};
 ghost use Rattle.matrix.specs.Limits.{sheetSide};
 ghost use Rattle.matrix.specs.Verdicts.{Passes, _then_};
-ghost use Rattle.sheet.specs.Reading.{sheetMost, noteMost, trailed, pointed, unprintable, unfitAt, unfit, noteFit, roomLong, sheetTests};
+ghost use Rattle.sheet.specs.Reading.{sheetMost, noteMost, trailed, pointed, unprintable, unfitAt, unfit, noteFit, roomLong, sheetTests, unknown, distanceDue, costMost};
 use layout::trailer::distance_of;
 use layout::trailer::edition_of;
 use layout::trailer::side_of;
@@ -30,6 +31,34 @@ fn note_most() -> usize
     4096
 }
 
+// Whether an edition is neither 1 nor 2.
+fn unknown(edition: usize) -> bool
+    ensures { λ r. ⌜ r ≡ unknown edition ⌝ }
+{
+    edition != 1 && edition != 2
+}
+
+// The distance that an edition wants.
+pub fn distance_due(edition: usize, n: usize) -> usize
+    requires { ⌜ n ≤ sheetSide ⌝ }
+    ensures { λ r. ⌜ r ≡ distanceDue edition n ⌝ }
+{
+    if edition == 2 {
+        return 4 * (n * n) + 8 * n;
+    }
+    4 * (n * n)
+}
+
+// The limit of an edition's costs.
+pub fn cost_most(edition: usize) -> i64
+    ensures { λ r. ⌜ r ≡ pos (costMost edition) ⌝ }
+{
+    if edition == 2 {
+        return bars::tests::barred_most();
+    }
+    matrix::limits::bound()
+}
+
 // Tests 17, 11, 12, 13. The mark is "MTCH", the lowest byte first.
 fn trailed(sheet: &[u8]) -> Verdict
     ensures { λ r. ⌜ r ≡ trailed (now (sheet .entry)) ⌝ }
@@ -40,7 +69,7 @@ fn trailed(sheet: &[u8]) -> Verdict
     if unmarked(sheet, 0x4843_544D) {
         return fails_if(true, refusals::NO_MARK, 0);
     }
-    if edition_of(sheet) != 1 {
+    if unknown(edition_of(sheet)) {
         return fails_if(true, refusals::EDITION_UNKNOWN, 0);
     }
     fails_if(sheet_side() < side_of(sheet), refusals::SHEET_SIDE_OVER, 0)
@@ -59,7 +88,7 @@ fn pointed(before: Verdict, sheet: &[u8]) -> Verdict
     }
     let side = side_of(sheet);
     let distance = distance_of(sheet);
-    if distance != 4 * (side * side) {
+    if distance != distance_due(edition_of(sheet), side) {
         return fails_if(true, refusals::DISTANCE_WRONG, 0);
     }
     fails_if(

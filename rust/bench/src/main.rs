@@ -93,7 +93,7 @@ impl Times {
                 return Err(String::from("the checker's total is another one"));
             }
             let same = |(columns, _): oracle::Pairing| {
-                columns.iter().zip(&matrix.columns).all(|(&a, &b)| a == b as usize)
+                columns.iter().zip(&matrix.lists.columns).all(|(&a, &b)| a == b as usize)
             };
             if !pairing.is_none_or(same) {
                 return Err(String::from("the crate and the archive pair differently"));

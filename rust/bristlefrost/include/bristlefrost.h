@@ -15,11 +15,12 @@
  * Nothing is kept after the call returns. Nothing else is asked: any side, length and number is answered.
  *
  * A refusal is 0 where the input was accepted, else number + 256*place:
- *    1  side over 4,096                                             place 0
+ *    1  side over 4,096; with bars over 64                          place 0
  *    2  not exactly n*n costs                                       0
  *    3  an output or list shorter than n (cost: longer than n)      the first such, by its number
  *    4  work room too short                                         1 indices, 2 numbers
- *    5  a cost outside -1,000,000,000..1,000,000,000                the first, i*n+j
+ *    5  a cost outside -1,000,000,000..1,000,000,000;               the first, i*n+j
+ *       with bars outside -1,000,000..1,000,000
  *    6  a listed column is not below n                              the first row
  *       repair: before that, the row number is not below n          n
  *    7  the column of a row does not name that row back             the first row
@@ -27,9 +28,9 @@
  *    9  row price + column price over the cost                      the first i*n+j
  *   10  on a paired place that sum is not the cost                  the first row
  *   11  sheet under 12 bytes, or wrong mark                         0
- *   12  edition not 1                                               0
+ *   12  edition neither 1 nor 2                                     0
  *   13  sheet side over 64                                          0
- *   14  distance not 4*n*n                                          0
+ *   14  distance not 4*n*n, in edition 2 not 4*n*n+8*n              0
  *   15  distance exceeds the bytes before the trailer               0
  *   16  slip room under 18n+20, or sheet room under 4*n*n+12        0
  *   17  sheet over 65,536 bytes                                     0
@@ -37,14 +38,17 @@
  *       lists of references are unequal, or not of whole ones       0
  *   19  a character is not from 0-9 and A-Z                         the first, from 0 counted on over both references;
  *                                                                   in lists 24 times the reference's number more
+ *   20  no pairing is without a barred pair                         0
  *   21  a note (all bytes before the first cost) over 4,096 bytes,  the first such position, 4,096 for a longer note
  *       or with a byte outside 32 to 126                            whose first 4,096 bytes are good
+ *   22  a row's bars have a bit set from n up                       the first row
  *   24  a price outside -7,000,000,000..7,000,000,000               as for 8
+ *   26  a row's column is barred to it                              the first row
  *   28  a piece or an end after the end of a sheet in pieces        0
- * Lists are numbered 1 columns by row, 2 rows by column, 3 row prices, 4 column prices. A refusal has total 0
- * and counts 0 and changes nothing that was lent, but for the state of a sheet in pieces (below). With 9 and 10
- * comes the slack of the place named, its cost minus both its prices: below 0 with a 9, above 0 with a 10. All
- * others have slack 0. */
+ * Lists are numbered 1 columns by row, 2 rows by column, 3 row prices, 4 column prices, 5 bars. A refusal has total 0
+ * and counts 0 and changes nothing that was lent, but for the state of a sheet in pieces (below) and, with 20, the first
+ * 8 bytes of the slip's room. With 9 and 10 comes the slack of the place named, its cost minus both its prices: below 0
+ * with a 9, above 0 with a 10. All others have slack 0. */
 
 #ifndef BRISTLEFROST_H
 #define BRISTLEFROST_H
@@ -77,8 +81,11 @@ enum {
     BRISTLEFROST_SHEET_OVER = 17,
     BRISTLEFROST_REFERENCE_LENGTH = 18,
     BRISTLEFROST_CHARACTER_UNKNOWN = 19,
+    BRISTLEFROST_NO_PAIRING = 20,
     BRISTLEFROST_NOTE_UNFIT = 21,
+    BRISTLEFROST_BARS_PAST_SIDE = 22,
     BRISTLEFROST_PRICE_FAR = 24,
+    BRISTLEFROST_BARRED_PAIR = 26,
     BRISTLEFROST_SHEET_ENDED = 28
 };
 
@@ -130,6 +137,18 @@ bristlefrost_checked bristlefrost_check(
     const int64_t *row_prices, size_t row_prices_len,
     const int64_t *col_prices, size_t col_prices_len);
 
+/* The same for a night with bars: for each row a number whose bit j is set where column j is barred; bits from n up are
+ * clear. n is at most 64, and costs lie within -1,000,000..1,000,000. Accepted means that no pair is barred, and that no
+ * pairing without a barred pair has a lower total: 9 leaves barred places out. Refusals 1 2 3 5 22 6 7 26 8 9 10. */
+bristlefrost_checked bristlefrost_check_barred(
+    size_t n,
+    const int32_t *costs, size_t costs_len,
+    const uint32_t *cols, size_t cols_len,
+    const uint32_t *rows, size_t rows_len,
+    const int64_t *row_prices, size_t row_prices_len,
+    const int64_t *col_prices, size_t col_prices_len,
+    const uint64_t *bars, size_t bars_len);
+
 /* The total over a list of at most n columns: the column of row 0, of row 1, and so on. Refusals 1 2 3 5 6. */
 bristlefrost_total bristlefrost_cost(
     size_t n,
@@ -153,12 +172,19 @@ bristlefrost_checked bristlefrost_repair(
     int64_t *numbers, size_t numbers_len);
 
 /* Reads a sheet and writes its slip of 18n+20 bytes, where n is the sheet's side, at most 64; later bytes of the
- * slip's room are untouched. Answers 0, or number + 256*place. Refusals 17 11 12 13 14 15 16 5.
+ * slip's room are untouched. Answers 0, or number + 256*place. Refusals 17 11 12 13 14 15 21 16 5 22 20.
  *
- * A sheet is any note, the n*n costs (4 bytes each) and a trailer: the distance from the trailer back to the first
- * cost, 4*n*n (4 bytes), the side (2), the edition, 1 (2), and MTCH. A slip is the columns by row (2 bytes each), row
- * prices and column prices (8 each), the total (8) and such a trailer, with the distance 18n+8 and SLIP. All numbers
- * are little-endian. */
+ * A sheet is a note for people, the n*n costs (4 bytes each) and a trailer: the distance from the trailer back to the
+ * first cost, 4*n*n (4 bytes), the side (2), the edition, 1 (2), and MTCH. A slip is the columns by row (2 bytes each),
+ * row prices and column prices (8 each), the total (8) and such a trailer, with the distance 18n+8, the sheet's edition
+ * and SLIP. All numbers are little-endian.
+ *
+ * In edition 2 bars stand between costs and trailer, for each row a number (8 bytes) whose bit j is set where column j
+ * is barred; bits from n up are clear. The distance is 4*n*n+8*n, and all costs, barred ones too, lie within
+ * -1,000,000..1,000,000. The total is the least of the pairings without a barred pair, and the prices are those of the
+ * same costs with 1,000,000,000 on barred places. Where there is no such pairing, 20 is given and the first 8 bytes of
+ * the slip's room are a number whose bits are a set of rows: the columns allowed to any of them are fewer than they
+ * are. It is the one refusal that writes. */
 uint64_t bristlefrost_sheet(
     const uint8_t *sheet, size_t sheet_len,
     uint8_t *slip, size_t slip_len);

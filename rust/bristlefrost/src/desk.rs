@@ -4,7 +4,7 @@ use std::fmt;
 
 use paper::{Sheet, Slip};
 
-use crate::{check, sheet, Refusal};
+use crate::{check, check_barred, sheet, Refusal};
 
 /// Pairs the night of a sheet.
 ///
@@ -14,6 +14,16 @@ use crate::{check, sheet, Refusal};
 /// let night = Sheet::new(3, &[3, 1, 0, 0, 0, 2, 4, 1, 0])?.noted(b"three guests")?;
 /// let slip = pair(&night)?;
 /// assert_eq!((slip.columns, slip.total), (vec![2, 0, 1], 1));
+///
+/// // The same night, with row 0 and column 2 barred; and with column 1 barred to rows 0 and 2 too.
+/// let night = night.bar(0, 2)?;
+/// let slip = pair(&night)?;
+/// assert_eq!((slip.edition, slip.columns, slip.total), (2, vec![1, 0, 2], 1));
+/// let night = night.bar(0, 1)?.bar(2, 1)?.bar(2, 2)?;
+/// let refused = pair(&night).unwrap_err();
+/// assert_eq!(refused, bristlefrost::Refusal::NoPairing { rows: 0b101 });
+/// let said = "refused 20 place 0: no pairing is without a barred pair; too few columns are allowed to rows 0 2";
+/// assert_eq!(refused.to_string(), said);
 /// # Ok::<(), Box<dyn std::error::Error>>(())
 /// ```
 pub fn pair(night: &Sheet) -> Result<Slip, Refusal> {
@@ -24,6 +34,8 @@ pub fn pair(night: &Sheet) -> Result<Slip, Refusal> {
 /// Why a slip does not show the least total of its sheet.
 #[derive(Clone, Debug, PartialEq, Eq)]
 pub enum Doubt {
+    /// The slip is of another edition than the sheet.
+    Edition,
     /// The slip's lists are not as long as the sheet's side.
     Side,
     /// The checker refuses the pairing or its prices.
@@ -35,6 +47,7 @@ pub enum Doubt {
 impl fmt::Display for Doubt {
     fn fmt(&self, out: &mut fmt::Formatter<'_>) -> fmt::Result {
         match self {
+            Doubt::Edition => write!(out, "the slip is of another edition than the sheet"),
             Doubt::Side => write!(out, "the slip is of another side than the sheet"),
             Doubt::Refused(refusal) => write!(out, "{refusal}"),
             Doubt::Total(total) => write!(out, "the pairing's total is {total}, not the slip's"),
@@ -44,8 +57,8 @@ impl fmt::Display for Doubt {
 
 impl std::error::Error for Doubt {}
 
-/// Holds a slip against its sheet, whoever wrote it: that its columns pair the night, that no pairing has a lower
-/// total, and that its total is the one stated. The solver is not run.
+/// Holds a slip against its sheet, whoever wrote it: that its columns pair the night without a barred pair, that no such
+/// pairing has a lower total, and that its total is the one stated. The solver is not run.
 ///
 /// ```
 /// use bristlefrost::{audit, pair, Doubt, Refusal, Sheet, Slip};
@@ -62,9 +75,19 @@ impl std::error::Error for Doubt {}
 /// let doubt = audit(&night, &crossed).unwrap_err();
 /// assert_eq!(doubt, Doubt::Refused(Refusal::PricesNotCost { row: 0, slack: 8 }));
 /// assert!(doubt.to_string().ends_with("; row 0: 8 below its cost"));
+///
+/// let barred = night.bar(0, 0)?;
+/// let crossed = pair(&barred)?;
+/// assert_eq!(audit(&barred, &crossed), Ok(()));
+/// assert_eq!(audit(&Sheet::new(2, &[1, 5, 6, 2])?, &crossed), Err(Doubt::Edition));
+/// let made = Slip { columns: vec![0, 1], ..crossed };
+/// assert_eq!(audit(&barred, &made), Err(Doubt::Refused(Refusal::BarredPair { row: 0 })));
 /// # Ok::<(), Box<dyn std::error::Error>>(())
 /// ```
 pub fn audit(night: &Sheet, slip: &Slip) -> Result<(), Doubt> {
+    if slip.edition != night.edition() {
+        return Err(Doubt::Edition);
+    }
     let side = night.side();
     let columns: Vec<u32> = slip.columns.iter().map(|&column| column.into()).collect();
     if [columns.len(), slip.row_prices.len(), slip.column_prices.len()] != [side; 3] {
@@ -77,7 +100,12 @@ pub fn audit(night: &Sheet, slip: &Slip) -> Result<(), Doubt> {
             *named = row as u32;
         }
     }
-    match check(side, night.costs(), &columns, &rows, &slip.row_prices, &slip.column_prices) {
+    let (costs, u, v) = (night.costs(), &slip.row_prices, &slip.column_prices);
+    let checked = match night.bars() {
+        None => check(side, costs, &columns, &rows, u, v),
+        Some(bars) => check_barred(side, costs, &columns, &rows, u, v, bars),
+    };
+    match checked {
         Err(refusal) => Err(Doubt::Refused(refusal)),
         Ok(total) if total != slip.total => Err(Doubt::Total(total)),
         Ok(_) => Ok(()),

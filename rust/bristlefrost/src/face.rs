@@ -62,6 +62,22 @@ extern "C" {
         col_prices_len: usize,
     ) -> Checked;
 
+    fn bristlefrost_check_barred(
+        n: usize,
+        costs: *const i32,
+        costs_len: usize,
+        cols: *const u32,
+        cols_len: usize,
+        rows: *const u32,
+        rows_len: usize,
+        row_prices: *const i64,
+        row_prices_len: usize,
+        col_prices: *const i64,
+        col_prices_len: usize,
+        bars: *const u64,
+        bars_len: usize,
+    ) -> Checked;
+
     fn bristlefrost_cost(
         n: usize,
         costs: *const i32,
@@ -154,6 +170,35 @@ pub fn check(
             row_prices.len(),
             column_prices.as_ptr(),
             column_prices.len(),
+        )
+    }
+}
+
+pub fn check_barred(
+    n: usize,
+    costs: &[i32],
+    columns: &[u32],
+    rows: &[u32],
+    row_prices: &[i64],
+    column_prices: &[i64],
+    bars: &[u64],
+) -> Checked {
+    // Safety: every pointer and length come from one slice, and nothing is written.
+    unsafe {
+        bristlefrost_check_barred(
+            n,
+            costs.as_ptr(),
+            costs.len(),
+            columns.as_ptr(),
+            columns.len(),
+            rows.as_ptr(),
+            rows.len(),
+            row_prices.as_ptr(),
+            row_prices.len(),
+            column_prices.as_ptr(),
+            column_prices.len(),
+            bars.as_ptr(),
+            bars.len(),
         )
     }
 }

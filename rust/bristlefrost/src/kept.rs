@@ -1,6 +1,6 @@
 //! A paired night that is kept with its costs, so that it can be repaired where one row's change.
 
-use crate::{repair_into, solve_into, Lent, Refusal, LARGEST_SIDE};
+use crate::{repair_into, solve_into, Lists, Refusal};
 
 /// A paired night with its costs. Where the costs of one row change it is repaired with one search, and where its
 /// prices have gone too far for that, it is solved afresh.
@@ -22,13 +22,8 @@ use crate::{repair_into, solve_into, Lent, Refusal, LARGEST_SIDE};
 pub struct KeptNight {
     side: usize,
     costs: Vec<i32>,
-    columns: Vec<u32>,
-    rows: Vec<u32>,
-    row_prices: Vec<i64>,
-    column_prices: Vec<i64>,
+    lists: Lists,
     total: i64,
-    indices: Vec<u32>,
-    numbers: Vec<i64>,
 }
 
 /// How a changed night was paired.
@@ -43,19 +38,7 @@ pub enum Change {
 impl KeptNight {
     /// Pairs a night and keeps it.
     pub fn new(side: usize, costs: &[i32]) -> Result<Self, Refusal> {
-        // A side over the limit is refused before any list is looked at.
-        let room = if side <= LARGEST_SIDE { side } else { 0 };
-        let mut night = KeptNight {
-            side,
-            costs: costs.to_vec(),
-            columns: vec![0; room],
-            rows: vec![0; room],
-            row_prices: vec![0; room],
-            column_prices: vec![0; room],
-            total: 0,
-            indices: vec![0; 4 * room],
-            numbers: vec![0; room],
-        };
+        let mut night = KeptNight { side, costs: costs.to_vec(), lists: Lists::new(side), total: 0 };
         night.solve()?;
         Ok(night)
     }
@@ -82,29 +65,13 @@ impl KeptNight {
         changed
     }
 
-    fn lent(&mut self) -> (&[i32], Lent<'_>) {
-        let lent = Lent {
-            columns: &mut self.columns,
-            rows: &mut self.rows,
-            row_prices: &mut self.row_prices,
-            column_prices: &mut self.column_prices,
-            indices: &mut self.indices,
-            numbers: &mut self.numbers,
-        };
-        (&self.costs, lent)
-    }
-
     fn solve(&mut self) -> Result<(), Refusal> {
-        let side = self.side;
-        let (costs, lent) = self.lent();
-        self.total = solve_into(side, costs, lent)?.total;
+        self.total = solve_into(self.side, &self.costs, self.lists.lent())?.total;
         Ok(())
     }
 
     fn repair(&mut self, row: usize) -> Result<(), Refusal> {
-        let side = self.side;
-        let (costs, lent) = self.lent();
-        self.total = repair_into(side, costs, row, lent)?;
+        self.total = repair_into(self.side, &self.costs, row, self.lists.lent())?;
         Ok(())
     }
 
@@ -120,22 +87,22 @@ impl KeptNight {
 
     /// The column of each row.
     pub fn columns(&self) -> &[u32] {
-        &self.columns
+        &self.lists.columns
     }
 
     /// The row of each column.
     pub fn rows(&self) -> &[u32] {
-        &self.rows
+        &self.lists.rows
     }
 
     /// The price of each row: row price + column price is at most the cost everywhere, and equal to it on each pair.
     pub fn row_prices(&self) -> &[i64] {
-        &self.row_prices
+        &self.lists.row_prices
     }
 
     /// The price of each column.
     pub fn column_prices(&self) -> &[i64] {
-        &self.column_prices
+        &self.lists.column_prices
     }
 
     /// The total cost of the pairs; no pairing has a lower one.

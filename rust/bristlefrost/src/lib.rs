@@ -31,7 +31,8 @@
 //!
 //! The same on paper: a [`Sheet`] is built from costs or from a table of numbers, [`pair`] answers its [`Slip`], and
 //! [`audit`] holds a slip against its sheet on another machine. [`sheet`] does it on bytes, and [`Pieces`] on bytes that
-//! arrive in pieces.
+//! arrive in pieces. On a sheet pairs can be barred: the total is then the least of the pairings without a barred pair,
+//! and where there is none, [`Refusal::NoPairing`] shows rows that have too few columns.
 
 #![warn(missing_docs)]
 
@@ -44,7 +45,7 @@ mod refusal;
 
 pub use desk::{audit, pair, Doubt};
 pub use kept::{Change, KeptNight};
-pub use paper::{references, Sheet, Slip, Unfit, BARRED};
+pub use paper::{references, Sheet, Slip, Unfit, LARGEST_BARRED_COST, LARGEST_COST};
 pub use pieces::Pieces;
 pub use refusal::{List, Refusal, Room};
 
@@ -56,9 +57,6 @@ pub const LARGEST_SHEET_SIDE: usize = paper::LARGEST_SIDE;
 
 /// The most bytes that a sheet has.
 pub const LONGEST_SHEET: usize = 65_536;
-
-/// The largest cost; the lowest is -LARGEST_COST.
-pub const LARGEST_COST: i32 = BARRED;
 
 /// The total of an accepted night, and how the solver came to it.
 #[derive(Clone, Copy, Debug, PartialEq, Eq)]
@@ -110,6 +108,60 @@ pub struct Lent<'a> {
     pub numbers: &'a mut [i64],
 }
 
+/// The six lists that [`solve_into`] and [`repair_into`] are lent, by one who owns them.
+///
+/// ```
+/// use bristlefrost::{solve_into, Lists};
+///
+/// let mut lists = Lists::new(2);
+/// assert_eq!(solve_into(2, &[1, 5, 6, 2], lists.lent())?.total, 3);
+/// assert_eq!(lists.columns, [0, 1]);
+/// # Ok::<(), bristlefrost::Refusal>(())
+/// ```
+#[derive(Clone, Debug, Default, PartialEq, Eq)]
+pub struct Lists {
+    /// The column of each row.
+    pub columns: Vec<u32>,
+    /// The row of each column.
+    pub rows: Vec<u32>,
+    /// The price of each row.
+    pub row_prices: Vec<i64>,
+    /// The price of each column.
+    pub column_prices: Vec<i64>,
+    /// Work room.
+    pub indices: Vec<u32>,
+    /// Work room.
+    pub numbers: Vec<i64>,
+}
+
+impl Lists {
+    /// As long as a side wants them, and all 0. A side over the limit, which is refused before any list is looked at,
+    /// gets none.
+    pub fn new(side: usize) -> Self {
+        let room = if side <= LARGEST_SIDE { side } else { 0 };
+        Lists {
+            columns: vec![0; room],
+            rows: vec![0; room],
+            row_prices: vec![0; room],
+            column_prices: vec![0; room],
+            indices: vec![0; 4 * room],
+            numbers: vec![0; room],
+        }
+    }
+
+    /// The lists, lent.
+    pub fn lent(&mut self) -> Lent<'_> {
+        Lent {
+            columns: &mut self.columns,
+            rows: &mut self.rows,
+            row_prices: &mut self.row_prices,
+            column_prices: &mut self.column_prices,
+            indices: &mut self.indices,
+            numbers: &mut self.numbers,
+        }
+    }
+}
+
 /// Pairs a night.
 ///
 /// ```
@@ -124,20 +176,9 @@ pub struct Lent<'a> {
 /// # Ok::<(), Refusal>(())
 /// ```
 pub fn solve(side: usize, costs: &[i32]) -> Result<Night, Refusal> {
-    // A side over the limit is refused before any list is looked at.
-    let room = if side <= LARGEST_SIDE { side } else { 0 };
-    let (mut columns, mut rows) = (vec![0; room], vec![0; room]);
-    let (mut row_prices, mut column_prices) = (vec![0; room], vec![0; room]);
-    let (mut indices, mut numbers) = (vec![0; 4 * room], vec![0; room]);
-    let lent = Lent {
-        columns: &mut columns,
-        rows: &mut rows,
-        row_prices: &mut row_prices,
-        column_prices: &mut column_prices,
-        indices: &mut indices,
-        numbers: &mut numbers,
-    };
-    let paired = solve_into(side, costs, lent)?;
+    let mut lists = Lists::new(side);
+    let paired = solve_into(side, costs, lists.lent())?;
+    let Lists { columns, rows, row_prices, column_prices, .. } = lists;
     Ok(Night { columns, rows, row_prices, column_prices, paired })
 }
 
@@ -245,6 +286,35 @@ pub fn check(
     Ok(answer.total)
 }
 
+/// As [`check`], for a night with bars, of a side to 64 and costs within -1,000,000..1,000,000: for each row a number
+/// whose bit j is set where column j is barred. Accepted means that no pair is barred and that no pairing without a barred
+/// pair has a lower total; the prices of a barred place may be over its cost.
+///
+/// ```
+/// use bristlefrost::{check_barred, Refusal};
+///
+/// let costs = [1, 5, 6, 2];
+/// assert_eq!(check_barred(2, &costs, &[1, 0], &[1, 0], &[5, 6], &[0, 0], &[0b01, 0b10]), Ok(11));
+///
+/// let refused = check_barred(2, &costs, &[0, 1], &[0, 1], &[1, 2], &[0, 0], &[0b01, 0b10]);
+/// assert_eq!(refused, Err(Refusal::BarredPair { row: 0 }));
+/// let refused = check_barred(2, &costs, &[1, 0], &[1, 0], &[5, 6], &[0, 0], &[0b01, 0b100]);
+/// assert_eq!(refused, Err(Refusal::BarsPastSide { row: 1 }));
+/// ```
+pub fn check_barred(
+    side: usize,
+    costs: &[i32],
+    columns: &[u32],
+    rows: &[u32],
+    row_prices: &[i64],
+    column_prices: &[i64],
+    bars: &[u64],
+) -> Result<i64, Refusal> {
+    let answer = face::check_barred(side, costs, columns, rows, row_prices, column_prices, bars);
+    Refusal::read(answer.refusal, answer.slack)?;
+    Ok(answer.total)
+}
+
 /// The total over a list of columns: of row 0, of row 1, and so on, at most as many as the side. A column may be
 /// listed twice.
 ///
@@ -293,8 +363,8 @@ fn side_of(sheet: &[u8]) -> usize {
     usize::from(u16::from_le_bytes([side[0], side[1]]))
 }
 
-/// Pairs a sheet's bytes and writes its slip's, as many as [`slip_length`] says; later bytes are untouched, and a
-/// refusal changes nothing.
+/// Pairs a sheet's bytes and writes its slip's, as many as [`slip_length`] says; later bytes are untouched. A refusal
+/// changes nothing, but [`Refusal::NoPairing`]: its rows are written over the first 8 bytes.
 ///
 /// ```
 /// let sheet = [7, 0, 0, 0, 4, 0, 0, 0, 1, 0, 1, 0, 0x4D, 0x54, 0x43, 0x48];
@@ -305,7 +375,7 @@ fn side_of(sheet: &[u8]) -> usize {
 /// assert_eq!(slip[34..], [0x53, 0x4C, 0x49, 0x50, 9, 9]);
 /// ```
 pub fn sheet_into(sheet: &[u8], slip: &mut [u8]) -> Result<(), Refusal> {
-    Refusal::read(face::sheet(sheet, slip), 0)
+    Refusal::read_sheet(face::sheet(sheet, slip), slip)
 }
 
 /// The score of two references of 12 characters from 0-9 and A-Z: 0 where they are equal, 2 for a look-alike (0/O, 1/I,

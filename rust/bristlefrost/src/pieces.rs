@@ -65,7 +65,7 @@ impl Pieces {
 
     /// Ends the sheet and writes its slip, as [`sheet_into`](crate::sheet_into) does.
     pub fn end_into(&mut self, slip: &mut [u8]) -> Result<(), Refusal> {
-        Refusal::read(face::end(&self.bytes, &mut self.state, slip), 0)
+        Refusal::read_sheet(face::end(&self.bytes, &mut self.state, slip), slip)
     }
 
     /// Back to the fresh state.

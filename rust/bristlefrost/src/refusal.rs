@@ -13,6 +13,8 @@ pub enum List {
     RowPrices,
     /// 4: the price of each column.
     ColumnPrices,
+    /// 5: the columns barred to each row.
+    Bars,
 }
 
 /// A work room, by its number.
@@ -24,12 +26,13 @@ pub enum Room {
     Numbers,
 }
 
-/// Why an input was refused, by number. Nothing that was lent has changed; only [`Pieces`](crate::Pieces) remember
-/// it. A place of a cost is row * side + column.
+/// Why an input was refused, by number. Nothing that was lent has changed, but for the slip's room with
+/// [`NoPairing`](Refusal::NoPairing); only [`Pieces`](crate::Pieces) remember it. A place of a cost is row * side +
+/// column.
 #[derive(Clone, Copy, Debug, PartialEq, Eq)]
 #[non_exhaustive]
 pub enum Refusal {
-    /// 1: the side is over 4,096.
+    /// 1: the side is over 4,096; with bars over 64.
     SideOver,
     /// 2: there are not exactly side * side costs.
     CostsLength,
@@ -37,7 +40,7 @@ pub enum Refusal {
     ListLength(List),
     /// 4: a work room is too short; the first such.
     RoomShort(Room),
-    /// 5: a cost lies outside -1,000,000,000..1,000,000,000.
+    /// 5: a cost lies outside -1,000,000,000..1,000,000,000; with bars, outside -1,000,000..1,000,000.
     CostOutside {
         /// The first such cost.
         place: u64,
@@ -73,11 +76,11 @@ pub enum Refusal {
     },
     /// 11: the sheet has under 12 bytes, or a wrong mark.
     NoMark,
-    /// 12: the sheet's edition is not 1.
+    /// 12: the sheet's edition is neither 1 nor 2.
     EditionUnknown,
     /// 13: the sheet's side is over 64.
     SheetSideOver,
-    /// 14: the sheet's distance is not 4 * side * side.
+    /// 14: the sheet's distance is not 4 * side * side, or in edition 2 8 * side more.
     DistanceWrong,
     /// 15: the sheet's distance exceeds the bytes before the trailer.
     DistancePastBytes,
@@ -96,15 +99,30 @@ pub enum Refusal {
         /// reference's number are added.
         place: u64,
     },
+    /// 20: no pairing of the sheet is without a barred pair.
+    NoPairing {
+        /// Rows that show it, bit i for row i: the columns allowed to any of them are fewer than they are.
+        rows: u64,
+    },
     /// 21: the sheet's note, all bytes before its first cost, is over 4,096 bytes or has one outside 32 to 126.
     NoteUnfit {
         /// The first such position, 4,096 for a longer note whose first 4,096 bytes are good.
         place: u64,
     },
+    /// 22: a row's bars have a bit set from the side up.
+    BarsPastSide {
+        /// The first such row.
+        row: u64,
+    },
     /// 24: a price lies outside -7,000,000,000..7,000,000,000, so that a repair could take it too far: solve afresh.
     PriceFar {
         /// The first such price: a row's number, or side + a column's number.
         place: u64,
+    },
+    /// 26: a row has a column that is barred to it.
+    BarredPair {
+        /// The first such row.
+        row: u64,
     },
     /// 28: the sheet in [`Pieces`](crate::Pieces) has ended.
     SheetEnded,
@@ -129,6 +147,7 @@ impl Refusal {
             (3, 2) => Refusal::ListLength(List::Rows),
             (3, 3) => Refusal::ListLength(List::RowPrices),
             (3, 4) => Refusal::ListLength(List::ColumnPrices),
+            (3, 5) => Refusal::ListLength(List::Bars),
             (4, 1) => Refusal::RoomShort(Room::Indices),
             (4, 2) => Refusal::RoomShort(Room::Numbers),
             (5, _) => Refusal::CostOutside { place },
@@ -146,12 +165,25 @@ impl Refusal {
             (17, 0) => Refusal::SheetOver,
             (18, 0..=2) => Refusal::ReferenceLength { reference: place },
             (19, _) => Refusal::CharacterUnknown { place },
+            (20, 0) => Refusal::NoPairing { rows: 0 },
             (21, _) => Refusal::NoteUnfit { place },
+            (22, _) => Refusal::BarsPastSide { row: place },
             (24, _) => Refusal::PriceFar { place },
+            (26, _) => Refusal::BarredPair { row: place },
             (28, 0) => Refusal::SheetEnded,
             _ => Refusal::Other { number, place },
         };
         Err(refusal)
+    }
+
+    /// Reads the archive's answer to a sheet: with 20 the slip's room begins with the rows that show it.
+    pub(crate) fn read_sheet(code: u64, slip: &[u8]) -> Result<(), Refusal> {
+        match (Refusal::read(code, 0), slip.first_chunk()) {
+            (Err(Refusal::NoPairing { .. }), Some(&rows)) => {
+                Err(Refusal::NoPairing { rows: u64::from_le_bytes(rows) })
+            }
+            (answer, _) => answer,
+        }
     }
 
     /// The refusal's number.
@@ -176,8 +208,11 @@ impl Refusal {
             Refusal::SheetOver => 17,
             Refusal::ReferenceLength { .. } => 18,
             Refusal::CharacterUnknown { .. } => 19,
+            Refusal::NoPairing { .. } => 20,
             Refusal::NoteUnfit { .. } => 21,
+            Refusal::BarsPastSide { .. } => 22,
             Refusal::PriceFar { .. } => 24,
+            Refusal::BarredPair { .. } => 26,
             Refusal::SheetEnded => 28,
             Refusal::Other { number, .. } => number,
         }
@@ -195,9 +230,11 @@ impl Refusal {
             | Refusal::CharacterUnknown { place }
             | Refusal::NoteUnfit { place }
             | Refusal::Other { place, .. } => place,
-            Refusal::ColumnOutside { row } | Refusal::RowNotNamed { row } | Refusal::PricesNotCost { row, .. } => {
-                row
-            }
+            Refusal::ColumnOutside { row }
+            | Refusal::RowNotNamed { row }
+            | Refusal::PricesNotCost { row, .. }
+            | Refusal::BarsPastSide { row }
+            | Refusal::BarredPair { row } => row,
             Refusal::ReferenceLength { reference } => reference,
             _ => 0,
         }
@@ -215,20 +252,22 @@ impl Refusal {
 impl fmt::Display for Refusal {
     fn fmt(&self, out: &mut fmt::Formatter<'_>) -> fmt::Result {
         let meaning = match self {
-            Refusal::SideOver => "the side is over 4,096",
+            Refusal::SideOver => "the side is over 4,096, or with bars over 64",
             Refusal::CostsLength => "there are not exactly side * side costs",
             Refusal::ListLength(_) => "a list's length does not fit the side",
             Refusal::RoomShort(_) => "a work room is too short",
-            Refusal::CostOutside { .. } => "a cost lies outside -1,000,000,000..1,000,000,000",
+            Refusal::CostOutside { .. } => {
+                "a cost lies outside -1,000,000,000..1,000,000,000, or with bars outside -1,000,000..1,000,000"
+            }
             Refusal::ColumnOutside { .. } => "a listed column or the row to repair is not below the side",
             Refusal::RowNotNamed { .. } => "the column of a row does not name that row back",
             Refusal::PriceOutside { .. } => "a price lies outside -10,000,000,000..10,000,000,000",
             Refusal::PricesOverCost { .. } => "row price + column price is over the cost",
             Refusal::PricesNotCost { .. } => "on a pair row price + column price is not the cost",
             Refusal::NoMark => "the sheet is under 12 bytes or its mark is wrong",
-            Refusal::EditionUnknown => "the sheet's edition is not 1",
+            Refusal::EditionUnknown => "the sheet's edition is neither 1 nor 2",
             Refusal::SheetSideOver => "the sheet's side is over 64",
-            Refusal::DistanceWrong => "the sheet's distance is not 4 * side * side",
+            Refusal::DistanceWrong => "the sheet's distance is not that of its edition and side",
             Refusal::DistancePastBytes => "the sheet's distance exceeds the bytes before the trailer",
             Refusal::SlipRoomShort => {
                 "the room is under the slip's 18 * side + 20 bytes or the sheet's 4 * side * side + 12"
@@ -238,8 +277,11 @@ impl fmt::Display for Refusal {
                 "a reference is not of 12 characters, or two lists of them do not fit"
             }
             Refusal::CharacterUnknown { .. } => "a character of a reference is not from 0-9 and A-Z",
+            Refusal::NoPairing { .. } => "no pairing is without a barred pair",
             Refusal::NoteUnfit { .. } => "the sheet's note is over 4,096 bytes or has a byte outside 32 to 126",
+            Refusal::BarsPastSide { .. } => "a row's bars have a bit set from the side up",
             Refusal::PriceFar { .. } => "a price lies outside -7,000,000,000..7,000,000,000",
+            Refusal::BarredPair { .. } => "a row has a column that is barred to it",
             Refusal::SheetEnded => "the sheet has ended",
             Refusal::Other { .. } => "a number without a meaning",
         };
@@ -247,6 +289,10 @@ impl fmt::Display for Refusal {
         match *self {
             Refusal::PricesOverCost { place, slack } => write!(out, "; place {place}: {} over its cost", -slack),
             Refusal::PricesNotCost { row, slack } => write!(out, "; row {row}: {slack} below its cost"),
+            Refusal::NoPairing { rows } => {
+                write!(out, "; too few columns are allowed to rows")?;
+                (0..64).filter(|row| rows >> row & 1 == 1).try_for_each(|row| write!(out, " {row}"))
+            }
             _ => Ok(()),
         }
     }

@@ -1,5 +1,5 @@
-/* Document 01's night N8, its sheet of side 1, whole and in pieces, and a score, through the header. Status 0 where
- * every answer is right. */
+/* Document 01's night N8, its sheet of side 1, whole and in pieces, a barred sheet, and a score, through the header.
+ * Status 0 where every answer is right. */
 
 #include <bristlefrost.h>
 
@@ -74,5 +74,30 @@ int main(void) {
         if (other_slip[k] != slip[k]) return 26;
     if (bristlefrost_piece(bytes, state, sheet, 0) != BRISTLEFROST_SHEET_ENDED) return 27;
     if (bristlefrost_end(bytes, state, slip, 38) != BRISTLEFROST_SHEET_ENDED) return 28;
+
+    /* [barred 5 / 6 2]: the pair that costs least is not made. With column 1 barred to both rows there is no pairing. */
+    uint8_t barred[44] = {1, 0, 0, 0, 5, 0, 0, 0, 6, 0, 0, 0, 2};
+    barred[16] = 1, barred[32] = 32, barred[36] = 2, barred[38] = 2;
+    for (int k = 0; k < 4; k++) barred[40 + k] = sheet[12 + k];
+    uint8_t room[57];
+    for (int k = 0; k < 57; k++) room[k] = 9;
+    if (bristlefrost_sheet(barred, 44, room, 57) != 0) return 29;
+    if (room[0] != 1 || room[2] != 0 || room[36] != 11 || room[50] != 2 || room[56] != 9) return 30;
+    const int32_t four[4] = {1, 5, 6, 2};
+    const uint32_t crossed[2] = {1, 0};
+    const int64_t us[2] = {5, 6}, vs[2] = {0, 0};
+    uint64_t bars[2] = {1, 2};
+    checked = bristlefrost_check_barred(2, four, 4, crossed, 2, crossed, 2, us, 2, vs, 2, bars, 2);
+    if (checked.refusal != 0 || checked.total != 11) return 34;
+    bars[1] = 1;
+    checked = bristlefrost_check_barred(2, four, 4, crossed, 2, crossed, 2, us, 2, vs, 2, bars, 2);
+    if (checked.refusal != BRISTLEFROST_BARRED_PAIR + 256 || checked.total != 0) return 35;
+    checked = bristlefrost_check_barred(2, four, 4, crossed, 2, crossed, 2, us, 2, vs, 2, bars, 1);
+    if (checked.refusal != BRISTLEFROST_LIST_LENGTH + 256 * 5) return 36;
+    barred[24] = 4;
+    if (bristlefrost_sheet(barred, 44, room, 57) != BRISTLEFROST_BARS_PAST_SIDE + 256) return 31;
+    barred[16] = 2, barred[24] = 2;
+    if (bristlefrost_sheet(barred, 44, room, 57) != BRISTLEFROST_NO_PAIRING) return 32;
+    if (room[0] != 3 || room[1] != 0 || room[7] != 0 || room[36] != 11 || room[56] != 9) return 33;
     return 0;
 }

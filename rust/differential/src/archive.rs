@@ -3,12 +3,13 @@
 
 use std::collections::BTreeMap;
 
-use bristlefrost::{face, Lent, Paired, Refusal};
+use bristlefrost::{face, Lists, Paired, Refusal};
 
 use crate::checks::{self, expect};
 use crate::nights::Random;
 use crate::rules::{self, Answer};
-use crate::{refusals, scores, sheets, torn, K};
+use crate::sheets::{self, Sheet};
+use crate::{matching, refusals, scores, torn, K};
 
 /// How often each entry answered each number; 0 is acceptance.
 #[derive(Default)]
@@ -20,16 +21,17 @@ impl Met {
     }
 
     /// The numbers that each entry can answer, in its order.
-    const ALL: [(&'static str, &'static [u64]); 9] = [
+    const ALL: [(&'static str, &'static [u64]); 10] = [
         ("solve", &[0, 1, 2, 3, 4, 5]),
         ("check", &[0, 1, 2, 3, 5, 6, 7, 8, 9, 10]),
+        ("check with bars", &[0, 1, 2, 3, 5, 22, 6, 7, 26, 8, 9, 10]),
         ("cost", &[0, 1, 2, 3, 5, 6]),
         ("repair", &[0, 1, 2, 3, 4, 5, 6, 7, 8, 24, 9, 10]),
-        ("sheet", &[0, 17, 11, 12, 13, 14, 15, 21, 16, 5]),
+        ("sheet", &[0, 17, 11, 12, 13, 14, 15, 21, 16, 5, 22, 20]),
         ("score", &[0, 18, 19]),
         ("scores", &[0, 18, 13, 16, 19]),
         ("piece", &[0, 17, 28]),
-        ("end", &[0, 17, 11, 12, 13, 14, 15, 21, 16, 5, 28]),
+        ("end", &[0, 17, 11, 12, 13, 14, 15, 21, 16, 5, 22, 20, 28]),
     ];
 
     /// One line for each entry; an error where a number was never met.
@@ -50,49 +52,25 @@ impl Met {
     }
 }
 
-/// The six lists that the solver and a repair write.
-#[derive(Clone, Debug, PartialEq, Eq)]
-pub struct Lists {
-    pub columns: Vec<u32>,
-    pub rows: Vec<u32>,
-    pub row_prices: Vec<i64>,
-    pub column_prices: Vec<i64>,
-    pub indices: Vec<u32>,
-    pub numbers: Vec<i64>,
+/// Lists of these lengths, full of random entries.
+fn filled(random: &mut Random, lengths: [usize; 6]) -> Lists {
+    let mut small = |length: usize| -> Vec<u32> { (0..length).map(|_| random.number() as u32).collect() };
+    let (columns, rows, indices) = (small(lengths[0]), small(lengths[1]), small(lengths[4]));
+    let mut wide = |length: usize| -> Vec<i64> { (0..length).map(|_| random.number() as i64).collect() };
+    let (row_prices, column_prices, numbers) = (wide(lengths[2]), wide(lengths[3]), wide(lengths[5]));
+    Lists { columns, rows, row_prices, column_prices, indices, numbers }
 }
 
-impl Lists {
-    /// Lists of these lengths, full of random entries.
-    fn new(random: &mut Random, lengths: [usize; 6]) -> Self {
-        let mut small = |length: usize| -> Vec<u32> { (0..length).map(|_| random.number() as u32).collect() };
-        let (columns, rows, indices) = (small(lengths[0]), small(lengths[1]), small(lengths[4]));
-        let mut wide = |length: usize| -> Vec<i64> { (0..length).map(|_| random.number() as i64).collect() };
-        let (row_prices, column_prices, numbers) = (wide(lengths[2]), wide(lengths[3]), wide(lengths[5]));
-        Lists { columns, rows, row_prices, column_prices, indices, numbers }
+/// What document 01 leaves in the lists after acceptance.
+fn hold(lists: &mut Lists, n: usize, answer: &Answer) {
+    for k in 0..n {
+        lists.columns[k] = answer.columns[k] as u32;
+        lists.rows[k] = answer.rows[k] as u32;
     }
-
-    fn lent(&mut self) -> Lent<'_> {
-        Lent {
-            columns: &mut self.columns,
-            rows: &mut self.rows,
-            row_prices: &mut self.row_prices,
-            column_prices: &mut self.column_prices,
-            indices: &mut self.indices,
-            numbers: &mut self.numbers,
-        }
-    }
-
-    /// What document 01 leaves in the lists after acceptance.
-    fn hold(&mut self, n: usize, answer: &Answer) {
-        for k in 0..n {
-            self.columns[k] = answer.columns[k] as u32;
-            self.rows[k] = answer.rows[k] as u32;
-        }
-        self.row_prices[..n].copy_from_slice(&answer.row_prices);
-        self.column_prices[..n].copy_from_slice(&answer.column_prices);
-        self.indices[..4 * n].fill(0);
-        self.numbers[..n].fill(0);
-    }
+    lists.row_prices[..n].copy_from_slice(&answer.row_prices);
+    lists.column_prices[..n].copy_from_slice(&answer.column_prices);
+    lists.indices[..4 * n].fill(0);
+    lists.numbers[..n].fill(0);
 }
 
 /// Random entries behind a list.
@@ -135,7 +113,7 @@ pub fn solve(
     lengths: [usize; 6],
     known: Option<&Answer>,
 ) -> Result<u64, String> {
-    let before = Lists::new(random, lengths);
+    let before = filled(random, lengths);
     let (mut found, mut again, mut right) = (before.clone(), before.clone(), before);
     let (lists, rooms) = ([lengths[0], lengths[1], lengths[2], lengths[3]], [lengths[4], lengths[5]]);
     let solved = face::solve(n, costs, found.lent());
@@ -158,7 +136,7 @@ pub fn solve(
                     &own
                 }
             };
-            right.hold(n, answer);
+            hold(&mut right, n, answer);
             (0, answer.total, answer.counts.six().map(|count| count as u64))
         }
     };
@@ -197,6 +175,20 @@ pub fn check(n: usize, costs: &[i32], lists: &Lists) -> Result<u64, String> {
     Ok(right.0)
 }
 
+/// The same, with bars.
+pub fn check_barred(n: usize, costs: &[i32], lists: &Lists, bars: &[u64]) -> Result<u64, String> {
+    let (columns, rows, u, v) = (&lists.columns, &lists.rows, &lists.row_prices, &lists.column_prices);
+    let answer = refusals::barred_checker(n, costs, columns, rows, u, v, bars);
+    let (slack, right) = (refusals::slack(&answer, n, costs, columns, u, v), told(answer));
+    let found = face::check_barred(n, costs, columns, rows, u, v, bars);
+    expect("check with bars", &(found.refusal, found.total), &right)?;
+    expect("the slack", &found.slack, &slack)?;
+    let again = bristlefrost::check_barred(n, costs, columns, rows, u, v, bars);
+    expect("the wrapper's slack", &again.err().map_or(0, |refusal| refusal.slack()), &slack)?;
+    expect("the wrapper's check with bars", &wrapped(again), &right)?;
+    Ok(right.0)
+}
+
 /// Lends a repair these lists and compares its answer and what stands in them; then the wrapper, with lists like them.
 /// The lists are left as the repair leaves them.
 pub fn repair(n: usize, costs: &[i32], row: usize, lists: &mut Lists) -> Result<u64, String> {
@@ -208,7 +200,7 @@ pub fn repair(n: usize, costs: &[i32], row: usize, lists: &mut Lists) -> Result<
         rules::repair(n, costs, row, &columns, v)
     });
     if let Ok(repaired) = &answer {
-        right.hold(n, repaired);
+        hold(&mut right, n, repaired);
     }
     let answer = answer.map(|repaired| repaired.total);
     let (slack, told) = (refusals::slack(&answer, n, costs, columns, u, v), told(answer));
@@ -235,15 +227,20 @@ pub fn cost(n: usize, costs: &[i32], listed: &[u32]) -> Result<u64, String> {
 pub fn sheet(random: &mut Random, bytes: &[u8], room: usize) -> Result<u64, String> {
     let mut found: Vec<u8> = (0..room).map(|_| random.number() as u8).collect();
     let mut right = found.clone();
-    let code = match refusals::sheet(bytes, room) {
-        Err(refused) => refusals::code(refused),
+    let night = refusals::sheet(bytes, room);
+    let code = match &night {
+        Err(refused) => refusals::code(*refused),
         Ok(night) => {
-            let slip = sheets::slip(night.n, &rules::solve(night.n, &night.costs));
-            right[..slip.len()].copy_from_slice(&slip);
-            0
+            let (written, code) = matching::written(night, &matching::settled(night));
+            right[..written.len()].copy_from_slice(&written);
+            code
         }
     };
     expect("sheet", &face::sheet(bytes, &mut found), &code)?;
+    let rows = found.first_chunk().map_or(0, |&rows| u64::from_le_bytes(rows));
+    if let (20, Ok(Sheet { n, bars, .. })) = (code, &night) {
+        expect("too few columns are allowed to the rows shown", &matching::too_few(*n, bars, rows), &true)?;
+    }
     expect("the slip's room", &found, &right).map_err(|failure| {
         if room <= 400 {
             failure
@@ -252,13 +249,18 @@ pub fn sheet(random: &mut Random, bytes: &[u8], room: usize) -> Result<u64, Stri
         }
     })?;
     let again = bristlefrost::sheet_into(bytes, &mut found).map(|()| 0);
+    if code == 20 {
+        expect("the wrapper's rows", &again, &Err(Refusal::NoPairing { rows }))?;
+    }
     expect("the wrapper's sheet", &wrapped(again), &(code, 0))?;
     let read = bristlefrost::Sheet::read(bytes).ok();
-    expect(
-        "the wrapper's reading",
-        &read.as_ref().map(|sheet| (sheet.side(), sheet.costs().to_vec())),
-        &refusals::sheet(bytes, usize::MAX).ok().map(|night| (night.n, night.costs)),
-    )?;
+    let night = read.as_ref().map(|sheet| Sheet {
+        edition: sheet.edition(),
+        n: sheet.side(),
+        costs: sheet.costs().to_vec(),
+        bars: sheet.bars().map_or(vec![0; sheet.side()], <[u64]>::to_vec),
+    });
+    expect("the wrapper's reading", &night, &refusals::sheet(bytes, usize::MAX).ok())?;
     expect("what is read is written again", &read.is_none_or(|sheet| sheet.bytes() == bytes), &true)?;
     Ok(code)
 }
@@ -300,8 +302,7 @@ pub fn longer(random: &mut Random, answer: &Answer) -> Lists {
         rows: index(&answer.rows),
         row_prices: answer.row_prices.clone(),
         column_prices: answer.column_prices.clone(),
-        indices: Vec::new(),
-        numbers: Vec::new(),
+        ..Lists::default()
     };
     behind(random, &mut lists.columns, |entry| entry as u32);
     behind(random, &mut lists.rows, |entry| entry as u32);
@@ -336,35 +337,91 @@ pub fn night(random: &mut Random, met: &mut Met, n: usize, costs: &[i32], answer
     checks::cost(n, costs, &listed)?;
 
     if n <= 64 {
-        let length = random.below(40);
-        let note = torn::note(random, length);
-        let room = 18 * n + 20 + random.below(4);
-        let code = sheet(random, &sheets::sheet(&note, n, costs), room)?;
-        met.note("sheet", code);
-        paper(&note, n, costs, answer, code)?;
+        paper(random, met, &Sheet::plain(n, costs), Ok(answer))?;
     }
     Ok(())
 }
 
-/// A night through the wrapper's sheet and slip: the sheet's bytes, the slip, and that the slip is accepted; or that the
-/// wrapper makes no sheet with a note that the archive refused.
-fn paper(note: &[u8], n: usize, costs: &[i32], answer: &Answer, code: u64) -> Result<(), String> {
-    let built = bristlefrost::Sheet::new(n, costs).and_then(|sheet| sheet.noted(note));
+/// A night with bars on a sheet.
+pub fn barred(
+    random: &mut Random,
+    met: &mut Met,
+    n: usize,
+    costs: &[i32],
+    bars: &[u64],
+    settled: &Result<Answer, u64>,
+) -> Result<(), String> {
+    if let Ok(answer) = settled {
+        let (lists, mut longer) = (longer(random, answer), bars.to_vec());
+        behind(random, &mut longer, |bits| bits);
+        let code = check_barred(n, costs, &lists, &longer)?;
+        expect("the answer is accepted", &code, &0)?;
+        met.note("check with bars", code);
+    }
+    paper(random, met, &Sheet::barred(n, costs, bars), settled.as_ref().map_err(|&rows| rows))
+}
+
+/// A night on a sheet with some note, and through the wrapper's sheet and slip: the sheet's bytes, the slip, that the
+/// slip is accepted and any other pairing as the checker has it; or that the wrapper makes no sheet with a note that
+/// the archive refused.
+fn paper(random: &mut Random, met: &mut Met, night: &Sheet, settled: Result<&Answer, u64>) -> Result<(), String> {
+    let Sheet { edition, n, costs, bars } = night;
+    let length = random.below(40);
+    let note = torn::note(random, length);
+    let bytes = night.bytes(&note);
+    let room = 18 * n + 20 + random.below(4);
+    let code = sheet(random, &bytes, room)?;
+    met.note("sheet", code);
+
+    let built = bristlefrost::Sheet::new(*n, costs)
+        .and_then(|sheet| if *edition == 2 { sheet.barred(bars) } else { Ok(sheet) })
+        .and_then(|sheet| sheet.noted(&note));
     let unfit = |place: u64| Err(bristlefrost::Unfit::Note { place: place as usize });
     if code % 256 == 21 {
         return expect("the wrapper's sheet with such a note", &built, &unfit(code / 256));
     }
     let built = built.map_err(|unfit| unfit.to_string())?;
-    expect("the wrapper's sheet's bytes", &built.bytes(), &sheets::sheet(note, n, costs))?;
-    let slip = bristlefrost::pair(&built).map_err(|refusal| refusal.to_string())?;
-    let right = bristlefrost::Slip {
+    expect("the wrapper's sheet's bytes", &built.bytes(), &bytes)?;
+    let right = settled.map_err(|rows| Refusal::NoPairing { rows }).map(|answer| bristlefrost::Slip {
+        edition: *edition,
         columns: answer.columns.iter().map(|&column| column as u16).collect(),
         row_prices: answer.row_prices.clone(),
         column_prices: answer.column_prices.clone(),
         total: answer.total,
+    });
+    expect("the wrapper's slip", &bristlefrost::pair(&built), &right)?;
+    let Ok(slip) = right else { return Ok(()) };
+    expect("the slip is accepted", &bristlefrost::audit(&built, &slip), &Ok(()))?;
+    other_pairing(random, night, &built, slip)
+}
+
+/// A slip of another pairing, or of another edition, held against its sheet.
+fn other_pairing(
+    random: &mut Random,
+    night: &Sheet,
+    built: &bristlefrost::Sheet,
+    mut slip: bristlefrost::Slip,
+) -> Result<(), String> {
+    let Sheet { edition, n, costs, bars } = night;
+    let (columns, mut rows) = (random.permutation(*n), vec![0; *n]);
+    columns.iter().enumerate().for_each(|(i, &j)| rows[j] = i as u32);
+    slip.columns = columns.iter().map(|&j| j as u16).collect();
+    let columns: Vec<u32> = columns.iter().map(|&j| j as u32).collect();
+    let (u, v) = (&slip.row_prices, &slip.column_prices);
+    let checked = match edition {
+        2 => refusals::barred_checker(*n, costs, &columns, &rows, u, v, bars),
+        _ => refusals::checker(*n, costs, &columns, &rows, u, v),
     };
-    expect("the wrapper's slip", &slip, &right)?;
-    expect("the slip is accepted", &bristlefrost::audit(&built, &slip), &Ok(()))
+    let right = (refusals::slack(&checked, *n, costs, &columns, u, v), told(checked).0);
+    let found = match bristlefrost::audit(built, &slip) {
+        Err(bristlefrost::Doubt::Refused(refusal)) => (refusal.slack(), number_and_place(refusal)),
+        // Another pairing of the same total.
+        Ok(()) => (0, 0),
+        Err(other) => return Err(format!("another pairing's slip: {other}")),
+    };
+    expect("the audit of another pairing", &found, &right)?;
+    slip.edition = 3 - slip.edition;
+    expect("of another edition", &bristlefrost::audit(built, &slip), &Err(bristlefrost::Doubt::Edition))
 }
 
 fn limit(what: &str, found: u64, right: u64) -> Result<(), String> {
@@ -378,6 +435,15 @@ pub fn limits(random: &mut Random) -> Result<(), String> {
         limit("a cost at its limit", solve(random, 1, &[cost], [1, 1, 1, 1, 4, 1], None)?, code)?;
         limit("a sheet's cost at its limit", sheet(random, &sheets::sheet(&[], 1, &[cost]), 38)?, code)?;
     }
+    for (cost, outside) in
+        [(1_000_000, false), (-1_000_000, false), (1_000_001, true), (-1_000_001, true), (k, true)]
+    {
+        // No place is barred, the only one is, and columns that there are not.
+        for (bits, code) in [(0, 0), (1, 20), (2, 22), (1 << 63, 22), (u64::MAX, 22)] {
+            let bytes = Sheet::barred(1, &[cost], &[bits]).bytes(&[]);
+            limit("a cost beside bars at its limit", sheet(random, &bytes, 38)?, if outside { 5 } else { code })?;
+        }
+    }
 
     const SIDE: usize = refusals::LARGEST_SIDE;
     let full = vec![7; (SIDE + 1) * (SIDE + 1)];
@@ -389,10 +455,10 @@ pub fn limits(random: &mut Random) -> Result<(), String> {
             rows: identity.clone(),
             row_prices: vec![7 - 10 * K; n],
             column_prices: vec![10 * K; n],
-            indices: Vec::new(),
-            numbers: Vec::new(),
+            ..Lists::default()
         };
         limit("checker's side at its limit", check(n, &full[..n * n], &lists)?, code)?;
+        limit("side over that of bars", check_barred(n, &full[..n * n], &lists, &vec![0; n])?, 1)?;
         limit("cost's side at its limit", cost(n, &full[..n * n], &identity)?, code)?;
     }
     let places = SIDE * SIDE;
@@ -418,5 +484,6 @@ pub fn limits(random: &mut Random) -> Result<(), String> {
     }
     limit("an empty sheet", sheet(random, &[], 100)?, 11)?;
     limit("a sheet of side 0", sheet(random, &sheets::sheet(&[], 0, &[]), 20)?, 0)?;
+    limit("one with bars", sheet(random, &Sheet::barred(0, &[], &[]).bytes(&[]), 20)?, 0)?;
     limit("side 0 and a column", cost(0, &[], &[0])?, 3 + 256)
 }

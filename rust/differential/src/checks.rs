@@ -3,7 +3,7 @@
 
 use crate::oracle::Floats;
 use crate::rules::{self, Answer};
-use crate::{refusals, K};
+use crate::{matching, refusals, K};
 
 /// Solves a night by the rules and tests the answer in every way; says what failed.
 pub fn night(n: usize, costs: &[i32]) -> Result<Answer, String> {
@@ -15,6 +15,22 @@ pub fn night(n: usize, costs: &[i32]) -> Result<Answer, String> {
         expect("total against every permutation", &answer.total, &least(n, costs))?;
     }
     Ok(answer)
+}
+
+/// Solves a night with bars by the rules, with K on barred places, and tests the answer in every way: that it is the
+/// crate's, that a barred pair is made only where a matching says that there is no other way, and that the total is then
+/// the least of the pairings without one. Answers it, or the rows that show that there is none.
+pub fn barred(n: usize, costs: &[i32], bars: &[u64]) -> Result<Result<Answer, u64>, String> {
+    let answer = night(n, &matching::filled(n, costs, bars))?;
+    let pairable = matching::pairable(n, bars);
+    if n <= 7 {
+        let least = least_allowed(n, costs, bars);
+        expect("total against every pairing without a barred pair", &pairable.then_some(answer.total), &least)?;
+    }
+    let rows = matching::reached(n, bars, &answer.columns);
+    expect("a barred pair is made exactly if there is no other way", &rows.is_none(), &pairable)?;
+    hold("too few columns are allowed to the rows", rows.is_none_or(|rows| matching::too_few(n, bars, rows)))?;
+    Ok(rows.map_or(Ok(answer), Err))
 }
 
 /// What was found must be what is right.
@@ -92,16 +108,24 @@ pub fn cost(n: usize, costs: &[i32], listed: &[u32]) -> Result<i64, String> {
     Ok(total)
 }
 
-/// Takes the columns so far through all pairings that begin with them, in dictionary order, each with its total.
-fn pairings(n: usize, costs: &[i32], columns: &mut Vec<usize>, total: i64, each: &mut impl FnMut(&[usize], i64)) {
+/// Takes the columns so far through all pairings of allowed pairs that begin with them, in dictionary order, each with
+/// its total.
+fn pairings(
+    n: usize,
+    costs: &[i32],
+    allowed: &impl Fn(usize, usize) -> bool,
+    columns: &mut Vec<usize>,
+    total: i64,
+    each: &mut impl FnMut(&[usize], i64),
+) {
     let i = columns.len();
     if i == n {
         return each(columns, total);
     }
     for j in 0..n {
-        if !columns.contains(&j) {
+        if !columns.contains(&j) && allowed(i, j) {
             columns.push(j);
-            pairings(n, costs, columns, total + i64::from(costs[i * n + j]), each);
+            pairings(n, costs, allowed, columns, total + i64::from(costs[i * n + j]), each);
             columns.pop();
         }
     }
@@ -110,14 +134,24 @@ fn pairings(n: usize, costs: &[i32], columns: &mut Vec<usize>, total: i64, each:
 /// The least total over all permutations.
 pub fn least(n: usize, costs: &[i32]) -> i64 {
     let mut least = i64::MAX;
-    pairings(n, costs, &mut Vec::new(), 0, &mut |_, total| least = least.min(total));
+    pairings(n, costs, &|_, _| true, &mut Vec::new(), 0, &mut |_, total| least = least.min(total));
+    least
+}
+
+/// The least total over all pairings without a barred pair; none where there are none.
+pub fn least_allowed(n: usize, costs: &[i32], bars: &[u64]) -> Option<i64> {
+    let mut least = None;
+    let allowed = |i: usize, j: usize| !matching::barred(bars, i, j);
+    pairings(n, costs, &allowed, &mut Vec::new(), 0, &mut |_, total| {
+        least = Some(least.map_or(total, |least: i64| least.min(total)))
+    });
     least
 }
 
 /// All permutations of the least total, in dictionary order.
 pub fn least_pairings(n: usize, costs: &[i32]) -> Vec<Vec<usize>> {
     let (mut least, mut found) = (i64::MAX, Vec::new());
-    pairings(n, costs, &mut Vec::new(), 0, &mut |columns, total| {
+    pairings(n, costs, &|_, _| true, &mut Vec::new(), 0, &mut |columns, total| {
         if total < least {
             least = total;
             found.clear();

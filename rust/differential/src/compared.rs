@@ -38,6 +38,25 @@ impl Compared {
         Ok(answer)
     }
 
+    /// The answer that all give to a night with bars, or the rows that show that it has no pairing.
+    pub fn barred(
+        &mut self,
+        n: usize,
+        costs: &[i32],
+        bars: &[u64],
+        family: &str,
+    ) -> Result<Result<Answer, u64>, String> {
+        let settled = checks::barred(n, costs, bars).and_then(|settled| {
+            #[cfg(feature = "archive")]
+            archive::barred(&mut self.random, &mut self.met, n, costs, bars, &settled)?;
+            Ok(settled)
+        });
+        settled.map_err(|failure| {
+            let night = if n <= 12 { format!("{costs:?}, bars {bars:?}") } else { String::from("(not shown)") };
+            format!("side {n}, barred: {family}: {failure}\ncosts {night}")
+        })
+    }
+
     /// The answer to a night that may have costs outside -K..K, or its refusal by document 01 and the archive.
     pub fn answered(&mut self, n: usize, costs: &[i32], family: &str) -> Result<Result<Answer, Refused>, String> {
         let lengths = [n, n, n, n, 4 * n, n].map(|length| length + self.random.below(4));

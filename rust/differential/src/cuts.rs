@@ -8,7 +8,8 @@ use bristlefrost::{face, Pieces, Refusal};
 use crate::archive::{number_and_place, Met};
 use crate::checks::expect;
 use crate::nights::Random;
-use crate::{sheets, torn};
+use crate::sheets::{self, Sheet};
+use crate::torn;
 
 /// The most bytes that a sheet has.
 const MOST: usize = bristlefrost::LONGEST_SHEET;
@@ -135,13 +136,15 @@ impl Link {
     }
 }
 
-/// One sheet of side 2 cut in two and in three at every place, for its slip's room and for one that is a byte short.
+/// Sheets of side 2, without bars, and with bars and no pairing, cut in two and in three at every place, for their slip's
+/// room and for one that is a byte short.
 pub fn every(random: &mut Random, met: &mut Met) -> Result<usize, String> {
-    let whole = sheets::sheet(b"six", 2, &[1, 5, 6, 2]);
+    let costs = [1, 5, 6, 2];
+    let whole = sheets::sheet(b"six", 2, &costs);
+    let blocked = Sheet::barred(2, &costs, &[2, 2]).bytes(b"");
     let mut link = Link::new(random);
     let mut cuttings = 0;
-    for room in [56, 55] {
-        let right = if room == 56 { 0 } else { 16 };
+    for (whole, room, right) in [(&whole, 56, 0), (&whole, 55, 16), (&blocked, 56, 20), (&blocked, 55, 16)] {
         for second in 0..=whole.len() {
             let two = [&whole[..second], &whole[second..]];
             expect("cut in two", &link.sheet(random, met, &two, room, 2)?, &right)?;

@@ -1,10 +1,12 @@
 //! Nights and lists for the archive that are damaged in up to three ways. What it must answer is what document 01's
 //! refusals give for the same input.
 
-use crate::archive::{self, Lists, Met};
+use bristlefrost::Lists;
+
+use crate::archive::{self, Met};
 use crate::nights::{Random, FAMILIES};
 use crate::refusals::LARGEST_SIDE;
-use crate::{rules, K};
+use crate::{barred, matching, rules, K};
 
 /// Sides that stand at or beyond a limit.
 const SIDES: [usize; 7] =
@@ -123,6 +125,33 @@ fn check(random: &mut Random, times: usize) -> Result<u64, String> {
         .map_err(|failure| format!("{failure}\nside {}, costs {:?}, {lists:?}", night.n, night.costs))
 }
 
+/// The checker with bars, on the answer with K on barred places: a barred pair is made where there is no other way.
+fn check_barred(random: &mut Random, times: usize) -> Result<u64, String> {
+    let side = if random.below(16) == 0 { 62 + random.below(3) } else { random.below(4) + random.below(4) };
+    let (costs, mut bars) = barred::night(random, side);
+    let answer = rules::solve(side, &matching::filled(side, &costs, &bars));
+    let (mut lists, mut night) = (archive::longer(random, &answer), Night { n: side, costs });
+    for _ in 0..times {
+        match random.below(6) {
+            0 => night.damage(random),
+            1 if !night.costs.is_empty() => {
+                let place = random.below(night.costs.len());
+                night.costs[place] = random.pick(&[1_000_000, -1_000_000, 1_000_001, -1_000_001, K]) as i32;
+            }
+            2 => night.n = random.pick(&[64, 65, 66, 4096]) as usize,
+            3 if !bars.is_empty() => {
+                let row = random.below(bars.len());
+                bars[row] ^= 1 << random.below(64);
+            }
+            4 => drop(bars.pop()),
+            _ => damaged_lists(random, side, &mut lists),
+        }
+    }
+    archive::check_barred(night.n, &night.costs, &lists, &bars).map_err(|failure| {
+        format!("{failure}\nside {}, costs {:?}, {lists:?}, bars {bars:?}", night.n, night.costs)
+    })
+}
+
 fn cost(random: &mut Random, times: usize) -> Result<u64, String> {
     let mut night = Night::new(random);
     let side = night.n;
@@ -175,13 +204,14 @@ fn repair(random: &mut Random, times: usize) -> Result<u64, String> {
         .map_err(|failure| format!("{failure}\nside {}, costs {:?}, row {row}, {before:?}", night.n, night.costs))
 }
 
-/// One damaged input for the solver, the checker, a repair or `cost`.
+/// One damaged input for the solver, either checker, a repair or `cost`.
 pub fn one(random: &mut Random, met: &mut Met) -> Result<(), String> {
     let times = random.below(4);
-    let (entry, answered) = match random.below(4) {
+    let (entry, answered) = match random.below(5) {
         0 => ("solve", solve(random, times)?),
         1 => ("check", check(random, times)?),
         2 => ("repair", repair(random, times)?),
+        3 => ("check with bars", check_barred(random, times)?),
         _ => ("cost", cost(random, times)?),
     };
     met.note(entry, answered);

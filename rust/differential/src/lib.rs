@@ -3,6 +3,7 @@
 
 #[cfg(feature = "archive")]
 pub mod archive;
+pub mod barred;
 pub mod checks;
 pub mod command;
 pub mod compared;
@@ -12,6 +13,7 @@ pub mod cuts;
 pub mod damage;
 pub mod document;
 pub mod listed;
+pub mod matching;
 pub mod nights;
 pub mod oracle;
 pub mod refusals;

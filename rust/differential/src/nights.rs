@@ -166,7 +166,7 @@ pub const FAMILIES: [Family; 26] = [
         },
     },
     Family {
-        name: "barred",
+        name: "few, else K",
         costs: |r, n| {
             let allowed = 1 + r.below(4);
             each(n, |_, _| if r.below(4) < allowed { r.between(0, 20) } else { K })

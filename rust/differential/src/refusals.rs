@@ -1,6 +1,8 @@
 //! Document 01's refusals, read plainly: each entry's tests in its order, each over the whole input.
 //! An answer is `Err((number, place))`, or what was accepted.
 
+use crate::matching::barred;
+use crate::sheets::Sheet;
 use crate::K;
 
 /// A refusal: its number and its place.
@@ -8,6 +10,12 @@ pub type Refused = (u64, u64);
 
 /// The largest side.
 pub const LARGEST_SIDE: usize = 4096;
+
+/// The largest side on a sheet, and of the checker with bars.
+pub const LARGEST_SHEET_SIDE: usize = 64;
+
+/// The largest cost with bars.
+pub const LARGEST_BARRED_COST: i64 = 1_000_000;
 
 pub(crate) fn refuse(holds: bool, number: u64, place: usize) -> Result<(), Refused> {
     if holds {
@@ -25,25 +33,30 @@ pub(crate) fn refuse_first(number: u64, mut places: impl Iterator<Item = bool>) 
 }
 
 /// 1, then 2.
-fn side_and_costs(n: usize, costs: &[i32]) -> Result<(), Refused> {
-    refuse(n > LARGEST_SIDE, 1, 0)?;
+fn side_and_costs(largest: usize, n: usize, costs: &[i32]) -> Result<(), Refused> {
+    refuse(n > largest, 1, 0)?;
     refuse(costs.len() != n * n, 2, 0)
 }
 
 /// 5.
-fn costs_within(costs: &[i32]) -> Result<(), Refused> {
-    refuse_first(5, costs.iter().map(|&cost| !(-K..=K).contains(&i64::from(cost))))
+fn costs_within(most: i64, costs: &[i32]) -> Result<(), Refused> {
+    refuse_first(5, costs.iter().map(|&cost| !(-most..=most).contains(&i64::from(cost))))
+}
+
+/// 22.
+fn bars_clear(n: usize, bars: &[u64]) -> Result<(), Refused> {
+    refuse_first(22, bars[..n].iter().map(|bits| (n..64).any(|j| bits >> j & 1 == 1)))
 }
 
 /// The solver: 1, 2, 3, 4, 5. `lists` are the lengths of the outputs, `rooms` those of the work rooms.
 pub fn solver(n: usize, costs: &[i32], lists: [usize; 4], rooms: [usize; 2]) -> Result<(), Refused> {
-    side_and_costs(n, costs)?;
+    side_and_costs(LARGEST_SIDE, n, costs)?;
     for (number, length) in (1..).zip(lists) {
         refuse(length < n, 3, number)?;
     }
     refuse(rooms[0] < 4 * n, 4, 1)?;
     refuse(rooms[1] < n, 4, 2)?;
-    costs_within(costs)
+    costs_within(K, costs)
 }
 
 /// The checker: 1, 2, 3, 5, 6, 7, 8, 9, 10. Accepts with the total.
@@ -55,22 +68,56 @@ pub fn checker(
     row_prices: &[i64],
     column_prices: &[i64],
 ) -> Result<i64, Refused> {
-    side_and_costs(n, costs)?;
+    checked(n, costs, columns, rows, row_prices, column_prices, None)
+}
+
+/// The checker with bars, for sides to 64: 1, 2, 3, 5, 22, 6, 7, 26, 8, 9, 10; list 5 is the bars, and 9 leaves barred
+/// places out. Accepts with the total.
+pub fn barred_checker(
+    n: usize,
+    costs: &[i32],
+    columns: &[u32],
+    rows: &[u32],
+    row_prices: &[i64],
+    column_prices: &[i64],
+    bars: &[u64],
+) -> Result<i64, Refused> {
+    checked(n, costs, columns, rows, row_prices, column_prices, Some(bars))
+}
+
+fn checked(
+    n: usize,
+    costs: &[i32],
+    columns: &[u32],
+    rows: &[u32],
+    row_prices: &[i64],
+    column_prices: &[i64],
+    bars: Option<&[u64]>,
+) -> Result<i64, Refused> {
+    let (largest, most) =
+        if bars.is_some() { (LARGEST_SHEET_SIDE, LARGEST_BARRED_COST) } else { (LARGEST_SIDE, K) };
+    side_and_costs(largest, n, costs)?;
     let lists = [columns.len(), rows.len(), row_prices.len(), column_prices.len()];
-    for (number, length) in (1..).zip(lists) {
+    for (number, length) in (1..).zip(lists.into_iter().chain(bars.map(<[u64]>::len))) {
         refuse(length < n, 3, number)?;
     }
-    costs_within(costs)?;
+    costs_within(most, costs)?;
+    if let Some(bars) = bars {
+        bars_clear(n, bars)?;
+    }
     let (columns, rows) = (&columns[..n], &rows[..n]);
     let (u, v) = (&row_prices[..n], &column_prices[..n]);
     let cost = |place: usize| i128::from(costs[place]);
     let sum = |i: usize, j: usize| i128::from(u[i]) + i128::from(v[j]);
     let paired = |i: usize| columns[i] as usize;
+    let barred = |i: usize, j: usize| bars.is_some_and(|bars| barred(bars, i, j));
 
     refuse_first(6, (0..n).map(|i| paired(i) >= n))?;
     refuse_first(7, (0..n).map(|i| rows[paired(i)] as usize != i))?;
+    refuse_first(26, (0..n).map(|i| barred(i, paired(i))))?;
     refuse_first(8, u.iter().chain(v).map(|price| !(-10 * K..=10 * K).contains(price)))?;
-    refuse_first(9, (0..n * n).map(|place| sum(place / n, place % n) > cost(place)))?;
+    let over = |i: usize, j: usize| sum(i, j) > cost(i * n + j) && !barred(i, j);
+    refuse_first(9, (0..n * n).map(|place| over(place / n, place % n)))?;
     refuse_first(10, (0..n).map(|i| sum(i, paired(i)) != cost(i * n + paired(i))))?;
     Ok((0..n).map(|i| i64::from(costs[i * n + paired(i)])).sum())
 }
@@ -122,21 +169,14 @@ pub fn slack(
 
 /// `cost`: 1, 2, 3, 5, 6. Accepts with the total over the listed rows.
 pub fn cost(n: usize, costs: &[i32], listed: &[u32]) -> Result<i64, Refused> {
-    side_and_costs(n, costs)?;
+    side_and_costs(LARGEST_SIDE, n, costs)?;
     refuse(listed.len() > n, 3, 1)?;
-    costs_within(costs)?;
+    costs_within(K, costs)?;
     refuse_first(6, listed.iter().map(|&column| column as usize >= n))?;
     Ok(listed.iter().enumerate().map(|(i, &column)| i64::from(costs[i * n + column as usize])).sum())
 }
 
-/// What an accepted sheet holds.
-#[derive(Debug, PartialEq, Eq)]
-pub struct Sheet {
-    pub n: usize,
-    pub costs: Vec<i32>,
-}
-
-/// A sheet: 17, 11, 12, 13, 14, 15, 21, 16, 5.
+/// A sheet: 17, 11, 12, 13, 14, 15, 21, 16, 5, 22. What comes last, 20, is told by `matching::settled`.
 pub fn sheet(bytes: &[u8], slip_room: usize) -> Result<Sheet, Refused> {
     refuse(bytes.len() > 65_536, 17, 0)?;
     refuse(bytes.len() < 12, 11, 0)?;
@@ -145,17 +185,23 @@ pub fn sheet(bytes: &[u8], slip_room: usize) -> Result<Sheet, Refused> {
     let distance = u32::from_le_bytes(trailer[0..4].try_into().unwrap()) as usize;
     let n = u16::from_le_bytes(trailer[4..6].try_into().unwrap()) as usize;
     let edition = u16::from_le_bytes(trailer[6..8].try_into().unwrap());
-    refuse(edition != 1, 12, 0)?;
-    refuse(n > 64, 13, 0)?;
-    refuse(distance != 4 * n * n, 14, 0)?;
+    refuse(edition != 1 && edition != 2, 12, 0)?;
+    refuse(n > LARGEST_SHEET_SIDE, 13, 0)?;
+    let bytes_of_bars = if edition == 2 { 8 * n } else { 0 };
+    refuse(distance != 4 * n * n + bytes_of_bars, 14, 0)?;
     refuse(distance > before.len(), 15, 0)?;
-    let note = &before[..before.len() - distance];
+    let (note, rest) = before.split_at(before.len() - distance);
     refuse_first(21, note.iter().enumerate().map(|(k, byte)| k >= 4096 || !(32..=126).contains(byte)))?;
     refuse(slip_room < 18 * n + 20, 16, 0)?;
-    let bytes_of_costs = before[before.len() - distance..].chunks(4);
-    let costs: Vec<i32> = bytes_of_costs.map(|four| i32::from_le_bytes(four.try_into().unwrap())).collect();
-    costs_within(&costs)?;
-    Ok(Sheet { n, costs })
+    let (costs, bars) = rest.split_at(4 * n * n);
+    let costs: Vec<i32> = costs.chunks(4).map(|four| i32::from_le_bytes(four.try_into().unwrap())).collect();
+    costs_within(if edition == 2 { LARGEST_BARRED_COST } else { K }, &costs)?;
+    if edition == 1 {
+        return Ok(Sheet::plain(n, &costs));
+    }
+    let bars: Vec<u64> = bars.chunks(8).map(|eight| u64::from_le_bytes(eight.try_into().unwrap())).collect();
+    bars_clear(n, &bars)?;
+    Ok(Sheet::barred(n, &costs, &bars))
 }
 
 /// The number that the faces answer for a refusal.

@@ -3,7 +3,8 @@
 
 use differential::document::{Night, NIGHTS, SURCHARGED};
 use differential::rules::Answer;
-use differential::{checks, refusals, rules, sheets};
+use differential::sheets::Sheet;
+use differential::{checks, matching, refusals, rules, sheets};
 
 #[test]
 fn nights_0_to_8_and_a_surcharge() {
@@ -47,10 +48,64 @@ fn a_go_back_is_compared_with_current_times_n() {
 fn sheet_and_slip_of_side_1() {
     let sheet = sheets::sheet(&[], 1, &[7]);
     assert_eq!(sheet, [7, 0, 0, 0, 4, 0, 0, 0, 1, 0, 1, 0, 0x4D, 0x54, 0x43, 0x48]);
-    assert_eq!(refusals::sheet(&sheet, 38), Ok(refusals::Sheet { n: 1, costs: vec![7] }));
+    assert_eq!(refusals::sheet(&sheet, 38), Ok(Sheet::plain(1, &[7])));
     assert_eq!(refusals::sheet(&sheet, 37), Err((16, 0)));
     let mut slip = vec![0; 10];
     slip.extend([7, 0, 0, 0, 0, 0, 0, 0, 7, 0, 0, 0, 0, 0, 0, 0]);
     slip.extend([0x1A, 0, 0, 0, 1, 0, 1, 0, 0x53, 0x4C, 0x49, 0x50]);
-    assert_eq!(sheets::slip(1, &rules::solve(1, &[7])), slip);
+    assert_eq!(sheets::slip(1, 1, &rules::solve(1, &[7])), slip);
+}
+
+/// Document 02's night, which edition 1 pairs at K, and in smaller numbers edition 2 does not.
+#[test]
+fn a_barred_pair_is_not_made() {
+    let dear = checks::night(2, &[1_000_000_000, 900_000_000, 900_000_000, 0]).unwrap();
+    assert_eq!((dear.columns, dear.total), (vec![0, 1], 1_000_000_000));
+    let barred = checks::barred(2, &[1_000_000, 900_000, 900_000, 0], &[1, 0]).unwrap().unwrap();
+    assert_eq!((barred.columns, barred.total), (vec![1, 0], 1_800_000));
+}
+
+/// A sheet of edition 2 is 17, 11, 12, 13, 14, 15, 21, 16, 5, 22 and 20 in this order: each damage hides those behind it.
+#[test]
+fn refusals_of_a_sheet_with_bars() {
+    let mut night = Sheet::barred(2, &[1, 5, 6, 2], &[2, 2]);
+    assert_eq!((matching::settled(&night), matching::too_few(2, &night.bars, 3)), (Err(3), true));
+    assert_eq!(matching::written(&night, &Err(3)), (vec![3, 0, 0, 0, 0, 0, 0, 0], 20));
+    assert_eq!(refusals::sheet(&night.bytes(b"note"), 56), Ok(night.clone()));
+    night.bars[1] |= 4;
+    assert_eq!(refusals::sheet(&night.bytes(b"note"), 56), Err((22, 1)));
+    night.costs[3] = 1_000_001;
+    assert_eq!(refusals::sheet(&night.bytes(b"note"), 56), Err((5, 3)));
+    assert_eq!(refusals::sheet(&night.bytes(b"note"), 55), Err((16, 0)));
+    assert_eq!(refusals::sheet(&night.bytes(b"no\te"), 55), Err((21, 2)));
+    let mut bytes = night.bytes(b"")[1..].to_vec();
+    let end = bytes.len();
+    assert_eq!(refusals::sheet(&bytes, 55), Err((15, 0)));
+    for (place, byte, number) in [(12, 31, 14), (8, 65, 13), (6, 3, 12), (1, 0, 11)] {
+        bytes[end - place] = byte;
+        assert_eq!(refusals::sheet(&bytes, 55), Err((number, 0)));
+    }
+    bytes.splice(0..0, vec![0; 65_536]);
+    assert_eq!(refusals::sheet(&bytes, 55), Err((17, 0)));
+}
+
+/// 1, 2, 3, 5, 22, 6, 7, 26, 8, 9, 10, and 9 leaves barred places out.
+#[test]
+fn refusals_of_the_checker_with_bars() {
+    let check = |costs: &[i32], columns: &[u32], rows: &[u32], u: &[i64], v: &[i64], bars: &[u64]| {
+        refusals::barred_checker(2, costs, columns, rows, u, v, bars)
+    };
+    let (costs, far) = ([1, 5, 6, 2], 10_000_000_001);
+    assert_eq!(check(&costs, &[1, 0], &[1, 0], &[5, 6], &[0, 0], &[1, 2]), Ok(11));
+    assert_eq!(check(&costs, &[1, 0], &[1, 0], &[5, 6], &[0, 0], &[1, 0]), Err((9, 3)));
+    assert_eq!(check(&costs, &[1, 0], &[1, 0], &[5, 5], &[0, 0], &[1, 2]), Err((10, 1)));
+    assert_eq!(check(&costs, &[1, 0], &[1, 0], &[5, 7], &[0, far], &[1, 2]), Err((8, 3)));
+    assert_eq!(check(&costs, &[1, 0], &[1, 0], &[5, 7], &[0, far], &[1, 1]), Err((26, 1)));
+    assert_eq!(check(&costs, &[1, 0], &[0, 0], &[5, 7], &[0, far], &[1, 1]), Err((7, 1)));
+    assert_eq!(check(&costs, &[1, 2], &[0, 0], &[5, 7], &[0, far], &[1, 1]), Err((6, 1)));
+    assert_eq!(check(&costs, &[1, 2], &[0, 0], &[5, 7], &[0, far], &[1, 4]), Err((22, 1)));
+    assert_eq!(check(&[1, -1_000_001, 6, 2], &[1, 2], &[0, 0], &[5, 7], &[0, far], &[1, 4]), Err((5, 1)));
+    assert_eq!(check(&[1, -1_000_001, 6, 2], &[1, 2], &[0, 0], &[5, 7], &[0, far], &[1]), Err((3, 5)));
+    assert_eq!(refusals::barred_checker(64, &[], &[], &[], &[], &[], &[]), Err((2, 0)));
+    assert_eq!(refusals::barred_checker(65, &[], &[], &[], &[], &[], &[]), Err((1, 0)));
 }

@@ -31,7 +31,7 @@ fn sheets_are_those_of_their_tables() {
         assert!(output.status.success() && output.stdout == kept, "{}", table.display());
         made += 1;
     }
-    assert!(made >= 7, "only {made} tables");
+    assert!(made >= 9, "only {made} tables");
 }
 
 /// A sheet with neither a table nor lists of references is one that the program refuses, and is unfit here too.
@@ -45,7 +45,7 @@ fn refused_sheets_are_unfit() {
         assert!(paper::Sheet::read(&fs::read(&sheet).expect("a sheet")).is_err(), "{}", sheet.display());
         refused += 1;
     }
-    assert!(refused >= 6, "only {refused} refused sheets");
+    assert!(refused >= 9, "only {refused} refused sheets");
 }
 
 /// Document 01's slip of side 1.
@@ -84,6 +84,30 @@ fn an_unfit_table_leaves_nothing() {
     assert_eq!(String::from_utf8_lossy(&output.stderr), told);
 }
 
+/// A table with a barred pair makes a sheet of edition 2, any other one of edition 1.
+#[test]
+fn bars_in_tables() {
+    use paper::{Sheet, Unfit};
+    let without = Sheet::from_table("1000000000 2\n3 4").expect("a sheet");
+    assert_eq!((without.edition(), without.bars()), (1, None));
+    let with = Sheet::from_table("barred,-1000000\n\n1000000 barred\n").expect("a sheet");
+    assert_eq!(
+        (with.edition(), with.bars(), with.costs()),
+        (2, Some(&[1, 2][..]), &[0, -1_000_000, 1_000_000, 0][..])
+    );
+    assert_eq!(with.bytes().len(), 4 * 4 + 8 * 2 + 12);
+    assert_eq!(Sheet::read(&with.bytes()), Ok(with));
+    let most = paper::LARGEST_BARRED_COST;
+    for (table, line, column) in [("1 2\n\n-1000001 barred", 3, 1), ("barred 1000001\n1000001 3", 1, 2)] {
+        assert_eq!(Sheet::from_table(table), Err(Unfit::TableCost { line, column, most }), "{table}");
+    }
+    let full = vec!["barred"; 64].join(" ") + "\n";
+    let all = Sheet::from_table(&full.repeat(64)).expect("a sheet");
+    assert_eq!(all.bars(), Some(&[u64::MAX; 64][..]));
+    assert_eq!(Sheet::read(&all.bytes()), Ok(all));
+    assert_eq!(Sheet::from_table(&vec![vec!["barred"; 65].join(" "); 65].join("\n")), Err(Unfit::Side(65)));
+}
+
 #[test]
 fn unfit_tables_and_slips_are_told() {
     use paper::{Sheet, Slip, Unfit};
@@ -94,7 +118,9 @@ fn unfit_tables_and_slips_are_told() {
     }
     assert_eq!(Sheet::from_table(" 1 ,\t2\r\n \n3,4"), Sheet::new(2, &[1, 2, 3, 4]));
     assert_eq!(Sheet::from_table("1 2\n3 x"), Err(Unfit::Word { line: 2, word: String::from("x") }));
-    assert_eq!(Sheet::from_table("1000000001"), Err(Unfit::Cost { place: 0 }));
+    let most = paper::LARGEST_COST;
+    assert_eq!(Sheet::from_table("0 0\n0 1000000001"), Err(Unfit::TableCost { line: 2, column: 2, most }));
+    assert_eq!(Sheet::new(1, &[-1_000_000_001]), Err(Unfit::Cost { place: 0, most }));
     assert_eq!(Sheet::new(65, &[0; 65 * 65]), Err(Unfit::Side(65)));
     let one = || Sheet::new(1, &[7]).unwrap();
     assert!(one().noted(&[b'~'; 4096]).is_ok());

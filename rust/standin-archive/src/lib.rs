@@ -4,7 +4,8 @@
 use std::slice::{from_raw_parts, from_raw_parts_mut};
 use std::sync::Mutex;
 
-use differential::{refusals, rules, scores, sheets};
+use differential::sheets::Sheet;
+use differential::{matching, refusals, rules, scores};
 
 #[repr(C)]
 pub struct Solved {
@@ -171,6 +172,45 @@ pub unsafe extern "C" fn bristlefrost_check(
 /// # Safety
 /// As include/bristlefrost.h asks.
 #[no_mangle]
+pub unsafe extern "C" fn bristlefrost_check_barred(
+    n: usize,
+    costs: *const i32,
+    costs_len: usize,
+    cols: *const u32,
+    cols_len: usize,
+    rows: *const u32,
+    rows_len: usize,
+    row_prices: *const i64,
+    row_prices_len: usize,
+    col_prices: *const i64,
+    col_prices_len: usize,
+    bars: *const u64,
+    bars_len: usize,
+) -> Checked {
+    let costs = from_raw_parts(costs, costs_len);
+    let (cols, rows) = (from_raw_parts(cols, cols_len), from_raw_parts(rows, rows_len));
+    let row_prices = from_raw_parts(row_prices, row_prices_len);
+    let col_prices = from_raw_parts(col_prices, col_prices_len);
+    let bars = from_raw_parts(bars, bars_len);
+    let mut result = refusals::barred_checker(n, costs, cols, rows, row_prices, col_prices, bars);
+    let tested = result.is_ok() || matches!(result, Err((9 | 10 | 26, _)));
+    if cfg!(feature = "barred-places-priced") && tested && !matches!(result, Err((26, _))) {
+        // 9 on barred places too.
+        result = refusals::checker(n, costs, cols, rows, row_prices, col_prices);
+    }
+    if cfg!(feature = "barred-pair-passed") && matches!(result, Err((26, _))) {
+        // The pairs that are made are taken for allowed ones.
+        let made: Vec<u64> = (0..n).map(|i| bars[i] & !(1 << cols[i])).collect();
+        result = refusals::barred_checker(n, costs, cols, rows, row_prices, col_prices, &made);
+    }
+    let slack = refusals::slack(&result, n, costs, cols, row_prices, col_prices);
+    let Total { refusal, total } = answer(result);
+    Checked { refusal, total, slack }
+}
+
+/// # Safety
+/// As include/bristlefrost.h asks.
+#[no_mangle]
 pub unsafe extern "C" fn bristlefrost_repair(
     n: usize,
     costs: *const i32,
@@ -266,25 +306,65 @@ pub unsafe extern "C" fn bristlefrost_sheet(
     write_slip(from_raw_parts(sheet, sheet_len), from_raw_parts_mut(slip, slip_len))
 }
 
+/// A night's answer, or the rows that show that it has no pairing.
+fn paired_or_blocked(night: &Sheet) -> Result<rules::Answer, u64> {
+    let settled = matching::settled(night);
+    if cfg!(feature = "no-way-too-soon") {
+        // Rows that each take their first free column, and never another.
+        let mut taken = 0u64;
+        for bits in &night.bars {
+            let free = (0..night.n).find(|j| (bits | taken) >> j & 1 == 0);
+            match free {
+                Some(j) => taken |= 1 << j,
+                None => return Err(settled.err().unwrap_or(1)),
+            }
+        }
+    }
+    // One row fewer.
+    settled.map_err(|rows| if cfg!(feature = "set-one-row-short") { rows & (rows - 1) } else { rows })
+}
+
 fn write_slip(sheet: &[u8], slip: &mut [u8]) -> u64 {
     match refusals::sheet(sheet, slip.len()) {
         Ok(mut night) => {
             if cfg!(feature = "highest-byte-first") {
                 night.costs.iter_mut().for_each(|cost| *cost = cost.swap_bytes());
             }
-            let bytes = sheets::slip(night.n, &rules::solve(night.n, &night.costs));
+            if cfg!(feature = "bars-reversed") && night.n > 0 {
+                night.bars.iter_mut().for_each(|bits| *bits = bits.reverse_bits() >> (64 - night.n));
+            }
+            let settled = paired_or_blocked(&night);
+            if cfg!(feature = "slip-of-edition-one") {
+                night.edition = 1;
+            }
+            let (bytes, code) = matching::written(&night, &settled);
             slip[..bytes.len()].copy_from_slice(&bytes);
-            if cfg!(feature = "total-left-out") {
+            if cfg!(feature = "total-left-out") && code == 0 {
                 slip[18 * night.n..18 * night.n + 8].fill(0);
             }
-            0
+            if cfg!(feature = "room-cleared-behind-rows") && code == 20 {
+                slip[8..18 * night.n + 20].fill(0);
+            }
+            code
+        }
+        Err((22, row)) if cfg!(feature = "bars-past-side-passed") => {
+            // The bits from n up are left out, of this row and then of those behind it.
+            let mut clear = sheet.to_vec();
+            let trailer = sheet.len() - 12;
+            let n = usize::from(u16::from_le_bytes([sheet[trailer + 4], sheet[trailer + 5]]));
+            let bars = trailer - 8 * (n - row as usize);
+            let eight = &mut clear[bars..bars + 8];
+            let bits = u64::from_le_bytes((&*eight).try_into().expect("eight bytes")) & ((1 << n) - 1);
+            eight.copy_from_slice(&bits.to_le_bytes());
+            write_slip(&clear, slip)
         }
         Err((14, _)) if cfg!(feature = "distance-not-tested") => {
-            // The n*n costs before the trailer are paired, wherever its distance points.
+            // What stands before the trailer is paired, wherever its distance points.
             let mut pointed = sheet.to_vec();
             let trailer = sheet.len() - 12;
             let side = u32::from(u16::from_le_bytes([sheet[trailer + 4], sheet[trailer + 5]]));
-            pointed[trailer..trailer + 4].copy_from_slice(&(4 * side * side).to_le_bytes());
+            let bars = if sheet[trailer + 6] == 2 { 8 * side } else { 0 };
+            pointed[trailer..trailer + 4].copy_from_slice(&(4 * side * side + bars).to_le_bytes());
             write_slip(&pointed, slip)
         }
         Err(refused) => {

@@ -1,11 +1,10 @@
 -- `check` answers what its definition says. Assumes nothing.
 use mathlib.Core.Path.{sym, ap, _∙_}
-use native.Mathlib.Nat.{le-refl}
+use native.Mathlib.Omega.{arith}
 use borrow.Author.Needs.{needs}
-use mir.Syntax.{w64}
-use Rattle.ints.proofs.Bits.{read-back}
-use Rattle.matrix.specs.Answers.{valuesOf}
-use Rattle.matrix.proofs.Verdicts.{fails-totalled, passed-totalled}
+use Rattle.assignment.specs.Pairings.{square, total}
+use Rattle.matrix.specs.Answers.{valuesOf, totalled}
+use Rattle.matrix.specs.declared.Verdict.{Verdict}
 use Rattle.checker.specs.Check.{check}
 use Rattle.checker.proofs.Accepted.{checks-iff}
 use Rattle.checker.proofs.check.Statement.{statement}
@@ -14,28 +13,16 @@ use Rattle.checker.proofs.check.Tie as tie
 checked-requires : tie.Need-checked-requires
 checked-requires c κs = search needs
 
-enum-known-refusal : tie.Need-enum-known-refusal
-enum-known-refusal c = search needs
+answered-requires : tie.Need-answered-requires
+answered-requires c κs = λ e.
+    let f = checks-iff _ _ _ _ _ _ .0 (sym (c .checked .ensures) ∙ e) in
+    (f .sizes .small, f .sizes .small, omega (arith, f .sizes .squared), record { listed = f .sizes .columns-listed; inside = f .named .inside })
 
 returns : tie.Need-returns
 unfolding check
-returns c = ap valuesOf (fails-totalled _ (sym (c .before .before .before .checked .ensures) ∙ c .before .refusal .given .1))
-
-enum-told : tie.Need-enum-told
-enum-told c = search needs
-
-total-requires : tie.Need-total-requires
-total-requires c κs =
-    let f = checks-iff _ _ _ _ _ _ .0 (sym (c .before .before .checked .ensures) ∙ c .enum-told .given .1) in
-    record { small = f .sizes .small; squared = f .sizes .squared; rows = le-refl _; listed = f .sizes .columns-listed; inside = f .named .inside }
-
-returns-2 : tie.Need-returns-2
-unfolding check
-returns-2 c =
-    let d = c .before in
-    ap valuesOf
-    (passed-totalled (sym (d .before .before .checked .ensures) ∙ d .enum-told .given .1)
-    (read-back w64 (c .total .result) (c .total .ok) ∙ c .total .ensures))
+returns c =
+    let u = c .before .before .before .before .args in
+    c .answered .ensures ∙ ap (λ (v : Verdict). valuesOf (totalled v (total (square (u .n) (u .costs .now)) (u .cols .now)))) (c .before .checked .ensures)
 
 pub check-spec : {M : Type 1} → statement M
-check-spec = tie.close (tie.spec checked-requires enum-known-refusal returns enum-told total-requires returns-2)
+check-spec = tie.close (tie.spec checked-requires answered-requires returns)

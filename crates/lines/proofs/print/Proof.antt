@@ -16,9 +16,9 @@ use Rattle.sheet.specs.Settle.{settledAs, settled}
 use Rattle.sheet.proofs.Determined.{settled-values-determine}
 use Rattle.sheet.proofs.Pairing.{read-right}
 use Rattle.lines.specs.Put.{Put}
-use Rattle.lines.specs.Lines.{acceptedLine, rowLines, linesAs, output, Printed, printed}
+use Rattle.lines.specs.Lines.{acceptedLine, rowLines, linesAs, output, Printed, printed, refusedLine}
 use Rattle.lines.proofs.Put.{put-as}
-use Rattle.lines.proofs.Night.{refused-lines, Ready, night-lines}
+use Rattle.lines.proofs.Night.{refused-lines, blocked-lines, Ready, night-lines}
 use Rattle.lines.proofs.print.Statement.{statement}
 use Rattle.lines.proofs.print.Tie as tie
 
@@ -42,12 +42,12 @@ settled-as : (c : tie.After-settle) → c .settle .result ≡ settledAs (reading
 unfolding settled
 settled-as c = settled-values-determine _ _ (c .settle .ensures)
 
-ready : (c : tie.After-reply2) → Ready 1172 (c .before .before .settle .result) (c .reply2 .given .0 .0) (c .reply2 .given .0 .1 .0) (c .before .before .before .before .before .args .out .now) (linesAs (reading (c .before .before .before .before .before .args .sheet .now)))
+ready : (c : tie.After-reply2) → Ready 1172 (c .before .before .settle .result) (c .reply2 .given .0 .1 .0) (c .reply2 .given .0 .1 .1 .0) (c .before .before .before .before .before .args .out .now) (linesAs (reading (c .before .before .before .before .before .args .sheet .now)))
 ready c =
     let s = c .before .before in
     let u = s .before .before .before .args in
     let v = c .reply2 .given in
-    night-lines 1172 (s .settle .result) (reading (u .sheet .now)) (read-right 1172 (u .sheet .now)) (settled-as s) (v .0 .0) (v .0 .1 .0) (v .1) (u .out .now) (omega (arith, s .before .room .given .0))
+    night-lines 1172 (s .settle .result) (reading (u .sheet .now)) (read-right 1172 (u .sheet .now)) (settled-as s) (v .0 .0) (v .0 .1 .0) (v .0 .1 .1 .0) (v .1) (u .out .now) (omega (arith, s .before .room .given .0))
 
 settle-requires : tie.Need-settle-requires
 settle-requires c κs = search needs
@@ -57,6 +57,15 @@ enum-known-reply c = search needs
 
 put-refused-requires : tie.Need-put-refused-requires
 put-refused-requires c κs = search needs
+
+enum-told : tie.Need-enum-told
+enum-told c = search needs
+
+no-pairing-requires : tie.Need-no-pairing-requires
+no-pairing-requires c κs = search needs
+
+put-refused-requires-2 : tie.Need-put-refused-requires-2
+put-refused-requires-2 c κs = search needs
 
 enum-known-reply-2 : tie.Need-enum-known-reply-2
 enum-known-reply-2 c = search needs
@@ -74,18 +83,38 @@ returns c =
 
 returns-2 : tie.Need-returns-2
 returns-2 c =
+    let n = c .before in
+    let s = n .before .before .before in
+    let u = s .before .before .before .args in
+    let v = n .before .enum-told .given in
+    let lines = ap refusedLine (n .no-pairing .ensures) ∙ blocked-lines 1172 (s .settle .result) (reading (u .sheet .now)) (settled-as s) (v .0 .0) (v .1) in
+    printed-as (u .sheet .now) (u .out .now) (put-as (lines ∙ output-as (u .sheet .now)) (c .put-refused2 .ensures .0)) (omega (arith, c .put-refused2 .ensures .1, s .before .room .given .0))
+
+returns-3 : tie.Need-returns-3
+returns-3 c =
     let k = c .before .before in
     let v = k .before .reply2 .given in
     let s = k .before .before .before in
     let u = s .before .before .before .args in
     let r = ready (k .before) in
-    let n = v .0 .0 in
+    let n = v .0 .1 .0 in
     let state = s .settle .result .state in
-    let total = read-back w64 (v .0 .1 .0) (k .known-told2 .given .1 .0 .1) in
+    let total = read-back w64 (v .0 .1 .1 .0) (k .known-told2 .given .1 .1 .0 .1) in
     let lines = ap (λ (t : ℤ). acceptedLine n t ++ rowLines n (take (n * n) (state .costs)) (take n (state .cols)) n) total ∙ r .same ∙ output-as (u .sheet .now) in
     printed-as (u .sheet .now) (u .out .now) (put-as lines (c .put-night .ensures .0)) (omega (arith, c .put-night .ensures .1, r .few, s .before .room .given .0))
 
 pub print-spec : {M : Type 1} → statement M
 print-spec =
     tie.close
-    (tie.spec settle-requires enum-known-reply put-refused-requires enum-known-reply-2 put-night-requires returns returns-2)
+    (tie.spec
+    settle-requires
+    enum-known-reply
+    put-refused-requires
+    enum-told
+    no-pairing-requires
+    put-refused-requires-2
+    enum-known-reply-2
+    put-night-requires
+    returns
+    returns-2
+    returns-3)

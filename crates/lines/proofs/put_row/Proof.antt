@@ -1,7 +1,6 @@
 -- `put_row` writes the parts of a row's line, one after the other. Assumes nothing.
-use mathlib.Core.Path.{_≡_, ap₂}
-use mathlib.Core.Bool.{Bool, true, false, cond}
-use mathlib.Core.List.{List, [], _++_}
+use mathlib.Core.Path.{_≡_, ap}
+use mathlib.Core.List.{List, _++_}
 use Prim.Native.Nat.{ℕ, _≤_}
 use native.Mathlib.Omega.{arith}
 use borrow.Author.Needs.{needs}
@@ -9,20 +8,13 @@ use lib.IntN.{ℤ}
 use lib.ListN.{length}
 use mir.Val.{toZ, ofZ}
 use mir.Syntax.{w32, w64}
-use Rattle.ints.proofs.Bits.{read-back, read-wide, wide-fits}
+use Rattle.ints.proofs.Bits.{read-wide, wide-fits}
 use Rattle.lines.specs.Decimal.{decimal, signedDecimal}
-use Rattle.lines.specs.Lines.{blank, feed, barredText, isBarred, barredMark, rowLine}
+use Rattle.lines.specs.Lines.{blank, feed, rowLine}
 use Rattle.lines.proofs.Decimal.{length-decimal, length-signedDecimal}
 use Rattle.lines.proofs.Put.{put-as, Line, line-start, line-fits, line-then}
 use Rattle.lines.proofs.put_row.Statement.{statement}
 use Rattle.lines.proofs.put_row.Tie as tie
-
-barred-short : (z : ℤ) → length (barredMark z) ≤ 7
-barred-short z = by (isBarred z)
-  where
-    by : (t : Bool) → length (cond t barredText []) ≤ 7
-    by true = omega arith
-    by false = omega arith
 
 -- ---- the start, from each write
 
@@ -41,9 +33,6 @@ from-second-blank c = from-column (c .before .before .before .before)
 abbrev from-cost : tie.After-put-signed → tie.Start
 from-cost c = from-second-blank (c .before .before .before .before)
 
-abbrev from-mark : tie.After-put-barred → tie.Start
-from-mark c = from-cost (c .before .before .before .before)
-
 -- ---- the line, write by write
 
 row-short : (c : tie.Start) → length (decimal (c .args .row)) ≤ 20
@@ -52,7 +41,7 @@ row-short c = length-decimal (c .args .row) (c .fits .row .fits)
 column-short : (c : tie.Start) → length (decimal (c .args .column)) ≤ 20
 column-short c = length-decimal (c .args .column) (omega (arith, c .fits .column))
 
--- the cost as the code hands it on, to the mark and to the decimal
+-- the cost as the code hands it on
 abbrev near : tie.Start → ℤ
 near c = toZ w32 (ofZ w32 (c .args .cost))
 
@@ -92,13 +81,6 @@ after-cost c =
     let s = from-cost c in
     line-then (signedDecimal (wide s)) 20 (after-second-blank (c .before .before .before .before)) (c .put-signed .ensures) (c .put-signed .kept .0) (cost-short s)
 
-after-mark : (c : tie.After-put-barred) → let s = from-mark c in let u = s .args in
-    Line (u .place) 69 (u .out .now) (λ q. decimal (u .row) ++ (blank ++ (decimal (u .column) ++ (blank ++ (signedDecimal (wide s) ++ (barredMark (near s) ++ q))))))
-    (c .put-barred .last .0) (c .put-barred .result)
-after-mark c =
-    let s = from-mark c in
-    line-then (barredMark (near s)) 7 (after-cost (c .before .before .before .before)) (c .put-barred .ensures) (c .put-barred .kept .0) (barred-short (near s))
-
 put-decimal-requires : tie.Need-put-decimal-requires
 put-decimal-requires c κs =
     let s = c .before .before in
@@ -123,11 +105,8 @@ put-signed-requires c κs =
     let s = from-second-blank (c .before .before .before) in
     omega (arith, line-fits 20 (after-second-blank (c .before .before .before)) (omega arith), cost-short s)
 
-put-barred-requires : tie.Need-put-barred-requires
-put-barred-requires c κs = line-fits 7 (after-cost (c .before .before .before)) (omega arith)
-
 put-byte-requires-3 : tie.Need-put-byte-requires-3
-put-byte-requires-3 c κs = omega (arith, line-fits 1 (after-mark (c .before .before .before)) (omega arith))
+put-byte-requires-3 c κs = omega (arith, line-fits 1 (after-cost (c .before .before .before)) (omega arith))
 
 same-length : tie.Need-same-length
 same-length c = search needs
@@ -136,15 +115,13 @@ returns : tie.Need-returns
 unfolding rowLine
 returns c =
     let last = c .before .before in
-    let mark = last .before .before .before .before in
-    let s = from-mark mark in
+    let cost = last .before .before .before .before in
+    let s = from-cost cost in
     let u = s .args in
-    let line : ℤ → ℤ → List ℕ = λ z w. decimal (u .row) ++ (blank ++ (decimal (u .column) ++ (blank ++ (signedDecimal z ++ (barredMark w ++ feed))))) in (
-      put-as (ap₂ line (cost-read s) (read-back w32 (u .cost) (s .fits .cost .sfits))) (after-mark mark .ends feed (last .put-byte3 .ensures)),
-      omega (arith, after-mark mark .reach, last .put-byte3 .ensures .past),
-    )
+    let line : ℤ → List ℕ = λ z. decimal (u .row) ++ (blank ++ (decimal (u .column) ++ (blank ++ (signedDecimal z ++ feed)))) in
+    (put-as (ap line (cost-read s)) (after-cost cost .ends feed (last .put-byte3 .ensures)), omega (arith, after-cost cost .reach, last .put-byte3 .ensures .past))
 
 pub put-row-spec : {M : Type 1} → statement M
 put-row-spec =
     tie.close
-    (tie.spec put-decimal-requires put-byte-requires put-decimal-requires-2 put-byte-requires-2 cast-put-signed put-signed-requires put-barred-requires put-byte-requires-3 same-length returns)
+    (tie.spec put-decimal-requires put-byte-requires put-decimal-requires-2 put-byte-requires-2 cast-put-signed put-signed-requires put-byte-requires-3 same-length returns)

@@ -1,11 +1,15 @@
 -- `tested` runs the tests of a repair one after the other; what a test asks for, those before it have shown. Assumes nothing.
-use mathlib.Core.Path.{sym, _∙_}
+use mathlib.Core.Path.{_≡_, refl, sym, ap, _∙_}
 use native.Mathlib.Nat.{le-refl}
 use borrow.Author.Needs.{needs}
-use Rattle.matrix.specs.Verdicts.{Passes}
-use Rattle.matrix.specs.Asked.{Listed}
+use Rattle.assignment.specs.Pairings.{Night, square}
+use Rattle.matrix.specs.Verdicts.{Passes, _then_}
+use Rattle.matrix.specs.Asked.{ColumnsListed, Listed}
 use Rattle.matrix.proofs.Verdicts.{then-iff, after}
 use Rattle.matrix.proofs.Passed.{columns-inside, prices-within}
+use Rattle.bars.proofs.Passed.{square-unbarred}
+use Rattle.checker.specs.Tests.{underCostsBut}
+use Rattle.checker.specs.Asked.{Priced}
 use Rattle.checker.specs.Proven.{Prices}
 use Rattle.lapjv.specs.Solve.{lentOf}
 use Rattle.lapjv.specs.WithinLimits.{WithinLimits}
@@ -83,23 +87,43 @@ prices-within-requires c κs = λ e. let h = named c e .0 in (h .small, h .small
 prices-near-requires : tie.Need-prices-near-requires
 prices-near-requires c κs = λ e. let h = within c e in (h .0 .small, h .1 .enough, h .2 .enough)
 
+slice-aggregate-under-costs : tie.Need-slice-aggregate-under-costs
+slice-aggregate-under-costs c = search needs
+
+-- what 9 and 10 ask for
+priced : (c : tie.After-prices-near) → let u = c .before .before .before .before .before .before .before .before .before .args in Passes (c .prices-near .result)
+    → Priced (u .n) (u .n) (u .costs .now) (u .row-prices .now) (u .col-prices .now) × ColumnsListed (u .n) (u .n) (u .cols .now)
+priced c e =
+    let h = near c e in (
+      record { rows-small = h .0 .small; small = h .0 .small; filled = h .0 .squared; row-prices = h .1; column-prices = h .2 },
+      record { listed = h .0 .listed; inside = h .0 .inside },
+    )
+
 under-costs-requires : tie.Need-under-costs-requires
-under-costs-requires c κs = λ e. let h = near c e in record { small = h .0 .small; squared = h .0 .squared; row-prices = h .1; column-prices = h .2 }
+under-costs-requires c κs = λ e. (priced (c .before) e .0, λ i set. absurd (set refl))
 
 tight-on-requires : tie.Need-tight-on-requires
-tight-on-requires c κs = λ e. near (c .before) (then-iff _ _ .0 (sym (c .under-costs .ensures) ∙ e) .0)
+tight-on-requires c κs = λ e. priced (c .before .before) (then-iff _ _ .0 (sym (c .under-costs .ensures) ∙ e) .0)
+
+-- no place is barred
+nine : (c : tie.After-under-costs) → let u = c .before .before .before .before .before .before .before .before .before .before .before .args in
+    c .under-costs .result ≡ (c .before .before .prices-near .result then underCostsBut (u .row) (square (u .n) (u .costs .now)) (u .row-prices .now) (u .col-prices .now))
+nine c =
+    let u = c .before .before .before .before .before .before .before .before .before .before .before .args in
+    c .under-costs .ensures
+    ∙ ap (λ (night : Night). c .before .before .prices-near .result then underCostsBut (u .row) night (u .row-prices .now) (u .col-prices .now)) (square-unbarred (u .n) (u .costs .now))
 
 returns : tie.Need-returns
 unfolding repairTests
 returns c =
     let u9 = c .before in
-    let u24 = u9 .before in
+    let u24 = u9 .before .before in
     let u8 = u24 .before in
     let u7 = u8 .before in
     let u6 = u7 .before in
     let r = u6 .before in
     after _ (c .tight-on .ensures)
-    (after _ (u9 .under-costs .ensures)
+    (after _ (nine u9)
     (after _ (u24 .prices-near .ensures)
     (after _ (u8 .prices-within .ensures)
     (after _ (u7 .rows-named .ensures) (after _ (u6 .columns-inside .ensures) (after _ (r .row-inside .ensures) (r .before .tested .ensures)))))))
@@ -114,6 +138,7 @@ tested-spec =
     rows-named-requires
     prices-within-requires
     prices-near-requires
+    slice-aggregate-under-costs
     under-costs-requires
     tight-on-requires
     returns)

@@ -7,11 +7,15 @@ use lib.IntN.{ℤ}
 use lib.ListN.{length, take, drop, length-map}
 use mir.Syntax.{w64}
 use Rattle.ints.proofs.Bits.{read-back}
+use Rattle.layout.specs.Values.{bytesOf}
 use Rattle.layout.specs.Slips.{slipOf, slipLength}
+use Rattle.layout.proofs.Values.{length-bytesOf}
+use Rattle.layout.proofs.Stores.{sets-front}
+use Rattle.matrix.specs.Refusals.{NoPairing}
 use Rattle.sheet.specs.Reading.{Read, read}
 use Rattle.sheet.specs.Settle.{settledAs, settled, pair}
 use Rattle.sheet.proofs.Determined.{settled-values-determine}
-use Rattle.sheet.proofs.Pairing.{ReadRight, read-right, Sized, refused-outcome, paired-outcome}
+use Rattle.sheet.proofs.Pairing.{ReadRight, read-right, Sized, refused-outcome, blocked-outcome, paired-outcome}
 use Rattle.sheet.proofs.pair.Statement.{statement}
 use Rattle.sheet.proofs.pair.Tie as tie
 
@@ -20,17 +24,20 @@ sized : (c : tie.After-settle) → Sized (c .settle .result .state)
 sized c =
     let fields = c .settle .ok .1 .1 .1 .0 .1 .1 in
     record {
-      cols-size = sym (length-map (c .settle .result .state .cols) _) ∙ fields .1 .0 .1 .0 .1;
-      row-prices-size = sym (length-map (c .settle .result .state .«row_prices») _) ∙ fields .1 .1 .1 .0 .1 .0 .1;
-      column-prices-size = sym (length-map (c .settle .result .state .«col_prices») _) ∙ fields .1 .1 .1 .1 .0 .1 .0 .1;
+      cols-size = sym (length-map (c .settle .result .state .cols) _) ∙ fields .1 .1 .0 .1 .0 .1;
+      row-prices-size = sym (length-map (c .settle .result .state .«row_prices») _) ∙ fields .1 .1 .1 .1 .0 .1 .0 .1;
+      column-prices-size = sym (length-map (c .settle .result .state .«col_prices») _) ∙ fields .1 .1 .1 .1 .1 .0 .1 .0 .1;
     }
 
 -- the sheet as it was read
-abbrev reading : tie.After-settle → Read
-reading c = read (length (c .before .before .before .args .slip .now)) (c .before .before .before .args .sheet .now)
+abbrev start : tie.After-settle → tie.Start
+start c = c .before .before .before
 
-right : (c : tie.After-settle) → ReadRight (length (c .before .before .before .args .slip .now)) (reading c)
-right c = read-right (length (c .before .before .before .args .slip .now)) (c .before .before .before .args .sheet .now)
+abbrev reading : tie.After-settle → Read
+reading c = read (length (start c .args .slip .now)) (start c .args .sheet .now)
+
+right : (c : tie.After-settle) → ReadRight (length (start c .args .slip .now)) (reading c)
+right c = read-right (length (start c .args .slip .now)) (start c .args .sheet .now)
 
 settled-as : (c : tie.After-settle) → c .settle .result ≡ settledAs (reading c)
 unfolding settled
@@ -46,16 +53,25 @@ code-requires : tie.Need-code-requires
 code-requires c κs =
     let s = c .before .before .before in
     let v = c .before .reply .given in
-    refused-outcome (s .before .before .before .args .slip .now) (s .settle .result) (reading s) (right s) (settled-as s) (v .0 .0) (v .1) .0
+    refused-outcome (start s .args .slip .now) (s .settle .result) (reading s) (right s) (settled-as s) (v .0 .0) (v .1) .0
 
 enum-known-reply-2 : tie.Need-enum-known-reply-2
 enum-known-reply-2 c = search needs
 
+write-value-requires : tie.Need-write-value-requires
+write-value-requires c κs =
+    let s = c .before .before .before .before in
+    let v = c .before .before .reply2 .given in
+    blocked-outcome (start s .args .slip .now) (s .settle .result) (reading s) (right s) (settled-as s) (v .0 .0) (v .1) .0
+
+enum-known-reply-3 : tie.Need-enum-known-reply-3
+enum-known-reply-3 c = search needs
+
 write-state-requires : tie.Need-write-state-requires
 write-state-requires c κs =
     let s = c .before .before .before .before .before in
-    let v = c .before .before .before .reply2 .given in
-    let o = paired-outcome (s .before .before .before .args .slip .now) (s .settle .result) (reading s) (right s) (settled-as s) (v .0 .0) (v .0 .1 .0) (v .1) (sized s) in
+    let v = c .before .before .before .reply3 .given in
+    let o = paired-outcome (start s .args .slip .now) (s .settle .result) (reading s) (right s) (settled-as s) (v .0 .0) (v .0 .1 .0) (v .0 .1 .1 .0) (v .1) (sized s) in
     (o .0, o .1)
 
 returns : tie.Need-returns
@@ -63,7 +79,7 @@ unfolding pair
 returns c =
     let s = c .before .before .before .before in
     let v = c .before .before .reply .given in
-    let slip = s .before .before .before .args .slip .now in
+    let slip = start s .args .slip .now in
     ap (λ (m : ℕ). record { number = m; slip = slip }) (c .code .ensures)
     ∙ refused-outcome slip (s .settle .result) (reading s) (right s) (settled-as s) (v .0 .0) (v .1) .1
 
@@ -73,16 +89,30 @@ same-length c = search needs
 returns-2 : tie.Need-returns-2
 unfolding pair
 returns-2 c =
+    let s = c .before .before .before .before .before .before .before in
+    let v = c .before .before .before .before .before .reply2 .given in
+    let slip = start s .args .slip .now in
+    let o = blocked-outcome slip (s .settle .result) (reading s) (right s) (settled-as s) (v .0 .0) (v .1) in
+    ap (λ (l : List ℕ). record { number = NoPairing; slip = l }) (c .before .before .write-value .ensures ∙ sets-front (bytesOf 8 (v .0 .0)) slip 8 (length-bytesOf 8 (v .0 .0)) (o .0))
+    ∙ o .1
+
+same-length-2 : tie.Need-same-length-2
+same-length-2 c = search needs
+
+returns-3 : tie.Need-returns-3
+unfolding pair
+returns-3 c =
     let k = c .before .before .before .before .before in
     let s = k .before .before .before in
-    let v = k .before .reply2 .given in
-    let u = s .before .before .before .args in
+    let v = k .before .reply3 .given in
+    let u = start s .args in
     let state = s .settle .result .state in
-    let n = v .0 .0 in
-    let total = read-back w64 (v .0 .1 .0) (k .known-told2 .given .1 .0 .1) in
+    let edition = v .0 .0 in
+    let n = v .0 .1 .0 in
+    let total = read-back w64 (v .0 .1 .1 .0) (k .known-told3 .given .1 .1 .0 .1) in
     ap (λ (l : List ℕ). record { number = 0; slip = l }) (c .before .before .write-state .ensures
-    ∙ ap (λ (t : ℤ). slipOf 1 n (take n (state .cols)) (take n (state .«row_prices»)) (take n (state .«col_prices»)) t ++ drop (slipLength n) (u .slip .now)) total)
-    ∙ paired-outcome (u .slip .now) (s .settle .result) (reading s) (right s) (settled-as s) n (v .0 .1 .0) (v .1) (sized s) .2
+    ∙ ap (λ (t : ℤ). slipOf edition n (take n (state .cols)) (take n (state .«row_prices»)) (take n (state .«col_prices»)) t ++ drop (slipLength n) (u .slip .now)) total)
+    ∙ paired-outcome (u .slip .now) (s .settle .result) (reading s) (right s) (settled-as s) edition n (v .0 .1 .1 .0) (v .1) (sized s) .2
 
 pub pair-spec : {M : Type 1} → statement M
 pair-spec =
@@ -92,7 +122,11 @@ pair-spec =
     enum-known-reply
     code-requires
     enum-known-reply-2
+    write-value-requires
+    enum-known-reply-3
     write-state-requires
     returns
     same-length
-    returns-2)
+    returns-2
+    same-length-2
+    returns-3)

@@ -12,8 +12,8 @@ read-array-requires c κs = search needs
 
 returns : tie.Need-returns
 returns c =
-    let u = c .before .before .before .before .before .before .before .before .before .before .args in
-    ap (λ (l : List ℤ). stateOf l (lent (u .state))) (c .read-array .ensures)
+    let u = c .before .before .before .before .before .before .before .before .before .before .before .args in
+    ap (λ (l : List ℤ). stateOf l (u .state .bars) (lent (u .state))) (c .read-array .ensures)
 
 pub read-night-spec : {M : Type 1} → statement M
 read-night-spec = tie.close (tie.spec read-array-requires returns)

@@ -1,10 +1,9 @@
--- `settle` answers what is settled of a sheet: a refusal of the tests, or what the solver makes of the costs. Assumes nothing.
-use mathlib.Core.Path.{sym, ap, _∙_}
-use Prim.Native.Nat.{ℕ, _*_}
+-- `settle` answers what is settled of a sheet: a refusal of the tests, or what comes of its night. Assumes nothing.
+use mathlib.Core.Path.{sym, ap, ap₂, _∙_}
+use Prim.Native.Nat.{ℕ}
 use borrow.Author.Needs.{needs}
-use Rattle.layout.specs.Sheets.{costsAt}
 use Rattle.matrix.specs.Verdicts.{Passes}
-use Rattle.sheet.specs.Reading.{sheetTests, costsTested}
+use Rattle.sheet.specs.Reading.{distanceDue, laidAt, sheetTests, nightTested}
 use Rattle.sheet.specs.Settle.{settledAs}
 use Rattle.sheet.specs.Values.{settledValues}
 use Rattle.sheet.proofs.Passing.{SheetPassed, tests-passed}
@@ -33,13 +32,16 @@ passed c =
     let u = c .before .before .before .before .args in
     tests-passed (u .room) (u .sheet .now) (all-passed c)
 
+edition-of-requires : tie.Need-edition-of-requires
+edition-of-requires c κs = passed c .ended
+
 side-of-requires : tie.Need-side-of-requires
-side-of-requires c κs = passed c .ended
+side-of-requires c κs = passed (c .before) .ended
 
 settle-night-requires : tie.Need-settle-night-requires
 settle-night-requires c κs =
-    let p = passed (c .before) in
-    rw (c .side-of .ensures .0) (p .small, p .inside)
+    let p = passed (c .before .before) in
+    rw (c .before .edition-of .ensures, c .side-of .ensures .0) (p .small, p .inside)
 
 returns : tie.Need-returns
 returns c =
@@ -49,13 +51,22 @@ returns c =
 
 returns-2 : tie.Need-returns-2
 returns-2 c =
-    let e = c .before .before in
+    let e = c .before .before .before in
     let u = e .before .before .before .before .args in
     ap settledValues (c .settle-night .ensures
-    ∙ ap (λ (m : ℕ). settledAs (costsTested m (costsAt (4 * (m * m)) (m * m) (u .sheet .now)))) (c .before .side-of .ensures .0)
+    ∙ ap₂ (λ (d m : ℕ). settledAs (nightTested (laidAt d m (distanceDue d m) (u .sheet .now)))) (c .before .before .edition-of .ensures) (c .before .side-of .ensures .0)
     ∙ passed-settles (u .room) (u .sheet .now) (all-passed e))
 
 pub settle-spec : {M : Type 1} → statement M
 settle-spec =
     tie.close
-    (tie.spec tests-requires enum-known-refusal refused-requires enum-told side-of-requires settle-night-requires returns returns-2)
+    (tie.spec
+    tests-requires
+    enum-known-refusal
+    refused-requires
+    enum-told
+    edition-of-requires
+    side-of-requires
+    settle-night-requires
+    returns
+    returns-2)

@@ -1,9 +1,13 @@
--- `settle_night` answers what the solver makes of the costs that it reads. Assumes nothing.
+-- `settle_night` answers what is settled of the night that it reads. Assumes nothing.
 use Prim.Native.Nat.{_*_, _≤_}
 use native.Mathlib.Nat.{mul-le-mul}
 use native.Mathlib.Omega.{arith}
+use mathlib.Core.Path.{ap, _∙_}
+use Prim.Native.Nat.{ℕ}
 use borrow.Author.Needs.{needs}
 use Rattle.matrix.proofs.SmallLimits.{sheetSide-small}
+use Rattle.sheet.specs.Steps.{readInto}
+use Rattle.sheet.proofs.Editions.{due-long}
 use Rattle.sheet.proofs.Solver.{state-settles}
 use Rattle.sheet.proofs.settle_night.Statement.{statement}
 use Rattle.sheet.proofs.settle_night.Tie as tie
@@ -17,26 +21,33 @@ squares c = mul-le-mul (few c) (few c)
 mul-count : tie.Need-mul-count
 mul-count c = omega (arith, squares (c .before))
 
+distance-due-requires : tie.Need-distance-due-requires
+distance-due-requires c κs = c .before .pre .0
+
 fresh-requires : tie.Need-fresh-requires
 fresh-requires c κs = search needs
 
-mul-read-night : tie.Need-mul-read-night
-mul-read-night c = omega (arith, squares (c .before .before))
-
 read-night-requires : tie.Need-read-night-requires
 read-night-requires c κs =
-    let s = c .before .before in
-    record { few = squares s; near = omega arith; long = s .pre .1 }
+    let s = c .before .before .before in
+    let e = c .before .distance-due .ensures in
+    record { few = squares s; near = omega (arith, e, due-long (s .args .edition) (s .args .n)); long = omega (arith, e, s .pre .1) }
 
-solve-night-requires : tie.Need-solve-night-requires
-solve-night-requires c κs = few (c .before .before .before)
+read-bars-requires : tie.Need-read-bars-requires
+read-bars-requires c κs = let s = c .before .before .before .before in (few s, s .pre .1)
+
+settle-in-requires : tie.Need-settle-in-requires
+settle-in-requires c κs = few (c .before .before .before .before .before)
 
 returns : tie.Need-returns
 returns c =
-    let s = c .before .before .before .before in
-    state-settles (s .args .n) (s .args .sheet .now) (s .pre .0) (c .before .before .fresh .ensures) (c .before .read-night .ensures) (c .solve-night .ensures)
+    let s = c .before .before .before .before .before .before in
+    let r = c .before .before in
+    state-settles (s .args .edition) (s .args .n) (s .args .sheet .now) (s .pre .0) (r .before .fresh .ensures)
+    (r .read-night .ensures ∙ ap (λ (d : ℕ). readInto d (s .args .n * s .args .n) (s .args .sheet .now) (r .before .fresh .result)) (r .before .before .distance-due .ensures))
+    (c .before .read-bars .ensures) (c .settle-in .ensures)
 
 pub settle-night-spec : {M : Type 1} → statement M
 settle-night-spec =
     tie.close
-    (tie.spec mul-count fresh-requires mul-read-night read-night-requires solve-night-requires returns)
+    (tie.spec mul-count distance-due-requires fresh-requires read-night-requires read-bars-requires settle-in-requires returns)

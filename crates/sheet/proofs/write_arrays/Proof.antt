@@ -14,12 +14,12 @@ use Rattle.sheet.proofs.write_arrays.Statement.{statement}
 use Rattle.sheet.proofs.write_arrays.Tie as tie
 
 -- the parts that are lent are the first n entries
-fronts : (slip : List ℕ) (n : ℕ) (cols : List ℕ) (rowPrices columnPrices : List ℤ) {read total : ℤ} → read ≡ total → n ≤ length cols
-    → slipOf 1 (length (take (n - 0) cols)) (take (n - 0) cols) (take (n - 0) rowPrices) (take (n - 0) columnPrices) read ++ drop (slipLength (length (take (n - 0) cols))) slip
-    ≡ slipOf 1 n (take n cols) (take n rowPrices) (take n columnPrices) total ++ drop (slipLength n) slip
-fronts slip n cols rowPrices columnPrices {total} e h =
+fronts : (slip : List ℕ) (edition n : ℕ) (cols : List ℕ) (rowPrices columnPrices : List ℤ) {read total : ℤ} → read ≡ total → n ≤ length cols
+    → slipOf edition (length (take (n - 0) cols)) (take (n - 0) cols) (take (n - 0) rowPrices) (take (n - 0) columnPrices) read ++ drop (slipLength (length (take (n - 0) cols))) slip
+    ≡ slipOf edition n (take n cols) (take n rowPrices) (take n columnPrices) total ++ drop (slipLength n) slip
+fronts slip edition n cols rowPrices columnPrices {total} e h =
     rw (sub-zero, e)
-    (ap (λ (m : ℕ). slipOf 1 m (take n cols) (take n rowPrices) (take n columnPrices) total ++ drop (slipLength m) slip) (length-take-le n cols h))
+    (ap (λ (m : ℕ). slipOf edition m (take n cols) (take n rowPrices) (take n columnPrices) total ++ drop (slipLength m) slip) (length-take-le n cols h))
 
 sub-write-slip : tie.Need-sub-write-slip
 sub-write-slip c = search needs
@@ -60,7 +60,7 @@ returns c =
     let start = lent .before .before in
     let u = start .args in
     c .before .before .write-slip .ensures
-    ∙ fronts (u .slip .now) (u .n) (u .cols .now) (u .row-prices .now) (u .col-prices .now) (toZ-ofZ (start .fits .total)) (omega (arith, lent .all-cols .given .0, start .pre .0))
+    ∙ fronts (u .slip .now) (u .edition) (u .n) (u .cols .now) (u .row-prices .now) (u .col-prices .now) (toZ-ofZ (start .fits .total)) (omega (arith, lent .all-cols .given .0, start .pre .0))
 
 pub write-arrays-spec : {M : Type 1} → statement M
 write-arrays-spec =

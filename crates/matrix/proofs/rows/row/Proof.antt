@@ -1,32 +1,15 @@
--- `row` hands back the part from i * n of length n. Assumes nothing.
-use native.Mathlib.Nat.{mul-le-mul-right, add-sub-cancel-left}
+-- `row` hands back a row of a square. Assumes nothing.
+use native.Mathlib.Nat.{mul-le-mul-right}
 use native.Mathlib.Omega.{arith}
 use borrow.Author.Needs.{needs}
 use Rattle.matrix.proofs.rows.row.Statement.{statement}
 use Rattle.matrix.proofs.rows.row.Tie as tie
 
-mul-at : tie.Need-mul-at
-mul-at c = omega (arith, mul-le-mul-right (c .args .n) (c .pre .0))
-
-add-end : tie.Need-add-end
-add-end c = omega (arith, mul-le-mul-right (c .args .n) (c .pre .0))
-
-mul-result : tie.Need-mul-result
-mul-result c = omega (arith, mul-le-mul-right (c .args .n) (c .pre .0))
-
-sub-result : tie.Need-sub-result
-sub-result c = search needs
-
-part-result-start : tie.Need-part-result-start
-part-result-start c = search needs
-
-part-result-end : tie.Need-part-result-end
-part-result-end c = omega (arith, mul-le-mul-right (c .args .n) (c .pre .0))
+row-of-requires : tie.Need-row-of-requires
+row-of-requires c κs = omega (arith, mul-le-mul-right (c .args .n) (c .pre .0), c .pre .1)
 
 returns : tie.Need-returns
-returns c = simp add-sub-cancel-left
+returns c = c .row-of .ensures
 
 pub row-spec : {M : Type 1} → statement M
-row-spec =
-    tie.close
-    (tie.spec mul-at add-end mul-result sub-result part-result-start part-result-end returns)
+row-spec = tie.close (tie.spec row-of-requires returns)

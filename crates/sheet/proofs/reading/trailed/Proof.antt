@@ -1,18 +1,18 @@
 -- `trailed` answers 17, 11, 12, 13: each test that is passed leaves the rest of the chain. Assumes nothing.
 use mathlib.Core.Path.{_≡_, refl, sym, ap, ap₂, _∙_}
-use mathlib.Core.Bool.{Bool, false, not}
+use mathlib.Core.Bool.{Bool, false}
 use Prim.Native.Nat.{ℕ, _≤_}
 use native.Mathlib.Omega.{arith}
 use borrow.Author.Needs.{needs}
-use borrow.Author.Tests.{lt-ltb, le-ltb, eq-eqb, ne-eqb}
-use lib.Dec.{ltb, eqb}
+use borrow.Author.Tests.{lt-ltb, le-ltb}
+use lib.Dec.{ltb}
 use lib.ListN.{length}
 use Rattle.layout.specs.Values.{valueOf}
 use Rattle.layout.specs.Trailers.{sheetMark, sideOf, editionOf, unmarked}
 use Rattle.matrix.specs.Limits.{sheetSide}
 use Rattle.matrix.specs.Verdicts.{_then_, failsBy, failsIf}
 use Rattle.matrix.specs.Refusals.{SheetSideOver}
-use Rattle.sheet.specs.Reading.{sheetMost}
+use Rattle.sheet.specs.Reading.{sheetMost, unknown}
 use Rattle.sheet.proofs.Passing.{has-trailer}
 use Rattle.sheet.proofs.reading.trailed.Statement.{statement}
 use Rattle.sheet.proofs.reading.trailed.Tie as tie
@@ -33,8 +33,8 @@ marked c = ap (λ (m : ℕ). unmarked m (c .before .before .before .before .befo
 long : (c : tie.Else2) → 12 ≤ length (c .before .before .before .before .before .args .sheet .now)
 long c = has-trailer (valueOf sheetMark) (c .before .before .before .before .before .args .sheet .now) (marked c)
 
-first-edition : (c : tie.Else3) → not (eqb (editionOf (c .before .before .before .before .before .before .before .args .sheet .now)) 1) ≡ false
-first-edition c = ap not (eq-eqb (editionOf (c .before .before .before .before .before .before .before .args .sheet .now)) 1 (sym (c .before .edition-of .ensures) ∙ c .if3 .left))
+first-editions : (c : tie.Else3) → unknown (editionOf (c .before .before .before .before .before .before .before .before .args .sheet .now)) ≡ false
+first-editions c = sym (c .before .unknown .ensures ∙ ap unknown (c .before .before .edition-of .ensures)) ∙ c .if3 .left
 
 sheet-most-requires : tie.Need-sheet-most-requires
 sheet-most-requires c κs = search needs
@@ -59,20 +59,24 @@ returns-2 c = c .fails-if2 .ensures ∙ rw (not-over (c .before .before .before)
 edition-of-requires : tie.Need-edition-of-requires
 edition-of-requires c κs = long c
 
+unknown-requires : tie.Need-unknown-requires
+unknown-requires c κs = search needs
+
 fails-if-requires-3 : tie.Need-fails-if-requires-3
 fails-if-requires-3 c κs = search needs
 
 returns-3 : tie.Need-returns-3
 unfolding _then_ failsBy
 returns-3 c =
-    let d = c .before .before .before in
-    c .fails-if3 .ensures ∙ rw (not-over (d .before .before), marked d, ne-eqb (editionOf (d .before .before .before .before .before .args .sheet .now)) 1 (λ e. c .before .if3 .taken (c .before .before .edition-of .ensures ∙ e)))
+    let d = c .before .before .before .before in
+    let new = sym (c .before .before .unknown .ensures ∙ ap unknown (c .before .before .before .edition-of .ensures)) ∙ c .before .if3 .taken in
+    c .fails-if3 .ensures ∙ rw (not-over (d .before .before), marked d, new)
 
 sheet-side-requires : tie.Need-sheet-side-requires
 sheet-side-requires c κs = search needs
 
 side-of-requires : tie.Need-side-of-requires
-side-of-requires c κs = long (c .before .before .before)
+side-of-requires c κs = long (c .before .before .before .before)
 
 fails-if-requires-4 : tie.Need-fails-if-requires-4
 fails-if-requires-4 c κs = search needs
@@ -81,9 +85,9 @@ returns-4 : tie.Need-returns-4
 unfolding _then_ failsBy
 returns-4 c =
     let d = c .before .before .before in
-    let e = d .before .before in
+    let e = d .before .before .before in
     c .fails-if4 .ensures ∙ ap (λ (t : Bool). failsIf SheetSideOver 0 t) (ap₂ ltb (c .before .before .sheet-side .ensures) (c .before .side-of .ensures .0))
-    ∙ rw (not-over (e .before .before), marked e, first-edition d)
+    ∙ rw (not-over (e .before .before), marked e, first-editions d)
 
 pub trailed-spec : {M : Type 1} → statement M
 trailed-spec =
@@ -96,6 +100,7 @@ trailed-spec =
     fails-if-requires-2
     returns-2
     edition-of-requires
+    unknown-requires
     fails-if-requires-3
     returns-3
     sheet-side-requires
