@@ -36,6 +36,9 @@ done
 tail -c 47 n8.sheet | keep cut-off.sheet
 { printf '# One guest\n'; tail -c 16 one.sheet; } | keep line-end.sheet
 { head -c -20 ends.sheet; printf '\001\312\232\073'; tail -c 16 ends.sheet; } | keep over-k.sheet
+# In edition 3 the number of rows (2 bytes) stands before the trailer.
+{ head -c -14 edition-3.sheet; printf '\005'; tail -c 13 edition-3.sheet; } | keep more-rows.sheet
+{ printf '\000'; tail -c 12 edition-3.sheet; } | keep no-rows.sheet
 # In edition 2 the costs stand before 8 bytes for each row.
 { head -c -44 edition-2.sheet; printf '\101\102\017\000'; tail -c 40 edition-2.sheet; } | keep over-barred.sheet
 { head -c -20 edition-2.sheet; printf '\004'; tail -c 19 edition-2.sheet; } | keep bars-past-side.sheet

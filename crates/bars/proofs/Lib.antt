@@ -6,4 +6,5 @@ pub mod FilledCosts
 pub mod Masks
 pub mod Barred
 pub mod Longer
+pub mod Padded
 pub mod Passed

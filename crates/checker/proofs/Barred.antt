@@ -1,7 +1,7 @@
 -- The checker of a night with bars: it accepts exactly a well-formed pairing with fair prices that are tight on it; what it accepts is least among the
 -- pairings without a barred place; under prices accepted for one pairing it accepts exactly the least; and what is not least is refused under any
 -- prices. Assumes nothing.
-use mathlib.Core.Path.{_≡_, refl, sym, _∙_}
+use mathlib.Core.Path.{_≡_, sym, _∙_}
 use mathlib.Core.Logic.{_↔_}
 use mathlib.Core.List.{List, [], _∷_}
 use Prim.Native.Nat.{ℕ, _*_, _≤_, _<_}

@@ -7,6 +7,9 @@ pub mod Accepted
 pub mod Shown
 pub mod Least
 pub mod Barred
+pub mod Oblong
+pub mod SquareOblong
+pub mod FromSquare
 pub mod Determined
 pub mod Codes
 pub mod Nights

@@ -3,7 +3,7 @@
 use mathlib.Core.Path.{_≡_, refl, sym, _∙_}
 use mathlib.Core.Bool.{Bool, true, false, _&&_, true≢false}
 use mathlib.Core.Logic.{⊎-elim}
-use mathlib.Core.List.{List}
+use mathlib.Core.List.{List, []}
 use Prim.Native.Nat.{ℕ, _*_, _<_}
 use native.Mathlib.Omega.{arith}
 use borrow.Author.Tests.{ltb-true}
@@ -25,22 +25,26 @@ use Rattle.matrix.specs.Refusals.{PricesOverCost, PricesNotCost}
 use Rattle.matrix.specs.Tests.{pricesWithin}
 use Rattle.matrix.specs.declared.Refusal.{Refusal}
 use Rattle.matrix.specs.declared.Answer.the-variants.{Refused}
-use Rattle.matrix.proofs.Places.{place-below}
+use Rattle.matrix.proofs.Places.{place-in, place-below}
 use Rattle.matrix.proofs.Verdicts.{then-iff, Every, then-every, failsBy-every, failsAtBy-every, refused-every}
 use Rattle.matrix.proofs.Passed.{shaped-iff, costs-within, columns-inside, prices-within}
-use Rattle.bars.specs.Barred.{barred}
-use Rattle.bars.proofs.Passed.{barredMost-small, costs-small, unbarred-iff}
+use Rattle.bars.specs.Barred.{nightOf, barred}
+use Rattle.bars.proofs.Passed.{barredMost-small, costs-small, none-barred, unbarred-iff}
 use Rattle.checker.specs.Tests.{slack, over, overFirst, overIn, refusedOver, underCosts, differ, loose, refusedLoose, tightOn}
-use Rattle.checker.specs.Check.{priceTests, checks, check, checksBarred, checkBarred}
+use Rattle.checker.specs.Check.{priceTests, checks, check, checksBarred, checkBarred, checksOblong, checkOblong}
 use Rattle.checker.specs.Slacks.{SlackRight}
 use Rattle.checker.proofs.Places.{differ-same}
 use Rattle.checker.proofs.Tests.{under-costs}
 use Rattle.checker.proofs.Barred.{shaped-barred-iff}
+use Rattle.checker.proofs.Oblong.{shaped-oblong-iff}
 
 -- A refusal that is neither 9 nor 10.
 pub neither-right : (number place : ℕ) → ¬ (number ≡ PricesOverCost) → ¬ (number ≡ PricesNotCost) → SlackRight (record { number = number; place = place; slack = pos 0 })
 neither-right number place nine ten =
     record { nine-negative = λ e. absurd (nine e); ten-positive = λ e. absurd (ten e); others-none = λ e f. refl; within = omega zarith }
+
+neither-if : (number place : ℕ) (test : Bool) → 10 < number → Every SlackRight (failsIf number place test)
+neither-if number place test l = failsBy-every SlackRight number place (pos 0) test (λ e. neither-right number place (λ s. omega arith) (λ s. omega arith))
 
 pub neither-at : (number : ℕ) (place : ℕ → ℕ) (n : ℕ) (test : ℕ → Bool) → 10 < number → Every SlackRight (failsAt number place n test)
 neither-at number place n test l =
@@ -159,4 +163,30 @@ check-barred-slacks n costs cols rows us vs bars e =
     (λ i j l m. within-mono barredMost-small (costs-small costs .0 (then-iff _ _ .0 (t6 .0) .0) _ (omega (arith, place-below n i j l m, s .1))))
     cols
     (λ i l. (columns-inside n n cols .0 (t6 .1) i l, unbarred-iff n costs bars cols .0 (t26 .1) i l))))
+    e
+
+-- And one of an oblong night.
+pub check-oblong-slacks : (m n : ℕ) (costs : List ℤ) (cols : List ℕ) (us vs : List ℤ) {refusal : Refusal}
+    → checkOblong m n costs cols us vs ≡ Refused refusal → SlackRight refusal
+unfolding checkOblong checksOblong
+check-oblong-slacks m n costs cols us vs e =
+    refused-every SlackRight _ _
+    (then-every SlackRight _ _
+    (then-every SlackRight _ _
+    (then-every SlackRight _ _
+    (then-every SlackRight _ _
+    (then-every SlackRight _ _
+    (then-every SlackRight _ _ (then-every SlackRight _ _ (then-every SlackRight _ _ (none-if _ _ _ (lit< tt)) (λ a. neither-if _ _ _ (lit< tt))) (λ a. none-if _ _ _ (lit< tt))) (λ a. none-if _ _ _ (lit< tt)))
+    (λ a. none-if _ _ _ (lit< tt)))
+    (λ a. none-if _ _ _ (lit< tt)))
+    (λ a. then-every SlackRight _ _ (then-every SlackRight _ _ (none-at _ _ _ _ (lit< tt)) (λ b. none-at _ _ _ _ (lit< tt))) (λ b. none-at _ _ _ _ (lit< tt))))
+    (λ passed.
+    let t = then-iff _ _ .0 passed in
+    let t6 = then-iff _ _ .0 (then-iff _ _ .0 (t .1) .0) in
+    let s = shaped-oblong-iff m n costs (length cols) (length us) (length vs) .0 (t .0) in
+    prices-slacks (nightOf m n costs []) us vs
+    (λ i j l h. costs-within costs .0 (t6 .0) _ (omega (arith, place-in m n i j l h, s .2)))
+    cols
+    (λ i l. (columns-inside m n cols .0 (t6 .1) i l, none-barred m n costs i (at cols i)))))
+    (λ a. neither-at _ _ _ _ (lit< tt)))
     e

@@ -1,27 +1,30 @@
 -- What an input that passes the checker's own tests is like, for any night. Assumes nothing.
-use mathlib.Core.Path.{_≡_, refl, sym, ap}
+use mathlib.Core.Path.{_≡_, refl, sym, ap, _∙_}
 use mathlib.Core.Bool.{Bool, true, false, not, _&&_, true≢false}
-use mathlib.Core.Logic.{_↔_}
+use mathlib.Core.Logic.{_↔_, ⊎-elim}
 use mathlib.Core.List.{List}
 use Prim.Native.Nat.{ℕ, _≤_, _<_}
+use native.Mathlib.Decide.{decLt}
 use native.Mathlib.Omega.{arith}
-use borrow.Author.Tests.{ltb-false, le-ltb, eqb-true, eq-eqb, not-false}
-use lib.Dec.{ltb}
+use borrow.Author.Tests.{ltb-false, le-ltb, eqb-true, eq-eqb, not-true, not-false}
+use lib.Dec.{ltb, eqb}
 use lib.IntN.{ℤ, pos, _-ℤ_}
 use lib.ListN.{length}
 use lib.Signed.{ltZ, _≤ℤ_}
 use Rattle.ints.proofs.Sums.{dif}
 use Rattle.ints.proofs.Ranges.{zarith}
-use Rattle.ints.proofs.Tests.{le-ltZ}
+use Rattle.ints.proofs.Tests.{lt-ltZ, le-ltZ, le-or-lt, not-true-false}
 use Rattle.lists.specs.Runs.{first}
 use Rattle.lists.specs.Permutations.{at}
-use Rattle.assignment.specs.Pairings.{Night}
-use Rattle.assignment.specs.Prices.{priced, Feasible, Tight}
+use Rattle.lists.specs.Counts.{some}
+use Rattle.lists.proofs.Counts.{some-read, some-make}
+use Rattle.assignment.specs.Pairings.{Night, Spare, signedAt}
+use Rattle.assignment.specs.Prices.{priced, Feasible, Tight, SparesNotBelow}
 use Rattle.matrix.specs.Verdicts.{Passes}
 use Rattle.matrix.proofs.First.{Clear, nowhere, ended}
-use Rattle.matrix.proofs.Verdicts.{then-iff, failsAtBy-iff, failsAt-iff}
+use Rattle.matrix.proofs.Verdicts.{then-iff, failsIf-iff, failsAtBy-iff, failsAt-iff}
 use Rattle.matrix.proofs.Passed.{prices-within}
-use Rattle.checker.specs.Tests.{rowsNamed, slack, over, overIn, underCosts, underCostsBut, loose, tightOn, tightOnBut}
+use Rattle.checker.specs.Tests.{rowsNamed, slack, over, overIn, underCosts, underCostsBut, loose, tightOn, tightOnBut, rowsFit, usedBy, columnsOnce, spareBelow, sparesNotBelow}
 use Rattle.checker.specs.Check.{priceTests}
 use Rattle.checker.specs.Proven.{Fair, FeasibleBut, TightBut}
 use Rattle.checker.proofs.Places.{differ-false, differ-same}
@@ -117,3 +120,57 @@ price-tests-iff night cols us vs rows columns = (
       let t9 = then-iff _ _ .1 (prices-within (night .rowCount) (night .columnCount) us vs .1 (f .row-prices .within, f .column-prices .within), under-costs night us vs .1 (f .feasible)) in
       then-iff _ _ .1 (t9, tight-on night us vs cols .1 (h .1)),
 )
+
+-- ---- an oblong night
+
+pub rows-fit : (m n : ℕ) → Passes (rowsFit m n) ↔ (m ≤ n)
+rows-fit m n = let t = failsIf-iff _ _ _ in (λ e. ltb-false n m (t .0 e), λ h. t .1 (le-ltb n m h))
+
+-- A column that one of the rows has, and one that none has.
+used : (cols : List ℕ) (count j i : ℕ) → i < count → at cols i ≡ j → usedBy cols count j ≡ true
+used cols count j i l e = some-make count (λ k. eqb (at cols k) j) i l (eq-eqb (at cols i) j e)
+
+not-used : (cols : List ℕ) (count j : ℕ) → ((i : ℕ) → i < count → at cols i ≡ j → ⊥) → usedBy cols count j ≡ false
+not-used cols count j none = not-true-false (λ t. let s = some-read count (λ k. eqb (at cols k) j) t in none (s .0) (s .1) (eqb-true (at cols (s .0)) j (s .2)))
+
+pub columns-once : (m : ℕ) (cols : List ℕ) → Passes (columnsOnce m cols) ↔ ((i k : ℕ) → i < m → k < m → at cols i ≡ at cols k → i ≡ k)
+columns-once m cols = (
+  λ e i k l h same. by e i k l h same (decLt i k) (decLt k i),
+  λ once. t .1 (λ i l. not-used cols i (at cols i) (λ k h same. let q = once k i (omega arith) l same in omega arith)),
+)
+  where
+    t : Passes (columnsOnce m cols) ↔ Clear (λ i. usedBy cols i (at cols i)) m
+    t = failsAt-iff _ _ _ _
+
+    by : Passes (columnsOnce m cols) → (i k : ℕ) → i < m → k < m → at cols i ≡ at cols k → Dec (i < k) → Dec (k < i) → i ≡ k
+    by e i k l h same (yes b) c = absurd (true≢false (sym (used cols k (at cols k) i b same) ∙ t .0 e k h))
+    by e i k l h same (no b) (yes c) = absurd (true≢false (sym (used cols i (at cols i) k c (sym same)) ∙ t .0 e i l))
+    by e i k l h same (no b) (no c) = omega arith
+
+-- 27 is passed exactly where no spare column's price is below a used one's.
+module _ (night : Night) (cols : List ℕ) (vs : List ℤ) where
+  abbrev m : ℕ
+  m = night .rowCount
+
+  abbrev above : ℕ → ℕ → Bool
+  above j i = ltZ (signedAt vs j) (signedAt vs (at cols i))
+
+  not-below-spare : (j : ℕ) → spareBelow m cols vs j ≡ false → Spare night cols j → (i : ℕ) → i < m → signedAt vs (at cols i) ≤ℤ signedAt vs j
+  not-below-spare j e spare i l =
+      let none = and-false (not (usedBy cols m j)) (some m (above j)) e (ap not (not-used cols m j spare)) in
+      ⊎-elim (λ h. h) (λ b. absurd (true≢false (sym (some-make m (above j) i l (lt-ltZ (signedAt vs j) (signedAt vs (at cols i)) b)) ∙ none)))
+      (le-or-lt (signedAt vs (at cols i)) (signedAt vs j))
+
+  spare-not-below : (j : ℕ) → (Spare night cols j → (i : ℕ) → i < m → signedAt vs (at cols i) ≤ℤ signedAt vs j) → spareBelow m cols vs j ≡ false
+  spare-not-below j h =
+      false-and (not (usedBy cols m j)) (some m (above j)) (λ e.
+      let none = not-true (usedBy cols m j) e in
+      let spare : Spare night cols j = λ i l same. true≢false (sym (used cols m j i l same) ∙ none) in
+      not-true-false (λ t. let s = some-read m (above j) t in let b = s .2 in omega (zarith, h spare (s .0) (s .1))))
+
+  pub spares-not-below : Passes (sparesNotBelow m (night .columnCount) cols vs) ↔ SparesNotBelow night vs cols
+  spares-not-below =
+      let t = failsAt-iff _ _ _ _ in (
+        λ e. record { not-below = λ i j l h spare. not-below-spare j (t .0 e j h) spare i l },
+        λ s. t .1 (λ j h. spare-not-below j (λ spare i l. s .not-below i j l h spare)),
+      )

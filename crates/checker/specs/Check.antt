@@ -10,9 +10,9 @@ use Rattle.matrix.specs.Tests.{sideWithin, costsFill, listsLong, listLong, shap
 use Rattle.matrix.specs.Answers.{totalled}
 use Rattle.matrix.specs.declared.Verdict.{Verdict}
 use Rattle.matrix.specs.declared.Answer.{Answer}
-use Rattle.bars.specs.Barred.{barred}
+use Rattle.bars.specs.Barred.{nightOf, barred}
 use Rattle.bars.specs.Tests.{costsSmall, barsClear, unbarred}
-use Rattle.checker.specs.Tests.{rowsNamed, underCosts, tightOn}
+use Rattle.checker.specs.Tests.{rowsNamed, underCosts, tightOn, rowsFit, columnsOnce, sparesNotBelow}
 
 -- 8, 9, 10: the prices, of any night.
 abbrev pub priceTests : Night → List ℕ → List ℤ → List ℤ → Verdict
@@ -67,3 +67,30 @@ checksBarred n costs cols rows us vs bars =
 
 unfoldable pub checkBarred : ℕ → List ℤ → List ℕ → List ℕ → List ℤ → List ℤ → List ℕ → Answer
 checkBarred n costs cols rows us vs bars = totalled (checksBarred n costs cols rows us vs bars) (total (barred n costs bars) cols)
+
+-- ---- an oblong night: "m rows and n columns, m at most n, at most 64"; "It takes columns by row only"
+
+-- 1, 23, 2, 3, given the lengths of the lists: "lists by row need m", there is no list 2.
+abbrev pub shapedOblong : ℕ → ℕ → List ℤ → ℕ → ℕ → ℕ → Verdict
+shapedOblong m n costs cols us vs =
+    sideWithin sheetSide n
+    then rowsFit m n
+    then costsFill m n costs
+    then listLong 1 m cols
+    then listLong 3 m us
+    then listLong 4 n vs
+
+-- 5, 6, 7: the costs and the choice of columns.
+abbrev pub pairedOblong : ℕ → ℕ → List ℤ → List ℕ → Verdict
+pairedOblong m n costs cols = costsWithin costs then columnsInside m n cols then columnsOnce m cols
+
+-- 1, 23, 2, 3, 5, 6, 7, 8, 9, 10, 27.
+unfoldable pub checksOblong : ℕ → ℕ → List ℤ → List ℕ → List ℤ → List ℤ → Verdict
+checksOblong m n costs cols us vs =
+    shapedOblong m n costs (length cols) (length us) (length vs)
+    then pairedOblong m n costs cols
+    then priceTests (nightOf m n costs []) cols us vs
+    then sparesNotBelow m n cols vs
+
+unfoldable pub checkOblong : ℕ → ℕ → List ℤ → List ℕ → List ℤ → List ℤ → Answer
+checkOblong m n costs cols us vs = totalled (checksOblong m n costs cols us vs) (total (nightOf m n costs []) cols)

@@ -74,3 +74,13 @@ pub record BarredPaired (n : ℕ) (costs : List ℤ) (bars cols rows : List ℕ)
   pub clear : (i : ℕ) → i < n → bitsAbove n (at bars i) ≡ false
   pub named : Named (barred n costs bars) cols rows
   pub permitted : (i : ℕ) → i < n → barred n costs bars .allowed i (at cols i) ≡ true
+
+-- A choice of columns for the m rows of an oblong night, well-formed: sizes, ranges, and no column twice.
+pub record OblongPaired (m n : ℕ) (costs : List ℤ) (cols : List ℕ) : Type 0 where
+  pub small : n ≤ sheetSide
+  pub fits : m ≤ n
+  pub filled : length costs ≡ m * n
+  pub columns-listed : m ≤ length cols
+  pub within : (k : ℕ) → k < length costs → Within K (signedAt costs k)
+  pub inside : (i : ℕ) → i < m → at cols i < n
+  pub once : (i k : ℕ) → i < m → k < m → at cols i ≡ at cols k → i ≡ k

@@ -7,11 +7,12 @@ use lib.IntN.{ℤ, pos, _-ℤ_}
 use lib.Signed.{ltZ}
 use Rattle.lists.specs.Runs.{first}
 use Rattle.lists.specs.Permutations.{at}
-use Rattle.assignment.specs.Pairings.{Night}
+use Rattle.lists.specs.Counts.{some}
+use Rattle.assignment.specs.Pairings.{Night, signedAt}
 use Rattle.assignment.specs.Prices.{priced}
-use Rattle.matrix.specs.Verdicts.{failsAtBy, failsAt}
+use Rattle.matrix.specs.Verdicts.{failsAtBy, failsIf, failsAt}
 use Rattle.matrix.specs.declared.Verdict.{Verdict}
-use Rattle.matrix.specs.Refusals.{RowNotNamed, PricesOverCost, PricesNotCost}
+use Rattle.matrix.specs.Refusals.{RowNotNamed, PricesOverCost, PricesNotCost, RowsOver, SpareBelow}
 
 -- 7, "the column of a row does not name that row back".
 abbrev pub rowsNamed : ℕ → List ℕ → List ℕ → Verdict
@@ -69,3 +70,25 @@ tightOn night cols us vs = refusedLoose night cols us vs (loose night cols us vs
 -- 10, "leaving out" row s.
 abbrev pub tightOnBut : ℕ → Night → List ℕ → List ℤ → List ℤ → Verdict
 tightOnBut s night cols us vs = refusedLoose night cols us vs (but s (loose night cols us vs))
+
+-- ---- an oblong night: m rows, each with its own of n columns, and spare columns
+
+-- 23, "More rows than columns is 23, place the row count".
+abbrev pub rowsFit : ℕ → ℕ → Verdict
+rowsFit m n = failsIf RowsOver m (ltb n m)
+
+-- Whether one of the first rows, so many, has column j.
+abbrev pub usedBy : List ℕ → ℕ → ℕ → Bool
+usedBy cols count j = some count (λ i. eqb (at cols i) j)
+
+-- 7, "one used twice is 7, place the later row": the first row whose column an earlier row has.
+abbrev pub columnsOnce : ℕ → List ℕ → Verdict
+columnsOnce m cols = failsAt RowNotNamed (λ i. i) m (λ i. usedBy cols i (at cols i))
+
+-- Whether column j is spare and its price below that of a used column.
+abbrev pub spareBelow : ℕ → List ℕ → List ℤ → ℕ → Bool
+spareBelow m cols vs j = not (usedBy cols m j) && some m (λ i. ltZ (signedAt vs j) (signedAt vs (at cols i)))
+
+-- 27, "No spare column's price may be below a used one's", "place the first such spare column".
+abbrev pub sparesNotBelow : ℕ → ℕ → List ℕ → List ℤ → Verdict
+sparesNotBelow m n cols vs = failsAt SpareBelow (λ j. j) n (spareBelow m cols vs)

@@ -13,7 +13,7 @@ ghost use Rattle.matrix.specs.Cost.{totalOf};
 ghost use Rattle.matrix.specs.Limits.{side};
 ghost use Rattle.matrix.specs.Verdicts.{Passes, _then_};
 ghost use Rattle.checker.specs.Tests.{rowsNamed};
-ghost use Rattle.checker.specs.Check.{proofTests, checks, check, shapedBarred, pairedBarred, checksBarred, checkBarred};
+ghost use Rattle.checker.specs.Check.{proofTests, checks, check, shapedBarred, pairedBarred, checksBarred, checkBarred, shapedOblong, pairedOblong, checksOblong, checkOblong};
 use crate::prices::priced;
 use matrix::Answer;
 use matrix::Verdict;
@@ -21,6 +21,7 @@ use matrix::limits::sheet_side;
 use matrix::refusals;
 use matrix::tests;
 
+pub mod choices;
 pub mod prices;
 
 // Refusal 7: the first row whose column does not name it back, or n.
@@ -179,4 +180,58 @@ pub fn check_barred(
 {
     let verdict = checked_barred(n, costs, cols, rows, us, vs, bars);
     answered(verdict, n, n, costs, cols)
+}
+
+// Tests 1, 23, 2, 3 of an oblong night, given the lengths of its three lists.
+fn shaped_oblong(m: usize, n: usize, costs: &[i32], cols: usize, us: usize, vs: usize) -> Verdict
+    ensures { λ r. ⌜ r ≡ shapedOblong m n (now (costs .entry)) cols us vs ⌝ }
+{
+    let sized = tests::side_within(sheet_side(), n);
+    let fit = choices::rows_fit(sized, m, n);
+    let filled = tests::costs_fill(fit, m, n, costs);
+    let first = tests::list_long(filled, 1, m, cols);
+    let third = tests::list_long(first, 3, m, us);
+    tests::list_long(third, 4, n, vs)
+}
+
+// Tests 5, 6, 7.
+fn paired_oblong(before: Verdict, m: usize, n: usize, costs: &[i32], cols: &[u32]) -> Verdict
+    requires { ⌜ (Passes before → m ≤ length (now cols)) ⌝ }
+    ensures { λ r. ⌜ r ≡ (before then pairedOblong m n (now (costs .entry)) (now (cols .entry))) ⌝ }
+{
+    let within = tests::costs_within(before, costs);
+    let inside = tests::columns_inside(within, m, n, cols);
+    choices::columns_once(inside, m, cols)
+}
+
+// Tests 1, 23, 2, 3, 5, 6, 7, 8, 9, 10, 27.
+fn checked_oblong(
+    m: usize,
+    n: usize,
+    costs: &[i32],
+    cols: &[u32],
+    us: &[i64],
+    vs: &[i64],
+) -> Verdict
+    ensures { λ r. ⌜ r ≡ checksOblong m n (now (costs .entry)) (now (cols .entry)) (now (us .entry)) (now (vs .entry)) ⌝ }
+{
+    let shaped = shaped_oblong(m, n, costs, cols.len(), us.len(), vs.len());
+    let paired = paired_oblong(shaped, m, n, costs, cols);
+    let fair = priced(paired, m, n, costs, cols, us, vs, &[]);
+    choices::spares_not_below(fair, m, n, cols, vs)
+}
+
+// The checker of an oblong night: m rows, each with its own of n columns.
+pub fn check_oblong(
+    m: usize,
+    n: usize,
+    costs: &[i32],
+    cols: &[u32],
+    us: &[i64],
+    vs: &[i64],
+) -> Answer
+    ensures { λ r. ⌜ valuesOf r ≡ valuesOf (checkOblong m n (now (costs .entry)) (now (cols .entry)) (now (us .entry)) (now (vs .entry))) ⌝ }
+{
+    let verdict = checked_oblong(m, n, costs, cols, us, vs);
+    answered(verdict, m, n, costs, cols)
 }

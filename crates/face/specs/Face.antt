@@ -1,6 +1,11 @@
 -- What a C caller gets, from the values of what the entries answer: "0, or number + 256*place".
-use Prim.Native.Nat.{_+_, _*_}
+use mathlib.Core.Bool.{cond}
+use Prim.Native.Nat.{_+_, _*_, _-_, _^_, _<_}
+use lib.Dec.{ltb}
 use Rattle.matrix.specs.Answers.{Values, valuesOf}
+use Rattle.matrix.specs.Refusals.{numberOf}
+use Rattle.matrix.specs.declared.Answer.{Answer}
+use Rattle.matrix.specs.declared.Answer.the-variants.{Total, Refused}
 use Rattle.lapjv.specs.Solve.{Lent}
 use Rattle.lapjv.specs.Values.{SolvedValues, Told}
 use Rattle.repair.specs.Repair.{Outcome}
@@ -15,6 +20,15 @@ totalled v = record { refusal = v .number + 256 * v .place; total = v .total }
 -- A total, or a refusal with its slack.
 abbrev pub checked : Values → Checked
 checked v = record { refusal = v .number + 256 * v .place; total = v .total; slack = v .slack }
+
+-- The same whatever the place: "where number + 256*place would not fit 64 bits, the C face tells the place as 2^56 - 1".
+abbrev pub checkedAny : Values → Checked
+checkedAny v = record { refusal = v .number + 256 * cond (ltb (v .place) (2 ^ 56)) (v .place) (2 ^ 56 - 1); total = v .total; slack = v .slack }
+
+-- What is asked of an answer to be told so: a number below 256.
+abbrev pub NumberedIn : Answer → Type 0
+NumberedIn (Total total) = Unit {0}
+NumberedIn (Refused refusal) = numberOf refusal < 256
 
 -- A total with the six counts, or a refusal.
 abbrev pub solution : SolvedValues → Solution

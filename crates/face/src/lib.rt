@@ -5,7 +5,7 @@ ghost use Rattle.matrix.specs.Answers.{valuesOf};
 ghost use Rattle.matrix.specs.Asked.{TellableIn};
 ghost use Rattle.score.specs.Score.{score};
 ghost use Rattle.score.specs.ScoreSheet.{Filled, scoreSheet};
-ghost use Rattle.checker.specs.Check.{check, checkBarred};
+ghost use Rattle.checker.specs.Check.{check, checkBarred, checkOblong};
 ghost use Rattle.lapjv.specs.Solve.{lentOf, solve};
 ghost use Rattle.lapjv.specs.Values.{solvedValues, toldOf};
 ghost use Rattle.lapjv.specs.Asked.{TellableSolved};
@@ -13,7 +13,7 @@ ghost use Rattle.repair.specs.Repair.{repair};
 ghost use Rattle.sheet.specs.Settle.{Delivery, pair};
 ghost use Rattle.pieces.specs.Kept.{kept};
 ghost use Rattle.pieces.specs.Calls.{taken, piece, ending, delivered, end, reset};
-ghost use Rattle.face.specs.Face.{totalled, checked, solution, Handed, handed, HandedBack, handedBack};
+ghost use Rattle.face.specs.Face.{totalled, checked, checkedAny, NumberedIn, solution, Handed, handed, HandedBack, handedBack};
 use lapjv::Solved;
 use matrix::Answer;
 
@@ -115,6 +115,40 @@ pub extern "C" fn bristlefrost_check_barred(
     ensures { λ r. ⌜ r ≡ checked (valuesOf (checkBarred n (now (costs .entry)) (now (cols .entry)) (now (rows .entry)) (now («row_prices» .entry)) (now («col_prices» .entry)) (now (bars .entry)))) ⌝ }
 {
     told_checked(checker::check_barred(n, costs, cols, rows, row_prices, col_prices, bars))
+}
+
+// What a C caller gets of an answer with any place.
+fn told_any(answer: Answer) -> Checked
+    requires { ⌜ NumberedIn answer ⌝ }
+    ensures { λ r. ⌜ r ≡ checkedAny (valuesOf answer) ⌝ }
+{
+    match answer {
+        Answer::Total(total) => Checked {
+            refusal: 0,
+            total,
+            slack: 0,
+        },
+        Answer::Refused(refusal) => Checked {
+            refusal: matrix::refusals::capped_code(refusal),
+            total: 0,
+            slack: matrix::refusals::slack(refusal),
+        },
+    }
+}
+
+// The checker of m rows and n columns.
+#[no_mangle]
+pub extern "C" fn bristlefrost_check_oblong(
+    m: usize,
+    n: usize,
+    costs: &[i32],
+    cols: &[u32],
+    row_prices: &[i64],
+    col_prices: &[i64],
+) -> Checked
+    ensures { λ r. ⌜ r ≡ checkedAny (valuesOf (checkOblong m n (now (costs .entry)) (now (cols .entry)) (now («row_prices» .entry)) (now («col_prices» .entry)))) ⌝ }
+{
+    told_any(checker::check_oblong(m, n, costs, cols, row_prices, col_prices))
 }
 
 // What a C caller gets of the solver's answer.

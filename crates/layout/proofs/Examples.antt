@@ -13,7 +13,7 @@ unfolding bytesOf flatMap
 sheet-bytes = refl
 
 -- "Its slip: `00 00`, eight `00`, `07` and seven `00`, `07` and seven `00`, then `1A 00 00 00 01 00 01 00 53 4C 49 50`."
-slip-bytes : slipOf 1 1 (0 ∷ []) (pos 0 ∷ []) (pos 7 ∷ []) (pos 7)
+slip-bytes : slipOf 1 1 1 (0 ∷ []) (pos 0 ∷ []) (pos 7 ∷ []) (pos 7)
     ≡ 0 ∷ 0
     ∷ 0 ∷ 0 ∷ 0 ∷ 0 ∷ 0 ∷ 0 ∷ 0 ∷ 0
     ∷ 0x07 ∷ 0 ∷ 0 ∷ 0 ∷ 0 ∷ 0 ∷ 0 ∷ 0

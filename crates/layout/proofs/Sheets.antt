@@ -8,12 +8,12 @@ use lib.ListN.{length, getD, length-append}
 use lib.Signed.{mag}
 use Rattle.layout.specs.Values.{bytesOf, valueOf, signedBytes, signedValue}
 use Rattle.layout.specs.Fields.{fields}
-use Rattle.layout.specs.Trailers.{sheetMark, trailer, distanceOf, sideOf, editionOf, markOf}
+use Rattle.layout.specs.Trailers.{sheetMark, trailer, distanceOf, sideOf, editionOf, rowCountOf, markOf}
 use Rattle.layout.specs.Sheets.{sheetWith, costsAt, barsAt}
 use Rattle.layout.proofs.Values.{length-bytesOf, length-signedBytes, value-bytesOf, signedValue-signedBytes}
 use Rattle.layout.proofs.Fields.{length-flatMap, fields-flatMap}
 use Rattle.layout.proofs.Trailers as trailers
-use Rattle.layout.proofs.Trailers.{length-trailer}
+use Rattle.layout.proofs.Trailers.{length-trailer, row-count-read}
 
 module _ (edition : ℕ) (note : List ℕ) (side : ℕ) (costs : List ℤ) (more : List ℕ) where
   abbrev distance : ℕ
@@ -53,6 +53,13 @@ module _ (edition : ℕ) (note : List ℕ) (side : ℕ) (costs : List ℤ) (more
       ap (λ (base : ℕ). fields (signedValue 4) base 4 (length costs) sheet) start
       ∙ fields-flatMap (signedBytes 4) 4 (length-signedBytes 4) (signedValue 4) note (length note) costs (length costs) (more ++ end) (pos 0) refl refl
       (λ k l. signedValue-signedBytes 4 (getD costs k (pos 0)) (fit k l))
+
+-- What stands between costs and trailer, if it is the row count, is found again.
+pub sheet-row-count : (edition : ℕ) (note : List ℕ) (side : ℕ) (costs : List ℤ) (m : ℕ) → m < 256 ^ 2 → rowCountOf (sheetWith edition note side costs (bytesOf 2 m)) ≡ m
+sheet-row-count edition note side costs m h =
+    let end = trailer (4 * length costs + length (bytesOf 2 m)) side edition sheetMark in
+    ap rowCountOf (sym (append-assoc note (flatMap (signedBytes 4) costs) (bytesOf 2 m ++ end)))
+    ∙ row-count-read (note ++ flatMap (signedBytes 4) costs) m end (length-trailer (4 * length costs + length (bytesOf 2 m)) side edition sheetMark) h
 
 -- What stands between costs and trailer, if it is a number for each row, is found again.
 pub sheet-bars : (edition : ℕ) (note : List ℕ) (side : ℕ) (costs : List ℤ) (bars : List ℕ) → ((i : ℕ) → i < length bars → getD bars i 0 < 256 ^ 8)

@@ -1,6 +1,7 @@
--- A slip's body, of m rows and n columns, says the columns, prices and total that were written into it, whatever follows; a slip of as many rows as
--- columns is 18n + 20 bytes long. Assumes nothing.
+-- A slip's body, of m rows and n columns, says the columns, prices and total that were written into it, whatever follows; how long a slip is.
+-- Assumes nothing.
 use mathlib.Core.Path.{_≡_, refl, ap, _∙_}
+use mathlib.Core.Bool.{Bool, true, false, cond}
 use mathlib.Core.List.{List, [], _++_, flatMap, append-assoc}
 use Prim.Native.Nat.{ℕ, _+_, _*_}
 use native.Mathlib.Omega.{arith}
@@ -9,8 +10,8 @@ use lib.ListN.{length, getD, take, length-append}
 use lib.Seq.{take-at, drop-at}
 use Rattle.lists.specs.Permutations.{at}
 use Rattle.layout.specs.Values.{bytesOf, valueOf, signedBytes, signedValue}
-use Rattle.layout.specs.Trailers.{slipMark, trailer}
-use Rattle.layout.specs.Slips.{slipBody, bodyLength, slipOf, slipLength, slipColumns, slipRowPrices, slipColumnPrices, slipTotal, Held}
+use Rattle.layout.specs.Trailers.{slipMark, trailer, hasRowCount}
+use Rattle.layout.specs.Slips.{slipBody, bodyLength, rowCount, rowCountLength, slipDistance, slipOf, slipLength, slipColumns, slipRowPrices, slipColumnPrices, slipTotal, Held}
 use Rattle.layout.proofs.Values.{length-bytesOf, length-signedBytes, value-bytesOf, signedValue-signedBytes}
 use Rattle.layout.proofs.Fields.{length-flatMap, fields-flatMap}
 use Rattle.layout.proofs.Trailers.{length-trailer}
@@ -74,7 +75,26 @@ module _ (m n : ℕ) (cols : List ℕ) (rowPrices columnPrices : List ℤ) (tota
         ∙ ap (signedValue 8) (take-at (signedBytes 8 total) rest 8 (length-signedBytes 8 total))
         ∙ signedValue-signedBytes 8 total (h .total-fits)
 
-pub length-slipOf : (edition n : ℕ) (cols : List ℕ) (rowPrices columnPrices : List ℤ) (total : ℤ) → length cols ≡ n → length rowPrices ≡ n
-    → length columnPrices ≡ n → length (slipOf edition n cols rowPrices columnPrices total) ≡ slipLength n
-length-slipOf edition n cols rowPrices columnPrices total c r p =
-    omega (arith, length-append (slipBody cols rowPrices columnPrices total) (trailer (18 * n + 8) n edition slipMark), length-body n n cols rowPrices columnPrices total c r p, length-trailer (18 * n + 8) n edition slipMark)
+pub length-rowCount : (edition m : ℕ) → length (rowCount edition m) ≡ rowCountLength edition
+length-rowCount edition m = by (hasRowCount edition)
+  where
+    by : (t : Bool) → length (cond t (bytesOf 2 m) []) ≡ cond t 2 0
+    by true = length-bytesOf 2 m
+    by false = refl
+
+pub length-slipOf : (edition m n : ℕ) (cols : List ℕ) (rowPrices columnPrices : List ℤ) (total : ℤ) → length cols ≡ m → length rowPrices ≡ m
+    → length columnPrices ≡ n → length (slipOf edition m n cols rowPrices columnPrices total) ≡ slipLength edition m n
+length-slipOf edition m n cols rowPrices columnPrices total c r p =
+    let last = trailer (slipDistance edition m n) n edition slipMark in
+    omega (
+      arith,
+      length-append (slipBody cols rowPrices columnPrices total) (rowCount edition m ++ last),
+      length-append (rowCount edition m) last,
+      length-body m n cols rowPrices columnPrices total c r p,
+      length-rowCount edition m,
+      length-trailer (slipDistance edition m n) n edition slipMark,
+    )
+
+-- "distance 18n+8", "18n+20" bytes: where the edition has no row count.
+pub square-slip : (edition n : ℕ) → hasRowCount edition ≡ false → slipDistance edition n n ≡ 18 * n + 8
+square-slip edition n h = ap (λ (t : Bool). bodyLength n n + cond t 2 0) h ∙ omega arith

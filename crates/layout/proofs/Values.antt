@@ -1,8 +1,8 @@
 -- Numbers as bytes, there and back, for any width. Assumes nothing.
 use mathlib.Core.Path.{_≡_, refl, ap, _∙_}
-use mathlib.Core.List.{List}
+use mathlib.Core.List.{List, [], _∷_}
 use Prim.Native.Nat.{ℕ, zero, suc, _+_, _*_, _-_, _/_, _^_, _≤_, _<_}
-use native.Mathlib.Nat.{pow-succ', div-lt-iff-lt-mul, mul-comm, mod-add-div, div-mul-le-self, mul-le-mul-left}
+use native.Mathlib.Nat.{zero-lt-suc, pow-le-pow-right, pow-succ', div-lt-iff-lt-mul, mul-comm, mod-add-div, div-mul-le-self, mul-le-mul-left}
 use native.Mathlib.Omega.{arith}
 use borrow.Author.Tests.{lt-ltb, le-ltb}
 use lib.IntN.{ℤ, pos, negsuc}
@@ -34,6 +34,13 @@ value-more l k v b h e f = rw (drop-cons l k 0 h) (omega arith)
 
 pub more-below : (m v b : ℕ) → v < 256 ^ m → b < 256 → v * 256 + b < 256 ^ suc m
 more-below m v b h l = omega (arith, pow-succ' 256 m, mul-le-mul-left 256 h)
+
+-- What bytes stand for is below what so many bytes can say.
+pub value-below : (l : List ℕ) (k : ℕ) → length l ≤ k → ((i : ℕ) → i < length l → getD l i 0 < 256) → valueOf l < 256 ^ k
+unfolding valueOf
+value-below [] k h f = let z : 0 ≤ k = omega arith in let p : 256 ^ 0 ≤ 256 ^ k = pow-le-pow-right (zero-lt-suc 255) z in omega arith
+value-below (b ∷ l) zero h f = absurd (omega arith)
+value-below (b ∷ l) (suc k) h f = omega (arith, more-below k (valueOf l) b (value-below l k (omega arith) (λ i m. f (suc i) (omega arith))) (f 0 (omega arith)))
 
 -- ---- two's complement
 

@@ -11,8 +11,7 @@ pub record Listed (cols : List ℕ) (rowPrices columnPrices : List ℤ) (room : 
   pub rows : length rowPrices ≡ length cols
   pub roomy : bodyLength (length cols) (length columnPrices) ≤ length room
 
--- What a slip of as many rows as columns is written from.
-pub record Square (cols : List ℕ) (rowPrices columnPrices : List ℤ) (room : List ℕ) : Type 0 where
+-- What a slip of an edition is written from.
+pub record Slipped (edition : ℕ) (cols : List ℕ) (rowPrices columnPrices : List ℤ) (room : List ℕ) : Type 0 where
   pub rows : length rowPrices ≡ length cols
-  pub columns : length columnPrices ≡ length cols
-  pub roomy : slipLength (length cols) ≤ length room
+  pub roomy : slipLength edition (length cols) (length columnPrices) ≤ length room

@@ -21,6 +21,10 @@ sheetOf note side costs = sheetWith 1 note side costs []
 abbrev pub sheetBarred : List ℕ → ℕ → List ℤ → List ℕ → List ℕ
 sheetBarred note side costs bars = sheetWith 2 note side costs (flatMap (bytesOf 8) bars)
 
+-- "Sheet edition 3 holds m rows and n columns [..]: costs m*n in row order, then a 2-byte row count, then the trailer with side n".
+abbrev pub sheetOblong : List ℕ → ℕ → ℕ → List ℤ → List ℕ
+sheetOblong note m n costs = sheetWith 3 note n costs (bytesOf 2 m)
+
 -- So many costs, the first at a distance before the trailer.
 abbrev pub costsAt : ℕ → ℕ → List ℕ → List ℤ
 costsAt distance count sheet = fields (signedValue 4) (length sheet - 12 - distance) 4 count sheet

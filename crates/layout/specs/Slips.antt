@@ -1,6 +1,7 @@
 -- The layout of a slip, byte for byte, and where its fields are found again: m rows and n columns.
 use mathlib.Core.Path.{_≡_}
-use mathlib.Core.List.{List, _++_, flatMap}
+use mathlib.Core.Bool.{cond}
+use mathlib.Core.List.{List, [], _++_, flatMap}
 use Prim.Native.Nat.{ℕ, _+_, _*_, _/_, _^_, _<_}
 use lib.IntN.{ℤ, pos}
 use lib.ListN.{length, getD}
@@ -9,7 +10,7 @@ use Rattle.lists.specs.Parts.{part}
 use Rattle.lists.specs.Permutations.{at}
 use Rattle.layout.specs.Values.{bytesOf, valueOf, signedBytes, signedValue}
 use Rattle.layout.specs.Fields.{fields}
-use Rattle.layout.specs.Trailers.{slipMark, trailer}
+use Rattle.layout.specs.Trailers.{slipMark, trailer, hasRowCount}
 
 -- "columns by row (2 bytes each), row prices (8 each), column prices (8 each), total (8)".
 abbrev pub slipBody : List ℕ → List ℤ → List ℤ → ℤ → List ℕ
@@ -20,13 +21,25 @@ slipBody cols rowPrices columnPrices total =
 abbrev pub bodyLength : ℕ → ℕ → ℕ
 bodyLength m n = 10 * m + 8 * n + 8
 
--- "A slip is [..], and the same trailer with distance 18n+8 and mark "SLIP"", of an edition in which rows and columns are n.
-abbrev pub slipOf : ℕ → ℕ → List ℕ → List ℤ → List ℤ → ℤ → List ℕ
-slipOf edition n cols rowPrices columnPrices total = slipBody cols rowPrices columnPrices total ++ trailer (18 * n + 8) n edition slipMark
+-- What edition 3 puts behind the total: "the row count (2 bytes)". Other editions put nothing there.
+abbrev pub rowCount : ℕ → ℕ → List ℕ
+rowCount edition m = cond (hasRowCount edition) (bytesOf 2 m) []
 
--- "Slip room past 18n+20 is untouched": how long a slip is.
-abbrev pub slipLength : ℕ → ℕ
-slipLength n = 18 * n + 20
+abbrev pub rowCountLength : ℕ → ℕ
+rowCountLength edition = cond (hasRowCount edition) 2 0
+
+-- "distance 18n+8", where rows and columns are n; in edition 3 "10m + 8n + 10".
+abbrev pub slipDistance : ℕ → ℕ → ℕ → ℕ
+slipDistance edition m n = bodyLength m n + rowCountLength edition
+
+-- "A slip is [..], and the same trailer with [that] distance and mark "SLIP"".
+abbrev pub slipOf : ℕ → ℕ → ℕ → List ℕ → List ℤ → List ℤ → ℤ → List ℕ
+slipOf edition m n cols rowPrices columnPrices total =
+    slipBody cols rowPrices columnPrices total ++ (rowCount edition m ++ trailer (slipDistance edition m n) n edition slipMark)
+
+-- How long a slip is: "the slip room needs 12 more".
+abbrev pub slipLength : ℕ → ℕ → ℕ → ℕ
+slipLength edition m n = slipDistance edition m n + 12
 
 -- What a slip says: columns by row, row prices, column prices, total.
 abbrev pub slipColumns : ℕ → List ℕ → List ℕ

@@ -19,6 +19,10 @@ slipMark = 83 ∷ 76 ∷ 73 ∷ 80 ∷ []
 abbrev pub trailer : ℕ → ℕ → ℕ → List ℕ → List ℕ
 trailer distance side edition mark = bytesOf 4 distance ++ (bytesOf 2 side ++ (bytesOf 2 edition ++ mark))
 
+-- Whether an edition says its row count between what it holds and the trailer: 3. In others rows are as many as columns.
+abbrev pub hasRowCount : ℕ → Bool
+hasRowCount edition = eqb edition 3
+
 -- Its parts, in bytes of which it is the last 12.
 abbrev pub distanceOf : List ℕ → ℕ
 distanceOf bytes = valueOf (part (length bytes - 12) 4 bytes)
@@ -31,6 +35,10 @@ editionOf bytes = valueOf (part (length bytes - 6) 2 bytes)
 
 abbrev pub markOf : List ℕ → ℕ
 markOf bytes = valueOf (part (length bytes - 4) 4 bytes)
+
+-- The two bytes before it, where they are the row count.
+abbrev pub rowCountOf : List ℕ → ℕ
+rowCountOf bytes = valueOf (part (length bytes - 14) 2 bytes)
 
 -- "under 12 bytes, or wrong mark"; the mark as the number that its bytes stand for.
 abbrev pub unmarked : ℕ → List ℕ → Bool

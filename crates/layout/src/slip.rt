@@ -5,8 +5,8 @@ ghost use Prim.Native.Nat.{_+_, _*_, _≤_};
 ghost use lib.ListN.{length, drop};
 ghost use lib.Seq.{sets};
 ghost use Rattle.layout.specs.Values.{bytesOf, signedBytes};
-ghost use Rattle.layout.specs.Slips.{slipBody, slipOf, slipLength};
-ghost use Rattle.layout.specs.Asked.{Listed, Square};
+ghost use Rattle.layout.specs.Slips.{slipBody, rowCount, rowCountLength, slipOf, slipLength};
+ghost use Rattle.layout.specs.Asked.{Listed, Slipped};
 use crate::trailer::write_trailer;
 use crate::value::wrapped;
 use crate::value::write_value;
@@ -52,7 +52,28 @@ fn write_body(slip: &mut [u8], cols: &[u32], row_prices: &[i64], col_prices: &[i
     write_value(slip, 10 * m + 8 * n, 8, wrapped(total));
 }
 
-// Writes a slip of as many rows as columns over the front of its room; its mark is "SLIP", the lowest byte first.
+// How many bytes an edition's row count takes.
+pub fn row_count_length(edition: usize) -> usize
+    ensures { λ r. ⌜ r ≡ rowCountLength edition ⌝ }
+{
+    if edition == 3 {
+        return 2;
+    }
+    0
+}
+
+// Writes a row count at `at`, where the edition has one.
+fn write_row_count(room: &mut [u8], at: usize, edition: usize, m: usize)
+    requires { ⌜ at + rowCountLength edition ≤ length (now room) ⌝ }
+    ensures { λ _. ⌜ now (room .exit) ≡ sets (now (room .entry)) at (rowCount edition m) ⌝ }
+{
+    if edition == 3 {
+        write_value(room, at, 2, m);
+    }
+}
+
+// Writes a slip over the front of its room: as many rows as `cols` has, as many columns as `col_prices` has. Its mark is "SLIP", the lowest
+// byte first.
 pub fn write_slip(
     slip: &mut [u8],
     edition: usize,
@@ -61,11 +82,14 @@ pub fn write_slip(
     col_prices: &[i64],
     total: i64,
 )
-    requires { ⌜ Square (now cols) (now «row_prices») (now «col_prices») (now slip) ⌝ }
-    ensures { λ _. ⌜ now (slip .exit) ≡ slipOf edition (length (now (cols .entry))) (now (cols .entry)) (now («row_prices» .entry)) (now («col_prices» .entry)) total ++ drop (slipLength (length (now (cols .entry)))) (now (slip .entry)) ⌝ }
+    requires { ⌜ Slipped edition (now cols) (now «row_prices») (now «col_prices») (now slip) ⌝ }
+    ensures { λ _. ⌜ now (slip .exit) ≡ slipOf edition (length (now (cols .entry))) (length (now («col_prices» .entry))) (now (cols .entry)) (now («row_prices» .entry)) (now («col_prices» .entry)) total ++ drop (slipLength edition (length (now (cols .entry))) (length (now («col_prices» .entry)))) (now (slip .entry)) ⌝ }
 {
-    let n = cols.len();
-    let distance = 18 * n + 8;
+    let m = cols.len();
+    let n = col_prices.len();
+    let body = 10 * m + 8 * n + 8;
+    let distance = body + row_count_length(edition);
     write_body(slip, cols, row_prices, col_prices, total);
+    write_row_count(slip, body, edition, m);
     write_trailer(slip, distance, distance, n, edition, 0x5049_4C53);
 }

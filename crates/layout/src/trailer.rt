@@ -4,7 +4,7 @@ ghost use Prim.Native.Nat.{_+_, _^_, _<_, _≤_};
 ghost use lib.ListN.{length};
 ghost use lib.Seq.{sets};
 ghost use Rattle.layout.specs.Values.{bytesOf};
-ghost use Rattle.layout.specs.Trailers.{trailer, distanceOf, sideOf, editionOf, unmarked};
+ghost use Rattle.layout.specs.Trailers.{trailer, distanceOf, sideOf, editionOf, rowCountOf, unmarked};
 use crate::value::value_at;
 use crate::value::write_value;
 
@@ -30,6 +30,14 @@ pub fn edition_of(bytes: &[u8]) -> usize
     ensures { λ r. ⌜ r ≡ editionOf (now (bytes .entry)) ⌝ }
 {
     value_at(bytes, bytes.len() - 6, 2)
+}
+
+// The two bytes before the trailer, as the row count.
+pub fn row_count_of(bytes: &[u8]) -> usize
+    requires { ⌜ 14 ≤ length (now bytes) ⌝ }
+    ensures { λ r. ⌜ (r ≡ rowCountOf (now (bytes .entry))) × (r < 256 ^ 2) ⌝ }
+{
+    value_at(bytes, bytes.len() - 14, 2)
 }
 
 // Whether there are under 12 bytes, or another mark.

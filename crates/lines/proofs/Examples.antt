@@ -8,7 +8,7 @@ use Rattle.lists.specs.Permutations.{table}
 use Rattle.lists.specs.Sums.{sum}
 use Rattle.layout.specs.Values.{bytesOf, valueOf}
 use Rattle.layout.specs.Fields.{fields}
-use Rattle.layout.specs.Sheets.{sheetOf}
+use Rattle.layout.specs.Sheets.{sheetOf, sheetOblong}
 use Rattle.bars.specs.Barred.{filledCosts}
 use Rattle.bars.specs.Masks.{columnsMask, pairedMask, reachedMask}
 use Rattle.matrix.specs.Limits.{sheetSide, K}
@@ -23,7 +23,7 @@ use Rattle.rules.specs.Run.{stages, run}
 use Rattle.bars.specs.Tests.{barredMost}
 use Rattle.sheet.specs.Reading.{sheetMost, noteMost, sheetTests, read}
 use Rattle.lines.specs.Decimal.{digits, decimal, signedDecimal}
-use Rattle.lines.specs.Lines.{acceptedLine, rowLine, rowLines, refusedLine, output}
+use Rattle.lines.specs.Lines.{acceptedLine, rowLine, rowLines, spareLine, spareLines, refusedLine, output}
 
 -- digits as text
 text : List ℕ → List ℕ
@@ -48,8 +48,17 @@ n8 : output (sheetOf [] 3 (map pos (3 ∷ 1 ∷ 0 ∷ 0 ∷ 0 ∷ 2 ∷ 4 ∷ 1 
     ∷ 49 ∷ 32 ∷ 48 ∷ 32 ∷ 48 ∷ 10
     ∷ 50 ∷ 32 ∷ 49 ∷ 32 ∷ 49 ∷ 10
     ∷ []
-unfolding digits turns upward downward until first table sum flatMap bytesOf valueOf fields _then_ failsBy failsAtBy K sheetSide sheetMost noteMost barredMost sheetTests read filledCosts reachedMask columnsMask pairedMask acceptedLine rowLine rowLines refusedLine output twoLowest lowest leastBut block free claims transfers columnReduction looks rowReduction scan lastFree searchBlocks search newPrices flips augments augmentation stages run
+unfolding digits turns upward downward until first table sum flatMap bytesOf valueOf fields _then_ failsBy failsAtBy K sheetSide sheetMost noteMost barredMost sheetTests read filledCosts reachedMask columnsMask pairedMask acceptedLine rowLine rowLines spareLine spareLines refusedLine output twoLowest lowest leastBut block free claims transfers columnReduction looks rowReduction scan lastFree searchBlocks search newPrices flips augments augmentation stages run
 n8 = refl
+
+-- A row with costs 1 0: `accepted 2 total 0`, `0 1 0`, `spare 0`.
+one-row : output (sheetOblong [] 1 2 (map pos (1 ∷ 0 ∷ [])))
+    ≡ 97 ∷ 99 ∷ 99 ∷ 101 ∷ 112 ∷ 116 ∷ 101 ∷ 100 ∷ 32 ∷ 50 ∷ 32 ∷ 116 ∷ 111 ∷ 116 ∷ 97 ∷ 108 ∷ 32 ∷ 48 ∷ 10
+    ∷ 48 ∷ 32 ∷ 49 ∷ 32 ∷ 48 ∷ 10
+    ∷ 115 ∷ 112 ∷ 97 ∷ 114 ∷ 101 ∷ 32 ∷ 48 ∷ 10
+    ∷ []
+unfolding digits turns upward downward until first table sum flatMap bytesOf valueOf fields _then_ failsBy failsAtBy K sheetSide sheetMost noteMost barredMost sheetTests read filledCosts reachedMask columnsMask pairedMask acceptedLine rowLine rowLines spareLine spareLines refusedLine output twoLowest lowest leastBut block free claims transfers columnReduction looks rowReduction scan lastFree searchBlocks search newPrices flips augments augmentation stages run
+one-row = refl
 
 -- No bytes at all: `refused 11 place 0`.
 empty : output [] ≡ 114 ∷ 101 ∷ 102 ∷ 117 ∷ 115 ∷ 101 ∷ 100 ∷ 32 ∷ 49 ∷ 49 ∷ 32 ∷ 112 ∷ 108 ∷ 97 ∷ 99 ∷ 101 ∷ 32 ∷ 48 ∷ 10 ∷ []

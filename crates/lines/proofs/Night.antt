@@ -27,7 +27,7 @@ use Rattle.sheet.specs.Reading.{Laid, Read, refused, night}
 use Rattle.sheet.specs.Settle.{fresh, solvedCosts, found, barredRow, blockedWith, acceptedWith, settledAs}
 use Rattle.sheet.proofs.Pairing.{Readable, ReadRight}
 use Rattle.sheet.proofs.Solver.{owed}
-use Rattle.lines.specs.Lines.{acceptedLine, rowLine, rowLines, refusedLine, noPairing, nightLines, linesAs}
+use Rattle.lines.specs.Lines.{acceptedLine, rowLine, rowLines, spareLines, refusedLine, noPairing, nightLines, linesAs}
 use Rattle.lines.specs.Asked.{Rows}
 
 -- The lines of rows whose pairs are not barred show the sheet's costs.
@@ -75,33 +75,35 @@ module _ (room : ℕ) (s : Settled) where
   blocked-lines (night laid) e rows v = blocked-by laid (ltb (barredRow laid) (laid .side)) rows (sym (reply-is (night laid) e) ∙ v)
 
   -- What `put_night` is asked with, and what it then writes.
-  pub record Ready (n : ℕ) (total : ℤ) (out lines : List ℕ) : Type 0 where
+  pub record Ready (m n : ℕ) (total : ℤ) (out lines : List ℕ) : Type 0 where
     pub few : n ≤ 64
-    pub rows : Rows n (take (n * n) (s .state .costs)) (take n (s .state .cols)) (80 + 80 * n) out
-    pub same : acceptedLine n total ++ rowLines n (take (n * n) (s .state .costs)) (take n (s .state .cols)) n ≡ lines
+    pub rows : Rows m n (take (n * n) (s .state .costs)) (take n (s .state .cols)) (80 + 80 * m + 27 * n + 80) out
+    pub same : acceptedLine n total ++ (rowLines n (take (n * n) (s .state .costs)) (take n (s .state .cols)) m ++ spareLines m (take n (s .state .cols)) n) ≡ lines
 
-  ready-by : (laid : Laid) (t : Bool) → ltb (barredRow laid) (laid .side) ≡ t → Readable room laid → s ≡ cond t (blockedWith laid) (acceptedWith laid) → (edition n : ℕ) (total : ℤ)
-      → s .reply ≡ Accepted edition n total → (out : List ℕ) → 80 + 80 * 64 ≤ length out → Ready n total out (cond t (refusedLine noPairing) (nightLines laid))
-  ready-by laid true b right e edition n total v out long = let z : _≡_ {A = ℕ} 0 1 = cc (ap (λ (t : Settled). t .reply) e) in absurd (omega arith)
-  ready-by laid false b right e edition n total v out long =
+  ready-by : (laid : Laid) (t : Bool) → ltb (barredRow laid) (laid .side) ≡ t → Readable room laid → s ≡ cond t (blockedWith laid) (acceptedWith laid) → (edition m n : ℕ) (total : ℤ)
+      → s .reply ≡ Accepted edition m n total → (out : List ℕ) → 160 + 107 * 64 ≤ length out → Ready m n total out (cond t (refusedLine noPairing) (nightLines laid))
+  ready-by laid true b right e edition m n total v out long = let z : _≡_ {A = ℕ} 0 1 = cc (ap (λ (t : Settled). t .reply) e) in absurd (omega arith)
+  ready-by laid false b right e edition m n total v out long =
       let a = found laid in
-      let m = laid .side in
-      let R = owed (laid .edition) m (laid .costs) (laid .bars) (right .squared) (right .rows) (right .small) (right .passes) in
+      let side = laid .side in
+      let R = owed (laid .edition) (laid .rowCount) side (laid .costs) (laid .bars) (right .filled) (right .rows) (right .fewer) (right .small) (right .passes) in
       let r = ap (λ (t : Settled). t .reply) e in
-      let side : n ≡ m = cc r in
+      let same-rows : m ≡ laid .rowCount = cc r in
+      let same-side : n ≡ side = cc r in
       let sum : total ≡ a .total = cc r in
       let state = ap (λ (t : Settled). t .state) e in
-      let filled-size = filled-costs-length m (pos K) (laid .costs) (laid .bars) in
-      let costs-are : take (n * n) (s .state .costs) ≡ solvedCosts laid = ap₂ (λ (k : ℕ) (l : List ℤ). take (k * k) l) side (ap (λ (t : State). t .costs) state) ∙ take-at (solvedCosts laid) (drop (m * m) (fresh .costs)) (m * m) filled-size in
-      let cols-are : take n (s .state .cols) ≡ a .cols = ap₂ (λ (k : ℕ) (l : List ℕ). take k l) side (ap (λ (t : State). t .cols) state) ∙ take-at (a .cols) (drop m (fresh .cols)) m (R .cols-size) in
+      let filled-size = filled-costs-length side (pos K) (laid .costs) (laid .bars) in
+      let costs-are : take (n * n) (s .state .costs) ≡ solvedCosts laid = ap₂ (λ (k : ℕ) (l : List ℤ). take (k * k) l) same-side (ap (λ (t : State). t .costs) state) ∙ take-at (solvedCosts laid) (drop (side * side) (fresh .costs)) (side * side) filled-size in
+      let cols-are : take n (s .state .cols) ≡ a .cols = ap₂ (λ (k : ℕ) (l : List ℕ). take k l) same-side (ap (λ (t : State). t .cols) state) ∙ take-at (a .cols) (drop side (fresh .cols)) side (R .cols-size) in
       record {
         few = omega (arith, right .few);
-        rows = rw (costs-are, cols-are, side)
-            (record { squared = filled-size; listed = omega (arith, R .cols-size); inside = R .named .inside; roomy = omega (arith, right .few) });
-        same = rw (costs-are, cols-are, side, sum) (ap (λ (l : List ℕ). acceptedLine m (a .total) ++ l) (rows-same laid R (ltb-false (barredRow laid) m b) m (omega arith)));
+        rows = rw (costs-are, cols-are, same-rows, same-side)
+            (record { fewer = right .fewer; squared = filled-size; listed = omega (arith, R .cols-size, right .fewer); inside = λ i l. R .named .inside i (omega (arith, right .fewer)); roomy = omega (arith, right .fewer, right .few) });
+        same = rw (costs-are, cols-are, same-rows, same-side, sum)
+            (ap (λ (l : List ℕ). acceptedLine side (a .total) ++ (l ++ spareLines (laid .rowCount) (a .cols) side)) (rows-same laid R (ltb-false (barredRow laid) side b) (laid .rowCount) (right .fewer)));
       }
 
-  pub night-lines : (x : Read) → ReadRight room x → s ≡ settledAs x → (edition n : ℕ) (total : ℤ) → s .reply ≡ Accepted edition n total → (out : List ℕ) → 80 + 80 * 64 ≤ length out
-      → Ready n total out (linesAs x)
-  night-lines (refused given) right e edition n total v out long = let z : _≡_ {A = ℕ} 0 1 = cc (reply-is (refused given) e) in absurd (omega arith)
-  night-lines (night laid) right e edition n total v out long = ready-by laid (ltb (barredRow laid) (laid .side)) refl right e edition n total v out long
+  pub night-lines : (sheet : List ℕ) (x : Read) → ReadRight room sheet x → s ≡ settledAs x → (edition m n : ℕ) (total : ℤ) → s .reply ≡ Accepted edition m n total → (out : List ℕ)
+      → 160 + 107 * 64 ≤ length out → Ready m n total out (linesAs x)
+  night-lines sheet (refused given) right e edition m n total v out long = let z : _≡_ {A = ℕ} 0 1 = cc (reply-is (refused given) e) in absurd (omega arith)
+  night-lines sheet (night laid) right e edition m n total v out long = ready-by laid (ltb (barredRow laid) (laid .side)) refl right e edition m n total v out long

@@ -6,9 +6,10 @@ use lib.IntN.{ℤ}
 use lib.ListN.{length}
 use Rattle.lists.specs.Permutations.{at}
 
--- What `put_rows` is asked with: a square of costs, a column for each of n rows, and a room of so many bytes.
-pub record Rows (n : ℕ) (costs : List ℤ) (cols : List ℕ) (room : ℕ) (out : List ℕ) : Type 0 where
+-- What `put_rows` is asked with: a square of costs, a column for each of m rows, and a room of so many bytes.
+pub record Rows (m n : ℕ) (costs : List ℤ) (cols : List ℕ) (room : ℕ) (out : List ℕ) : Type 0 where
+  pub fewer : m ≤ n
   pub squared : length costs ≡ n * n
-  pub listed : n ≤ length cols
-  pub inside : (i : ℕ) → i < n → at cols i < n
+  pub listed : m ≤ length cols
+  pub inside : (i : ℕ) → i < m → at cols i < n
   pub roomy : room ≤ length out

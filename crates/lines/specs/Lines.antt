@@ -1,11 +1,12 @@
 -- The program's whole output, from a sheet's bytes. Every line ends with a line feed.
-use mathlib.Core.Bool.{cond}
+use mathlib.Core.Bool.{Bool, cond}
 use mathlib.Core.List.{List, [], _∷_, _++_}
 use Prim.Native.Nat.{ℕ, zero, suc, _+_, _*_}
-use lib.Dec.{ltb}
+use lib.Dec.{ltb, eqb}
 use lib.IntN.{ℤ, pos}
 use lib.ListN.{length, drop}
 use Rattle.lists.specs.Permutations.{at}
+use Rattle.lists.specs.Counts.{some}
 use Rattle.layout.specs.Slips.{slipLength}
 use Rattle.assignment.specs.Pairings.{signedAt}
 use Rattle.matrix.specs.Limits.{sheetSide}
@@ -22,6 +23,10 @@ acceptedText = 97 ∷ 99 ∷ 99 ∷ 101 ∷ 112 ∷ 116 ∷ 101 ∷ 100 ∷ 32 �
 -- " total "
 abbrev pub totalText : List ℕ
 totalText = 32 ∷ 116 ∷ 111 ∷ 116 ∷ 97 ∷ 108 ∷ 32 ∷ []
+
+-- "spare "
+abbrev pub spareText : List ℕ
+spareText = 115 ∷ 112 ∷ 97 ∷ 114 ∷ 101 ∷ 32 ∷ []
 
 -- "refused "
 abbrev pub refusedText : List ℕ
@@ -47,10 +52,27 @@ acceptedLine side total = acceptedText ++ (decimal side ++ (totalText ++ (signed
 unfoldable pub rowLine : ℕ → ℕ → ℤ → List ℕ
 rowLine row column cost = decimal row ++ (blank ++ (decimal column ++ (blank ++ (signedDecimal cost ++ feed))))
 
--- The lines of the first k rows.
+-- The lines of the first k rows, each of n costs.
 unfoldable pub rowLines : ℕ → List ℤ → List ℕ → ℕ → List ℕ
 rowLines n costs cols zero = []
 rowLines n costs cols (suc k) = rowLines n costs cols k ++ rowLine k (at cols k) (signedAt costs (k * n + at cols k))
+
+-- "each as a line `spare J`".
+unfoldable pub spareLine : ℕ → List ℕ
+spareLine column = spareText ++ (decimal column ++ feed)
+
+-- Whether one of m rows is paired with column j: where none is, it is spare.
+abbrev pub used : ℕ → List ℕ → ℕ → Bool
+used m cols j = some m (λ i. eqb (at cols i) j)
+
+-- The line of column j, if it has one.
+abbrev pub spareAt : ℕ → List ℕ → ℕ → List ℕ
+spareAt m cols j = cond (used m cols j) [] (spareLine j)
+
+-- "Spare columns follow the row lines in rising order": those of the first k columns.
+unfoldable pub spareLines : ℕ → List ℕ → ℕ → List ℕ
+spareLines m cols zero = []
+spareLines m cols (suc k) = spareLines m cols k ++ spareAt m cols k
 
 -- "A refusal is the one line "refused N place P"."
 unfoldable pub refusedLine : Refusal → List ℕ
@@ -60,18 +82,22 @@ refusedLine refusal = refusedText ++ (decimal (numberOf refusal) ++ (placeText +
 abbrev pub noPairing : Refusal
 noPairing = record { number = NoPairing; place = 0; slack = pos 0 }
 
--- The lines of a paired night: the costs are those of the sheet.
+-- The lines of a paired night: "the side written is n", and the costs are those of the sheet.
 abbrev pub nightLines : Laid → List ℕ
-nightLines laid = acceptedLine (laid .side) (found laid .total) ++ rowLines (laid .side) (laid .costs) (found laid .cols) (laid .side)
+nightLines laid =
+    let m = laid .rowCount in
+    let n = laid .side in
+    let cols = found laid .cols in
+    acceptedLine n (found laid .total) ++ (rowLines n (laid .costs) cols m ++ spareLines m cols n)
 
 -- The lines of a sheet as it was read.
 abbrev pub linesAs : Read → List ℕ
 linesAs (refused refusal) = refusedLine refusal
 linesAs (night laid) = cond (ltb (barredRow laid) (laid .side)) (refusedLine noPairing) (nightLines laid)
 
--- The lines of a sheet. The program's slip room is long enough for every side: 16 does not arise.
+-- The lines of a sheet. The program's slip room is long enough for every edition and side: 16 does not arise.
 unfoldable pub output : List ℕ → List ℕ
-output sheet = linesAs (read (slipLength sheetSide) sheet)
+output sheet = linesAs (read (slipLength 3 sheetSide sheetSide) sheet)
 
 -- What the program gets and finds: how many bytes, and the room that it lent.
 pub record Printed : Type 0 where

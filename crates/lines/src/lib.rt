@@ -5,7 +5,7 @@ ghost use Prim.Native.Nat.{_+_, _*_, _%_, _<_, _≤_};
 ghost use lib.ListN.{length, take};
 ghost use Rattle.lines.specs.Decimal.{decimal, signedDecimal};
 ghost use Rattle.lines.specs.Put.{Put};
-ghost use Rattle.lines.specs.Lines.{acceptedLine, rowLine, rowLines, refusedLine, noPairing, Printed, printed};
+ghost use Rattle.lines.specs.Lines.{acceptedLine, rowLine, rowLines, spareLine, used, spareAt, spareLines, refusedLine, noPairing, Printed, printed};
 ghost use Rattle.lines.specs.Asked.{Rows};
 use matrix::Refusal;
 use sheet::Reply;
@@ -81,19 +81,69 @@ fn put_row(out: &mut [u8], place: usize, row: usize, column: u32, cost: i32) -> 
     put_byte(out, after_cost, b'\n')
 }
 
-// The lines of n rows.
-fn put_rows(out: &mut [u8], place: usize, n: usize, costs: &[i32], cols: &[u32]) -> usize
-    requires { ⌜ Rows n (now costs) (now cols) (place + 80 * n) (now out) ⌝ }
-    ensures { λ r. ⌜ Put (now (out .entry)) place (rowLines n (now (costs .entry)) (now (cols .entry)) n) (now (out .exit)) r × (r ≤ place + 80 * n) ⌝ }
+// The lines of m rows, of a square of costs.
+fn put_rows(out: &mut [u8], place: usize, m: usize, n: usize, costs: &[i32], cols: &[u32]) -> usize
+    requires { ⌜ Rows m n (now costs) (now cols) (place + 80 * m) (now out) ⌝ }
+    ensures { λ r. ⌜ Put (now (out .entry)) place (rowLines n (now (costs .entry)) (now (cols .entry)) m) (now (out .exit)) r × (r ≤ place + 80 * m) ⌝ }
 {
     let mut next = place;
     let mut start = 0;
     let mut i = 0;
-    while i < n {
+    while i < m {
         let at = start + cols[i] as usize;
         next = put_row(out, next, i, cols[i], costs[at]);
         start += n;
         i += 1;
+    }
+    next
+}
+
+// The line of a spare column, of at most 27 bytes.
+fn put_spare(out: &mut [u8], place: usize, column: usize) -> usize
+    requires { ⌜ place + 80 ≤ length (now out) ⌝ }
+    ensures { λ r. ⌜ Put (now (out .entry)) place (spareLine column) (now (out .exit)) r × (r ≤ place + 27) ⌝ }
+{
+    let after_word = put_text(out, place, b"spare ");
+    let after_column = put_decimal(out, after_word, column as u64);
+    put_byte(out, after_column, b'\n')
+}
+
+// Whether one of m rows is paired with column j.
+fn used(m: usize, cols: &[u32], j: usize) -> bool
+    requires { ⌜ m ≤ length (now cols) ⌝ }
+    ensures { λ r. ⌜ r ≡ used m (now (cols .entry)) j ⌝ }
+{
+    let mut i = 0;
+    while i < m {
+        if cols[i] as usize == j {
+            return true;
+        }
+        i += 1;
+    }
+    false
+}
+
+// The line of column j, where it is spare.
+fn put_if_spare(out: &mut [u8], place: usize, m: usize, cols: &[u32], j: usize) -> usize
+    requires { ⌜ (m ≤ length (now cols)) × (place + 80 ≤ length (now out)) ⌝ }
+    ensures { λ r. ⌜ Put (now (out .entry)) place (spareAt m (now (cols .entry)) j) (now (out .exit)) r × (r ≤ place + 27) ⌝ }
+{
+    if used(m, cols, j) {
+        return place;
+    }
+    put_spare(out, place, j)
+}
+
+// The lines of the spare ones among n columns, in rising order.
+fn put_spares(out: &mut [u8], place: usize, m: usize, n: usize, cols: &[u32]) -> usize
+    requires { ⌜ (m ≤ length (now cols)) × (place + 27 * n + 80 ≤ length (now out)) ⌝ }
+    ensures { λ r. ⌜ Put (now (out .entry)) place (spareLines m (now (cols .entry)) n) (now (out .exit)) r × (r ≤ place + 27 * n) ⌝ }
+{
+    let mut next = place;
+    let mut j = 0;
+    while j < n {
+        next = put_if_spare(out, next, m, cols, j);
+        j += 1;
     }
     next
 }
@@ -122,32 +172,34 @@ fn put_refused(out: &mut [u8], refusal: Refusal) -> usize
     put_byte(out, after_both, b'\n')
 }
 
-// The lines of n rows, from the first entries of the arrays.
+// The lines of m rows and of the spare columns, from the first entries of the arrays.
 fn put_arrays(
     out: &mut [u8],
     place: usize,
+    m: usize,
     n: usize,
     costs: &[i32; 4096],
     cols: &[u32; 64],
 ) -> usize
-    requires { ⌜ (n ≤ 64) × Rows n (take (n * n) (now costs)) (take n (now cols)) (place + 80 * n) (now out) ⌝ }
-    ensures { λ r. ⌜ Put (now (out .entry)) place (rowLines n (take (n * n) (now (costs .entry))) (take n (now (cols .entry))) n) (now (out .exit)) r × (r ≤ place + 80 * n) ⌝ }
+    requires { ⌜ (n ≤ 64) × Rows m n (take (n * n) (now costs)) (take n (now cols)) (place + 80 * m + 27 * n + 80) (now out) ⌝ }
+    ensures { λ r. ⌜ Put (now (out .entry)) place (rowLines n (take (n * n) (now (costs .entry))) (take n (now (cols .entry))) m ++ spareLines m (take n (now (cols .entry))) n) (now (out .exit)) r × (r ≤ place + 80 * m + 27 * n) ⌝ }
 {
     let count = n * n;
     let all_costs: &[i32] = costs;
     let all_cols: &[u32] = cols;
-    put_rows(out, place, n, &all_costs[0..count], &all_cols[0..n])
+    let next = put_rows(out, place, m, n, &all_costs[0..count], &all_cols[0..n]);
+    put_spares(out, next, m, n, &all_cols[0..n])
 }
 
 // The lines of a night that is settled.
-fn put_night(out: &mut [u8], n: usize, total: i64, state: State) -> usize
-    requires { ⌜ (n ≤ 64) × Rows n (take (n * n) (state .costs)) (take n (state .cols)) (80 + 80 * n) (now out) ⌝ }
-    ensures { λ r. ⌜ Put (now (out .entry)) 0 (acceptedLine n total ++ rowLines n (take (n * n) (state .costs)) (take n (state .cols)) n) (now (out .exit)) r × (r ≤ 80 + 80 * n) ⌝ }
+fn put_night(out: &mut [u8], m: usize, n: usize, total: i64, state: State) -> usize
+    requires { ⌜ (n ≤ 64) × Rows m n (take (n * n) (state .costs)) (take n (state .cols)) (80 + 80 * m + 27 * n + 80) (now out) ⌝ }
+    ensures { λ r. ⌜ Put (now (out .entry)) 0 (acceptedLine n total ++ (rowLines n (take (n * n) (state .costs)) (take n (state .cols)) m ++ spareLines m (take n (state .cols)) n)) (now (out .exit)) r × (r ≤ 80 + 80 * m + 27 * n) ⌝ }
 {
     let costs = state.costs;
     let cols = state.cols;
     let place = put_accepted(out, n, total);
-    put_arrays(out, place, n, &costs, &cols)
+    put_arrays(out, place, m, n, &costs, &cols)
 }
 
 // 20.
@@ -161,20 +213,20 @@ fn no_pairing() -> Refusal
     }
 }
 
-// The program's whole output of a sheet, at the front of the room; how many bytes it is. The slip's room is taken as 18*64 + 20, so that 16 does not
-// arise.
+// The program's whole output of a sheet, at the front of the room; how many bytes it is. The slip's room is taken as edition 3's for 64 rows and
+// columns, so that 16 does not arise.
 pub fn print(sheet: &[u8], out: &mut [u8; 8192]) -> usize
     ensures { λ r. ⌜ _≡_ {A = Printed} (record { count = r; room = now (out .exit) }) (printed (now (sheet .entry)) (now (out .entry))) ⌝ }
 {
     let room: &mut [u8] = out;
-    let settled = sheet::settle(sheet, 1172);
+    let settled = sheet::settle(sheet, 1174);
     let reply = settled.reply;
     match reply {
         Reply::Refused(refusal) => put_refused(room, refusal),
         Reply::Blocked(_) => put_refused(room, no_pairing()),
-        Reply::Accepted(_, n, total) => {
+        Reply::Accepted(_, m, n, total) => {
             let state = settled.state;
-            put_night(room, n, total, state)
+            put_night(room, m, n, total, state)
         }
     }
 }

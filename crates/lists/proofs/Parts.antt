@@ -3,9 +3,9 @@
 use mathlib.Core.Path.{_≡_, refl, sym, ap, ap₂, _∙_}
 use mathlib.Core.List.{List, [], _∷_, _++_, append-assoc}
 use Prim.Native.Nat.{ℕ, zero, suc, _+_, _-_, _≤_, _<_}
-use native.Mathlib.Nat.{zero-add, suc-add, sub-zero}
+use native.Mathlib.Nat.{zero-add, suc-add, sub-zero, min-le-left, min-le-right}
 use native.Mathlib.Omega.{arith}
-use lib.ListN.{length, getD, set, take, drop, length-append, length-drop, length-set, take-append-drop, List·getD-append}
+use lib.ListN.{length, getD, set, take, drop, length-append, length-take, length-drop, length-set, take-append-drop, List·getD-append}
 use lib.Seq.{length-take-le, take-nil, take-at, drop-at, take-append-le, take-append-add, drop-append-le, getD-append-add, set-append-left, take-set-le, take-set-lt, drop-set-lt, drop-set-add, getD-take, getD-drop, take-take, take-add, drop-drop, slice, paste, take-length}
 use Rattle.lists.specs.Parts.{part, replaced}
 
@@ -17,6 +17,12 @@ module _ {A : Type 0} where
   part-at a m l i d h = getD-take m (drop a l) i d h ∙ getD-drop a l i d
 
   -- A part, as the toolchain's `slice` has it.
+  pub part-short : (a m : ℕ) (l : List A) → length (part a m l) ≤ m
+  part-short a m l = omega (arith, length-take m (drop a l), min-le-left m (length (drop a l)))
+
+  pub part-inside : (a m : ℕ) (l : List A) (i : ℕ) → i < length (part a m l) → a + i < length l
+  part-inside a m l i h = omega (arith, length-take m (drop a l), min-le-right m (length (drop a l)), length-drop a l)
+
   pub part-slice : (a m : ℕ) (l : List A) → part a m l ≡ slice a (a + m) l
   part-slice zero m l = rw zero-add
   part-slice (suc a) m [] = rw suc-add (take-nil m)

@@ -95,7 +95,7 @@ NoteUnfit = 21
 abbrev pub BarsPastSide : ℕ
 BarsPastSide = 22
 
--- "More rows than columns"
+-- "More rows than columns"; "an edition 3 sheet under 14 bytes", which has no room for its row count
 abbrev pub RowsOver : ℕ
 RowsOver = 23
 

@@ -13,7 +13,9 @@ sheet-bare room sheet laid = (
   bare-then _ _
       (bare-then _ _
       (bare-then _ _
+      (bare-then _ _
       (bare-then _ _ (bare-then _ _ (bare-then _ _ (bare-if _ _ _ _) (bare-if _ _ _ _)) (bare-if _ _ _ _)) (bare-if _ _ _ _))
+      (bare-then _ _ (bare-if _ _ _ _) (bare-if _ _ _ _)))
       (bare-then _ _ (bare-if _ _ _ _) (bare-if _ _ _ _)))
       (bare-at _ _ _ _ _))
       (bare-if _ _ _ _),

@@ -15,17 +15,17 @@ pub pair-determined : (sheet room : List ℕ) (outcome other : Delivery) → out
 pair-determined sheet room outcome other e f = e ∙ sym f
 
 reply-values-determine : (a b : Reply) → replyValues a ≡ replyValues b → a ≡ b
-reply-values-determine (Accepted d m s) (Accepted e n t) same =
-    ap₂ (λ (edition side : ℕ). Accepted edition side s) (ap (λ (v : ReplyValues). v .edition) same) (ap (λ (v : ReplyValues). v .side) same)
-    ∙ ap (Accepted e n) (ap (λ (v : ReplyValues). v .total) same)
-reply-values-determine (Accepted d m s) (Refused r) same = absurd (true≢false (ap (λ (v : ReplyValues). v .accepted) same))
-reply-values-determine (Accepted d m s) (Blocked rows) same = absurd (true≢false (ap (λ (v : ReplyValues). v .accepted) same))
-reply-values-determine (Refused q) (Accepted e n t) same = absurd (true≢false (sym (ap (λ (v : ReplyValues). v .accepted) same)))
+reply-values-determine (Accepted d l m s) (Accepted e k n t) same =
+    ap₂ (λ (edition rows : ℕ). Accepted edition rows m s) (ap (λ (v : ReplyValues). v .edition) same) (ap (λ (v : ReplyValues). v .rowCount) same)
+    ∙ ap₂ (Accepted e k) (ap (λ (v : ReplyValues). v .side) same) (ap (λ (v : ReplyValues). v .total) same)
+reply-values-determine (Accepted d l m s) (Refused r) same = absurd (true≢false (ap (λ (v : ReplyValues). v .accepted) same))
+reply-values-determine (Accepted d l m s) (Blocked rows) same = absurd (true≢false (ap (λ (v : ReplyValues). v .accepted) same))
+reply-values-determine (Refused q) (Accepted e k n t) same = absurd (true≢false (sym (ap (λ (v : ReplyValues). v .accepted) same)))
 reply-values-determine (Refused q) (Refused r) same =
     ap Refused (refusal-determined q r (ap (λ (v : ReplyValues). v .number) same) (ap (λ (v : ReplyValues). v .place) same) (ap (λ (v : ReplyValues). v .slack) same))
 reply-values-determine (Refused q) (Blocked rows) same = absurd (true≢false (sym (ap (λ (v : ReplyValues). v .shown) same)))
 reply-values-determine (Blocked rows) (Refused r) same = absurd (true≢false (ap (λ (v : ReplyValues). v .shown) same))
-reply-values-determine (Blocked rows) (Accepted e n t) same = absurd (true≢false (sym (ap (λ (v : ReplyValues). v .accepted) same)))
+reply-values-determine (Blocked rows) (Accepted e k n t) same = absurd (true≢false (sym (ap (λ (v : ReplyValues). v .accepted) same)))
 reply-values-determine (Blocked rows) (Blocked others) same = ap Blocked (ap (λ (v : ReplyValues). v .rows) same)
 
 pub settled-values-determine : (a b : Settled) → settledValues a ≡ settledValues b → a ≡ b

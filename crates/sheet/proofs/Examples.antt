@@ -31,12 +31,12 @@ use Rattle.sheet.specs.Settle.{pair}
 sheet : List ℕ
 sheet = 0x07 ∷ 0 ∷ 0 ∷ 0 ∷ 0x04 ∷ 0 ∷ 0 ∷ 0 ∷ 0x01 ∷ 0 ∷ 0x01 ∷ 0 ∷ 0x4D ∷ 0x54 ∷ 0x43 ∷ 0x48 ∷ []
 
-sheet-read : read 38 sheet ≡ night (record { edition = 1; side = 1; costs = pos 7 ∷ []; bars = 0 ∷ [] })
+sheet-read : read 38 sheet ≡ night (record { edition = 1; rowCount = 1; side = 1; costs = pos 7 ∷ []; bars = 0 ∷ [] })
 unfolding sheet bytesOf valueOf fields table turns upward first K _then_ failsBy failsAtBy sheetSide sheetMost noteMost barredMost sheetTests read
 sheet-read = refl
 
 -- The same sheet paired in a room of 40 bytes: the slip, and the last two bytes as they were.
-paired : pair sheet (replicate 40 9) ≡ record { number = 0; slip = slipOf 1 1 (0 ∷ []) (pos 0 ∷ []) (pos 7 ∷ []) (pos 7) ++ (9 ∷ 9 ∷ []) }
+paired : pair sheet (replicate 40 9) ≡ record { number = 0; slip = slipOf 1 1 1 (0 ∷ []) (pos 0 ∷ []) (pos 7 ∷ []) (pos 7) ++ (9 ∷ 9 ∷ []) }
 unfolding sheet bytesOf valueOf flatMap fields table turns upward downward until first sum K _then_ failsBy failsAtBy sheetSide sheetMost noteMost barredMost sheetTests read pair filledCosts reachedMask columnsMask pairedMask twoLowest lowest leastBut block free claims transfers columnReduction looks rowReduction scan lastFree searchBlocks search newPrices flips augments augmentation stages run
 paired = refl
 

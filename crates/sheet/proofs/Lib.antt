@@ -8,3 +8,4 @@ pub mod Solver
 pub mod Pairing
 pub mod Determined
 mod Examples
+pub mod Nights

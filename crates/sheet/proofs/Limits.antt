@@ -9,7 +9,7 @@ pub sheetMost-small : sheetMost ≤ 2 ^ 16
 unfolding sheetMost
 sheetMost-small = omega arith
 
--- A sheet has room for the longest note, the costs and the bars of the largest side.
-pub sheetMost-large : noteMost + 16384 + 512 + 12 ≤ sheetMost
+-- A sheet has room for the longest note, and for the costs and what an edition adds at the largest side.
+pub sheetMost-large : noteMost + 16384 + 514 + 12 ≤ sheetMost
 unfolding sheetMost noteMost
 sheetMost-large = omega arith

@@ -9,9 +9,10 @@ use lib.ListN.{length}
 use Rattle.layout.specs.Trailers.{distanceOf, sideOf, editionOf, unmarked}
 use Rattle.layout.specs.Slips.{slipLength}
 use Rattle.matrix.specs.Limits.{sheetSide}
-use Rattle.matrix.specs.Verdicts.{Passes}
+use Rattle.matrix.specs.Verdicts.{Passes, _then_}
 use Rattle.matrix.proofs.Verdicts.{then-iff, failsIf-iff}
-use Rattle.sheet.specs.Reading.{sheetMost, distanceDue, laidAt, laidOf, trailed, pointed, sheetTests}
+use Rattle.sheet.specs.Reading.{sheetMost, rowsOf, distanceDue, laidAt, laidOf, trailed, rowsFit, pointed, sheetTests}
+use Rattle.sheet.specs.Asked.{Ended, Counted}
 
 -- A sheet that is not refused by 11 has a trailer.
 pub has-trailer : (mark : ℕ) (sheet : List ℕ) → unmarked mark sheet ≡ false → 12 ≤ length sheet
@@ -32,9 +33,21 @@ trailed-passed sheet p =
       ltb-false sheetMost (length sheet) (failsIf-iff _ _ _ .0 (t11 .0)),
     )
 
+-- 23.
+pub rows-passed : (sheet : List ℕ) → Passes (trailed sheet then rowsFit sheet) → Counted sheet
+rows-passed sheet p =
+    let t23 = then-iff _ _ .0 p in
+    let ends = trailed-passed sheet (t23 .0) in
+    let counts = then-iff _ _ .0 (t23 .1) in
+    record {
+      ended = record { long = ends .0; counted = failsIf-iff _ _ _ .0 (counts .0) };
+      small = ends .1;
+      fewer = ltb-false (sideOf sheet) (rowsOf sheet) (failsIf-iff _ _ _ .0 (counts .1));
+    }
+
 -- 14, 15.
 pub pointed-passed : (sheet : List ℕ) → 12 ≤ length sheet → Passes (pointed sheet)
-    → (distanceOf sheet ≡ distanceDue (editionOf sheet) (sideOf sheet)) × (distanceOf sheet + 12 ≤ length sheet)
+    → (distanceOf sheet ≡ distanceDue (editionOf sheet) (rowsOf sheet) (sideOf sheet)) × (distanceOf sheet + 12 ≤ length sheet)
 pointed-passed sheet long p =
     let t15 = then-iff _ _ .0 p in (
       eqb-true _ _ (not-false _ (failsIf-iff _ _ _ .0 (t15 .0))),
@@ -42,15 +55,17 @@ pointed-passed sheet long p =
     )
 
 module _ (room : ℕ) (sheet : List ℕ) where
+  abbrev m : ℕ
+  m = rowsOf sheet
+
   abbrev n : ℕ
   n = sideOf sheet
 
   pub record SheetPassed : Type 0 where
-    pub ended : 12 ≤ length sheet
-    pub small : n ≤ sheetSide
-    pub distance : distanceOf sheet ≡ distanceDue (editionOf sheet) n
-    pub inside : distanceDue (editionOf sheet) n + 12 ≤ length sheet
-    pub roomy : slipLength n ≤ room
+    pub counted : Counted sheet
+    pub distance : distanceOf sheet ≡ distanceDue (editionOf sheet) m n
+    pub inside : distanceDue (editionOf sheet) m n + 12 ≤ length sheet
+    pub roomy : slipLength (editionOf sheet) m n ≤ room
 
   pub tests-passed : Passes (sheetTests room sheet) → SheetPassed
   unfolding sheetTests
@@ -58,16 +73,15 @@ module _ (room : ℕ) (sheet : List ℕ) where
       let t16 = then-iff _ _ .0 p in
       let t21 = then-iff _ _ .0 (t16 .0) in
       let t15 = then-iff _ _ .0 (t21 .0) in
-      let ends = trailed-passed sheet (t15 .0) in
-      let points = pointed-passed sheet (ends .0) (t15 .1) in
+      let counts = rows-passed sheet (t15 .0) in
+      let points = pointed-passed sheet (counts .ended .long) (t15 .1) in
       record {
-        ended = ends .0;
-        small = ends .1;
+        counted = counts;
         distance = points .0;
         inside = omega (arith, points .0, points .1);
-        roomy = ltb-false room (slipLength n) (failsIf-iff _ _ _ .0 (t16 .1));
+        roomy = ltb-false room (slipLength (editionOf sheet) m n) (failsIf-iff _ _ _ .0 (t16 .1));
       }
 
-  -- The night lies where edition and side say.
-  pub laid-found : SheetPassed → laidOf sheet ≡ laidAt (editionOf sheet) n (distanceDue (editionOf sheet) n) sheet
-  laid-found p = ap (λ (d : ℕ). laidAt (editionOf sheet) n d sheet) (p .distance)
+  -- The night lies where edition, rows and side say.
+  pub laid-found : SheetPassed → laidOf sheet ≡ laidAt (editionOf sheet) m n (distanceDue (editionOf sheet) m n) sheet
+  laid-found p = ap (λ (d : ℕ). laidAt (editionOf sheet) m n d sheet) (p .distance)

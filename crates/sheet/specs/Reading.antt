@@ -1,4 +1,4 @@
--- How a sheet is read: its refusals in order, else its night as it lies on it. Editions 1 and 2.
+-- How a sheet is read: its refusals in order, else its night as it lies on it. Editions 1, 2 and 3.
 use mathlib.Core.Path.{_≡_}
 use mathlib.Core.Bool.{Bool, false, cond, not, _&&_, _||_}
 use mathlib.Core.List.{List}
@@ -9,9 +9,9 @@ use lib.ListN.{length, replicate}
 use Rattle.ints.specs.Parts.{Within}
 use Rattle.lists.specs.Permutations.{at}
 use Rattle.layout.specs.Values.{valueOf}
-use Rattle.layout.specs.Trailers.{sheetMark, distanceOf, sideOf, editionOf, unmarked}
+use Rattle.layout.specs.Trailers.{sheetMark, hasRowCount, distanceOf, sideOf, editionOf, rowCountOf, unmarked}
 use Rattle.layout.specs.Sheets.{costsAt, barsAt}
-use Rattle.layout.specs.Slips.{slipLength}
+use Rattle.layout.specs.Slips.{rowCountLength, slipLength}
 use Rattle.assignment.specs.Pairings.{signedAt}
 use Rattle.bars.specs.Tests.{barredMost, barsClear}
 use Rattle.matrix.specs.Limits.{sheetSide, K}
@@ -20,7 +20,7 @@ use Rattle.matrix.specs.Tests.{costsIn}
 use Rattle.matrix.specs.declared.Verdict.{Verdict}
 use Rattle.matrix.specs.declared.Verdict.the-variants.{Passed, Fails}
 use Rattle.matrix.specs.declared.Refusal.{Refusal}
-use Rattle.matrix.specs.Refusals.{NoMark, EditionUnknown, SheetSideOver, DistanceWrong, DistancePastBytes, SlipRoomShort, SheetOver, NoteUnfit}
+use Rattle.matrix.specs.Refusals.{NoMark, EditionUnknown, SheetSideOver, DistanceWrong, DistancePastBytes, SlipRoomShort, SheetOver, NoteUnfit, RowsOver}
 
 -- "sheet over 65,536 bytes".
 unfoldable pub sheetMost : ℕ
@@ -34,21 +34,27 @@ noteMost = 4096
 abbrev pub hasBars : ℕ → Bool
 hasBars edition = eqb edition 2
 
--- "neither edition".
+-- "none of the three".
 abbrev pub unknown : ℕ → Bool
-unknown edition = not (eqb edition 1) && not (hasBars edition)
+unknown edition = not (eqb edition 1) && not (hasBars edition) && not (hasRowCount edition)
 
--- The distance that an edition wants: "4*n*n", with bars "4*n*n + 8*n".
-abbrev pub distanceDue : ℕ → ℕ → ℕ
-distanceDue edition n = 4 * (n * n) + cond (hasBars edition) (8 * n) 0
+-- How many rows a sheet has: as many as columns, or as its row count says.
+abbrev pub rowsOf : List ℕ → ℕ
+rowsOf sheet = cond (hasRowCount (editionOf sheet)) (rowCountOf sheet) (sideOf sheet)
+
+-- The distance that an edition wants, of m rows and n columns: "4*n*n", with bars "4*n*n + 8*n", with a row count "4*m*n + 2".
+abbrev pub distanceDue : ℕ → ℕ → ℕ → ℕ
+distanceDue edition m n = 4 * (m * n) + cond (hasBars edition) (8 * n) 0 + rowCountLength edition
 
 -- The limit of an edition's costs.
 abbrev pub costMost : ℕ → ℕ
 costMost edition = cond (hasBars edition) barredMost K
 
--- A night as it lies on a sheet: edition, side, n*n costs in row order, and for each row a number whose bits are the columns barred to it.
+-- A night as it lies on a sheet: edition, m rows and n columns, the side; m*n costs in row order; and for each of n rows a number whose bits are the
+-- columns barred to it.
 pub record Laid : Type 0 where
   pub edition : ℕ
+  pub rowCount : ℕ
   pub side : ℕ
   pub costs : List ℤ
   pub bars : List ℕ
@@ -57,13 +63,13 @@ pub record Laid : Type 0 where
 abbrev pub barsIn : ℕ → ℕ → List ℕ → List ℕ
 barsIn edition n sheet = cond (hasBars edition) (barsAt n sheet) (replicate n 0)
 
--- A sheet of an edition and a side, whose first cost lies so far before the trailer.
-abbrev pub laidAt : ℕ → ℕ → ℕ → List ℕ → Laid
-laidAt edition n distance sheet = record { edition = edition; side = n; costs = costsAt distance (n * n) sheet; bars = barsIn edition n sheet }
+-- A sheet of an edition, so many rows and a side, whose first cost lies so far before the trailer.
+abbrev pub laidAt : ℕ → ℕ → ℕ → ℕ → List ℕ → Laid
+laidAt edition m n distance sheet = record { edition = edition; rowCount = m; side = n; costs = costsAt distance (m * n) sheet; bars = barsIn edition n sheet }
 
 -- A sheet's night, by its trailer.
 abbrev pub laidOf : List ℕ → Laid
-laidOf sheet = laidAt (editionOf sheet) (sideOf sheet) (distanceOf sheet) sheet
+laidOf sheet = laidAt (editionOf sheet) (rowsOf sheet) (sideOf sheet) (distanceOf sheet) sheet
 
 -- 17, 11, 12, 13: the sheet's length, and what its trailer says.
 abbrev pub trailed : List ℕ → Verdict
@@ -73,10 +79,16 @@ trailed sheet =
     then failsIf EditionUnknown 0 (unknown (editionOf sheet))
     then failsIf SheetSideOver 0 (ltb sheetSide (sideOf sheet))
 
+-- 23, "an edition 3 sheet under 14 bytes (place 0), or more rows than columns (place the row count)".
+abbrev pub rowsFit : List ℕ → Verdict
+rowsFit sheet =
+    failsIf RowsOver 0 (hasRowCount (editionOf sheet) && ltb (length sheet) 14)
+    then failsIf RowsOver (rowsOf sheet) (ltb (sideOf sheet) (rowsOf sheet))
+
 -- 14, 15: where it points.
 abbrev pub pointed : List ℕ → Verdict
 pointed sheet =
-    failsIf DistanceWrong 0 (not (eqb (distanceOf sheet) (distanceDue (editionOf sheet) (sideOf sheet))))
+    failsIf DistanceWrong 0 (not (eqb (distanceOf sheet) (distanceDue (editionOf sheet) (rowsOf sheet) (sideOf sheet))))
     then failsIf DistancePastBytes 0 (ltb (length sheet - 12) (distanceOf sheet))
 
 -- How long the note is: all bytes before the first cost.
@@ -98,13 +110,13 @@ unfit sheet k = unfitAt k (at sheet k)
 abbrev pub noteFit : List ℕ → Verdict
 noteFit sheet = failsAt NoteUnfit (λ k. k) (noteLength sheet) (unfit sheet)
 
--- 16, "slip room under 18n+20".
+-- 16, "slip room under 18n+20", or under what the edition's slip needs.
 abbrev pub roomLong : ℕ → List ℕ → Verdict
-roomLong room sheet = failsIf SlipRoomShort 0 (ltb room (slipLength (sideOf sheet)))
+roomLong room sheet = failsIf SlipRoomShort 0 (ltb room (slipLength (editionOf sheet) (rowsOf sheet) (sideOf sheet)))
 
--- "Sheets: 17, 11, 12, 13, 14, 15," 21, "16, 5", 22, 20. "Where several apply, the first in its entry's order is given": those that come before the costs.
+-- "Sheets: 17, 11, 12, 13," 23, "14, 15," 21, "16, 5", 22, 20. "Where several apply, the first in its entry's order is given": those that come before the costs.
 unfoldable pub sheetTests : ℕ → List ℕ → Verdict
-sheetTests room sheet = trailed sheet then pointed sheet then noteFit sheet then roomLong room sheet
+sheetTests room sheet = trailed sheet then rowsFit sheet then pointed sheet then noteFit sheet then roomLong room sheet
 
 -- 5 and 22, of the night.
 abbrev pub nightTests : Laid → Verdict
@@ -136,12 +148,14 @@ pub record Printable (note : List ℕ) : Type 0 where
   pub short : length note ≤ noteMost
   pub printed : (k : ℕ) → k < length note → unprintable (at note k) ≡ false
 
--- What makes a night good to lay on a sheet of its edition: a side and as many costs and bars as it says, each within its limit.
+-- What makes a night good to lay on a sheet of its edition: a side, at most as many rows, and as many costs and bars as they say, each within its limit.
 pub record Layable (laid : Laid) : Type 0 where
   pub known : unknown (laid .edition) ≡ false
   pub small : laid .side ≤ sheetSide
-  pub squared : length (laid .costs) ≡ laid .side * laid .side
-  pub inside : (k : ℕ) → k < laid .side * laid .side → Within (costMost (laid .edition)) (signedAt (laid .costs) k)
+  pub fewer : laid .rowCount ≤ laid .side
+  pub square : hasRowCount (laid .edition) ≡ false → laid .rowCount ≡ laid .side
+  pub filled : length (laid .costs) ≡ laid .rowCount * laid .side
+  pub inside : (k : ℕ) → k < laid .rowCount * laid .side → Within (costMost (laid .edition)) (signedAt (laid .costs) k)
   pub rows : length (laid .bars) ≡ laid .side
   pub clear : (i : ℕ) → i < laid .side → at (laid .bars) i < 2 ^ laid .side
   pub unbarred : hasBars (laid .edition) ≡ false → laid .bars ≡ replicate (laid .side) 0

@@ -4,7 +4,7 @@ use mathlib.Core.List.{List, _++_}
 use Prim.Native.Nat.{ℕ, _*_}
 use lib.Dec.{ltb}
 use lib.IntN.{ℤ, pos}
-use lib.ListN.{length, drop, replicate}
+use lib.ListN.{length, take, drop, replicate}
 use Rattle.layout.specs.Values.{bytesOf}
 use Rattle.layout.specs.Slips.{slipOf, slipLength}
 use Rattle.matrix.specs.Limits.{K}
@@ -49,7 +49,8 @@ stateOf costs bars l = record {
   numbers = l .numbers;
 }
 
--- "columns and prices are those of document 01's rules with cost K on barred places": the costs that are solved, and the answer.
+-- "columns and prices are those of document 01's rules with cost K on barred places", and "with n-m rows of zeros added below": past the end of the
+-- costs stands 0. The n*n costs that are solved, and the answer.
 abbrev pub solvedCosts : Laid → List ℤ
 solvedCosts laid = filledCosts (laid .side) (pos K) (laid .costs) (laid .bars)
 
@@ -69,12 +70,12 @@ ended laid =
     let n = laid .side in
     stateOf (solvedCosts laid ++ drop (n * n) (fresh .costs)) (laid .bars ++ drop n (fresh .bars)) (lapjv.paired n (lent fresh) (found laid) .lent)
 
--- The two ways in which a night ends: rows that show that it has no pairing, or edition, side, total and the arrays.
+-- The two ways in which a night ends: rows that show that it has no pairing, or edition, rows, side, total and the arrays.
 abbrev pub blockedWith : Laid → Settled
 blockedWith laid = record { reply = Blocked (rowsShown laid); state = fresh }
 
 abbrev pub acceptedWith : Laid → Settled
-acceptedWith laid = record { reply = Accepted (laid .edition) (laid .side) (found laid .total); state = ended laid }
+acceptedWith laid = record { reply = Accepted (laid .edition) (laid .rowCount) (laid .side) (found laid .total); state = ended laid }
 
 -- What is settled of a sheet as it was read. "Refuse with 20 exactly if there is none."
 abbrev pub settledAs : Read → Settled
@@ -94,11 +95,13 @@ pub record Delivery : Type 0 where
 abbrev pub blockedAs : List ℕ → Laid → Delivery
 blockedAs room laid = record { number = NoPairing; slip = bytesOf 8 (rowsShown laid) ++ drop 8 room }
 
--- The slip of a night at the front of its room: "Slip room past 18n+20 is untouched." "A slip carries its sheet's edition."
+-- The slip of a night at the front of its room, of its m rows: "Slip room past 18n+20 is untouched." "A slip carries its sheet's edition."
 abbrev pub slipAs : List ℕ → Laid → Delivery
 slipAs room laid =
     let a = found laid in
-    record { number = 0; slip = slipOf (laid .edition) (laid .side) (a .cols) (a .rowPrices) (a .columnPrices) (a .total) ++ drop (slipLength (laid .side)) room }
+    let m = laid .rowCount in
+    let n = laid .side in
+    record { number = 0; slip = slipOf (laid .edition) m n (take m (a .cols)) (take m (a .rowPrices)) (a .columnPrices) (a .total) ++ drop (slipLength (laid .edition) m n) room }
 
 -- Any other refusal writes nothing.
 abbrev pub pairedAs : List ℕ → Read → Delivery

@@ -41,24 +41,24 @@ abbrev pub unlessBarred : ℕ → ℕ → Settled → State → Settled
 unlessBarred n bar settled s = cond (ltb bar n) (record { reply = Blocked (shownRows n (s .bars) (s .cols)); state = fresh }) settled
 
 -- What is settled by the solver's answer and the state that it worked in.
-abbrev pub settledBy : ℕ → ℕ → Solved → State → Settled
-settledBy edition n (Refused refusal) s = settledAs (refused refusal)
-settledBy edition n (Paired found) s = unlessBarred n (firstBarred n (s .bars) (s .cols)) (record { reply = Accepted edition n (found .total); state = s }) s
+abbrev pub settledBy : ℕ → ℕ → ℕ → Solved → State → Settled
+settledBy edition m n (Refused refusal) s = settledAs (refused refusal)
+settledBy edition m n (Paired found) s = unlessBarred n (firstBarred n (s .bars) (s .cols)) (record { reply = Accepted edition m n (found .total); state = s }) s
 
 -- The solver on the first n*n costs of a state, in its other arrays.
-abbrev pub solvedIn : ℕ → ℕ → State → Settled
-solvedIn edition n s =
+abbrev pub solvedIn : ℕ → ℕ → ℕ → State → Settled
+solvedIn edition m n s =
     let o = solve n (take (n * n) (s .costs)) (lent s) in
-    settledBy edition n (o .answer) (stateOf (s .costs) (s .bars) (o .lent))
+    settledBy edition m n (o .answer) (stateOf (s .costs) (s .bars) (o .lent))
 
--- 5 and 22, of the first n*n costs and n bars of a state.
-abbrev pub stateTests : ℕ → ℕ → State → Verdict
-stateTests edition n s = costsIn (pos (costMost edition)) (take (n * n) (s .costs)) then barsClear n (s .bars)
+-- 5 and 22, of the first m*n costs and n bars of a state.
+abbrev pub stateTests : ℕ → ℕ → ℕ → State → Verdict
+stateTests edition m n s = costsIn (pos (costMost edition)) (take (m * n) (s .costs)) then barsClear n (s .bars)
 
 -- A night that was read into a state: refused, or filled and solved.
-abbrev pub settledIf : ℕ → ℕ → State → Verdict → Settled
-settledIf edition n s Passed = solvedIn edition n (filledIn n s)
-settledIf edition n s (Fails refusal) = settledAs (refused refusal)
+abbrev pub settledIf : ℕ → ℕ → ℕ → State → Verdict → Settled
+settledIf edition m n s Passed = solvedIn edition m n (filledIn n s)
+settledIf edition m n s (Fails refusal) = settledAs (refused refusal)
 
-abbrev pub settledIn : ℕ → ℕ → State → Settled
-settledIn edition n s = settledIf edition n s (stateTests edition n s)
+abbrev pub settledIn : ℕ → ℕ → ℕ → State → Settled
+settledIn edition m n s = settledIf edition m n s (stateTests edition m n s)

@@ -8,13 +8,14 @@ use Rattle.sheet.specs.declared.Reply.{Reply}
 use Rattle.sheet.specs.declared.Reply.the-variants.{Accepted, Refused, Blocked}
 use Rattle.sheet.specs.declared.Settled.{Settled}
 
--- Number, place and slack of a refusal, all 0 where the sheet is accepted; edition, side and total; whether rows are shown, and the rows that 20 shows.
+-- Number, place and slack of a refusal, all 0 where the sheet is accepted; edition, rows, side and total; whether rows are shown, and the rows that 20 shows.
 pub record ReplyValues : Type 0 where
   pub accepted : Bool
   pub number : ℕ
   pub place : ℕ
   pub slack : ℤ
   pub edition : ℕ
+  pub rowCount : ℕ
   pub side : ℕ
   pub total : ℤ
   pub shown : Bool
@@ -22,10 +23,10 @@ pub record ReplyValues : Type 0 where
 
 -- "A refusal has total 0, counts 0, a place". "20 is tested last, place 0".
 abbrev pub replyValues : Reply → ReplyValues
-replyValues (Accepted edition side total) = record { accepted = true; number = 0; place = 0; slack = pos 0; edition = edition; side = side; total = total; shown = false; rows = 0 }
+replyValues (Accepted edition rowCount side total) = record { accepted = true; number = 0; place = 0; slack = pos 0; edition = edition; rowCount = rowCount; side = side; total = total; shown = false; rows = 0 }
 replyValues (Refused refusal) =
-    record { accepted = false; number = numberOf refusal; place = placeOf refusal; slack = slackOf refusal; edition = 0; side = 0; total = pos 0; shown = false; rows = 0 }
-replyValues (Blocked rows) = record { accepted = false; number = NoPairing; place = 0; slack = pos 0; edition = 0; side = 0; total = pos 0; shown = true; rows = rows }
+    record { accepted = false; number = numberOf refusal; place = placeOf refusal; slack = slackOf refusal; edition = 0; rowCount = 0; side = 0; total = pos 0; shown = false; rows = 0 }
+replyValues (Blocked rows) = record { accepted = false; number = NoPairing; place = 0; slack = pos 0; edition = 0; rowCount = 0; side = 0; total = pos 0; shown = true; rows = rows }
 
 -- The values of the reply, and the arrays.
 pub record SettledValues : Type 0 where

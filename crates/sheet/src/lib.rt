@@ -1,5 +1,6 @@
 // Sheets and slips: a sheet is read, its night is solved, and the slip is written. What is promised is said in specs/.
 ghost use mathlib.Core.Path.{_≡_};
+ghost use mathlib.Core.Bool.{cond};
 ghost use mathlib.Core.List.{_++_};
 ghost use Prim.Native.Nat.{ℕ, _+_, _*_, _≤_, _<_};
 ghost use lib.IntN.{pos};
@@ -15,7 +16,7 @@ ghost use Rattle.matrix.specs.Limits.{sheetSide, K};
 ghost use Rattle.matrix.specs.Verdicts.{_then_};
 ghost use Rattle.matrix.specs.Tests.{costsIn};
 ghost use Rattle.lapjv.specs.Solve.{lentOf, outcomeOf, solve};
-ghost use Rattle.sheet.specs.Reading.{distanceDue, costMost, laidAt, refused, nightTested};
+ghost use Rattle.sheet.specs.Reading.{hasBars, distanceDue, costMost, laidAt, refused, nightTested};
 ghost use Rattle.sheet.specs.Settle.{fresh, settledAs, settled, Delivery, pair};
 ghost use Rattle.sheet.specs.Values.{settledValues};
 ghost use Rattle.sheet.specs.Asked.{Inside};
@@ -41,9 +42,9 @@ pub struct State {
     pub numbers: [i64; 64],
 }
 
-// What the front desk is told of a sheet: edition, side and total; a refusal; or a set of rows that shows that there is no pairing.
+// What the front desk is told of a sheet: edition, rows, side and total; a refusal; or a set of rows that shows that there is no pairing.
 pub enum Reply {
-    Accepted(usize, usize, i64),
+    Accepted(usize, usize, usize, i64),
     Refused(Refusal),
     Blocked(u64),
 }
@@ -126,7 +127,7 @@ fn read_bars_array(bars: &mut [u64; 64], sheet: &[u8], n: usize)
 
 // They are read into the state, where the edition has some.
 fn read_bars(state: State, sheet: &[u8], edition: usize, n: usize) -> State
-    requires { ⌜ (n ≤ 64) × (distanceDue edition n + 12 ≤ length (now sheet)) ⌝ }
+    requires { ⌜ (n ≤ 64) × (cond (hasBars edition) (8 * n) 0 + 12 ≤ length (now sheet)) ⌝ }
     ensures { λ r. ⌜ r ≡ barsInto edition n (now (sheet .entry)) state ⌝ }
 {
     if edition != 2 {
@@ -267,9 +268,9 @@ fn rows_shown(n: usize, bars: &[u64; 64], cols: &[u32; 64], i: usize) -> u64
 }
 
 // A state that the solver has worked in: its pairs are those of the night, or the first that is barred leads to rows that are shown.
-fn unless_barred(state: State, edition: usize, n: usize, total: i64) -> Settled
+fn unless_barred(state: State, edition: usize, m: usize, n: usize, total: i64) -> Settled
     requires { ⌜ (n ≤ 64) × ((i : ℕ) → i < n → at (state .cols) i < n) ⌝ }
-    ensures { λ r. ⌜ r ≡ unlessBarred n (firstBarred n (state .bars) (state .cols)) (record { reply = Accepted edition n total; state = state }) state ⌝ }
+    ensures { λ r. ⌜ r ≡ unlessBarred n (firstBarred n (state .bars) (state .cols)) (record { reply = Accepted edition m n total; state = state }) state ⌝ }
 {
     let costs = state.costs;
     let bars = state.bars;
@@ -294,15 +295,15 @@ fn unless_barred(state: State, edition: usize, n: usize, total: i64) -> Settled
         numbers,
     };
     Settled {
-        reply: Reply::Accepted(edition, n, total),
+        reply: Reply::Accepted(edition, m, n, total),
         state,
     }
 }
 
-// The night of side n whose costs stand in the state is solved in it.
-fn solve_night(state: State, edition: usize, n: usize) -> Settled
+// The night of m rows and side n whose costs stand in the state is solved in it.
+fn solve_night(state: State, edition: usize, m: usize, n: usize) -> Settled
     requires { ⌜ n ≤ 64 ⌝ }
-    ensures { λ r. ⌜ r ≡ solvedIn edition n state ⌝ }
+    ensures { λ r. ⌜ r ≡ solvedIn edition m n state ⌝ }
 {
     let costs = state.costs;
     let bars = state.bars;
@@ -334,17 +335,23 @@ fn solve_night(state: State, edition: usize, n: usize) -> Settled
                 indices,
                 numbers,
             };
-            unless_barred(state, edition, n, night.total)
+            unless_barred(state, edition, m, n, night.total)
         }
     }
 }
 
-// Tests 5 and 22, of the first n*n costs and n bars.
-fn night_tested(edition: usize, n: usize, costs: &[i32; 4096], bars: &[u64; 64]) -> Verdict
-    requires { ⌜ n ≤ 64 ⌝ }
-    ensures { λ r. ⌜ r ≡ (costsIn (pos (costMost edition)) (take (n * n) (now (costs .entry))) then barsClear n (now (bars .entry))) ⌝ }
+// Tests 5 and 22, of the first m*n costs and n bars.
+fn night_tested(
+    edition: usize,
+    m: usize,
+    n: usize,
+    costs: &[i32; 4096],
+    bars: &[u64; 64],
+) -> Verdict
+    requires { ⌜ (m ≤ n) × (n ≤ 64) ⌝ }
+    ensures { λ r. ⌜ r ≡ (costsIn (pos (costMost edition)) (take (m * n) (now (costs .entry))) then barsClear n (now (bars .entry))) ⌝ }
 {
-    let count = n * n;
+    let count = m * n;
     let all: &[i32] = costs;
     let barred: &[u64] = bars;
     let inside = matrix::tests::costs_in(
@@ -356,9 +363,9 @@ fn night_tested(edition: usize, n: usize, costs: &[i32; 4096], bars: &[u64; 64])
 }
 
 // A night that was read into the state is tested, filled and solved.
-fn settle_in(state: State, edition: usize, n: usize) -> Settled
-    requires { ⌜ n ≤ 64 ⌝ }
-    ensures { λ r. ⌜ r ≡ settledIn edition n state ⌝ }
+fn settle_in(state: State, edition: usize, m: usize, n: usize) -> Settled
+    requires { ⌜ (m ≤ n) × (n ≤ 64) ⌝ }
+    ensures { λ r. ⌜ r ≡ settledIn edition m n state ⌝ }
 {
     let costs = state.costs;
     let bars = state.bars;
@@ -368,7 +375,7 @@ fn settle_in(state: State, edition: usize, n: usize) -> Settled
     let col_prices = state.col_prices;
     let indices = state.indices;
     let numbers = state.numbers;
-    match night_tested(edition, n, &costs, &bars) {
+    match night_tested(edition, m, n, &costs, &bars) {
         Verdict::Fails(refusal) => refused(refusal),
         Verdict::Passed => {
             let state = State {
@@ -381,21 +388,21 @@ fn settle_in(state: State, edition: usize, n: usize) -> Settled
                 indices,
                 numbers,
             };
-            solve_night(fill_night(state, n), edition, n)
+            solve_night(fill_night(state, n), edition, m, n)
         }
     }
 }
 
-// A sheet of an edition and a side that has passed its tests: its night is read, and settled.
-fn settle_night(sheet: &[u8], edition: usize, n: usize) -> Settled
-    requires { ⌜ (n ≤ sheetSide) × (distanceDue edition n + 12 ≤ length (now sheet)) ⌝ }
-    ensures { λ r. ⌜ r ≡ settledAs (nightTested (laidAt edition n (distanceDue edition n) (now (sheet .entry)))) ⌝ }
+// A sheet of an edition, rows and a side that has passed its tests: its night is read, and settled. Behind its m*n costs the state has zeros.
+fn settle_night(sheet: &[u8], edition: usize, m: usize, n: usize) -> Settled
+    requires { ⌜ (m ≤ n) × (n ≤ sheetSide) × (distanceDue edition m n + 12 ≤ length (now sheet)) ⌝ }
+    ensures { λ r. ⌜ r ≡ settledAs (nightTested (laidAt edition m n (distanceDue edition m n) (now (sheet .entry)))) ⌝ }
 {
-    let count = n * n;
-    let distance = reading::distance_due(edition, n);
+    let count = m * n;
+    let distance = reading::distance_due(edition, m, n);
     let read = read_night(fresh(), sheet, distance, count);
     let barred = read_bars(read, sheet, edition, n);
-    settle_in(barred, edition, n)
+    settle_in(barred, edition, m, n)
 }
 
 // A sheet is read and its night solved, for a slip room of so many bytes.
@@ -407,23 +414,25 @@ pub fn settle(sheet: &[u8], room: usize) -> Settled
         Verdict::Passed => settle_night(
             sheet,
             layout::trailer::edition_of(sheet),
+            reading::rows_of(sheet),
             layout::trailer::side_of(sheet),
         ),
     }
 }
 
-// A slip is written from the first n entries of the arrays.
+// A slip is written from the first m columns and row prices and the first n column prices of the arrays.
 fn write_arrays(
     slip: &mut [u8],
     edition: usize,
+    m: usize,
     n: usize,
     cols: &[u32; 64],
     row_prices: &[i64; 64],
     col_prices: &[i64; 64],
     total: i64,
 )
-    requires { ⌜ (n ≤ 64) × (slipLength n ≤ length (now slip)) ⌝ }
-    ensures { λ _. ⌜ now (slip .exit) ≡ slipOf edition n (take n (now (cols .entry))) (take n (now («row_prices» .entry))) (take n (now («col_prices» .entry))) total ++ drop (slipLength n) (now (slip .entry)) ⌝ }
+    requires { ⌜ (m ≤ n) × (n ≤ 64) × (slipLength edition m n ≤ length (now slip)) ⌝ }
+    ensures { λ _. ⌜ now (slip .exit) ≡ slipOf edition m n (take m (now (cols .entry))) (take m (now («row_prices» .entry))) (take n (now («col_prices» .entry))) total ++ drop (slipLength edition m n) (now (slip .entry)) ⌝ }
 {
     let all_cols: &[u32] = cols;
     let all_row_prices: &[i64] = row_prices;
@@ -431,22 +440,22 @@ fn write_arrays(
     layout::slip::write_slip(
         slip,
         edition,
-        &all_cols[0..n],
-        &all_row_prices[0..n],
+        &all_cols[0..m],
+        &all_row_prices[0..m],
         &all_col_prices[0..n],
         total,
     );
 }
 
 // The slip of a solved state is written over the front of its room.
-fn write_state(slip: &mut [u8], state: State, edition: usize, n: usize, total: i64)
-    requires { ⌜ (n ≤ 64) × (slipLength n ≤ length (now slip)) ⌝ }
-    ensures { λ _. ⌜ now (slip .exit) ≡ slipOf edition n (take n (state .cols)) (take n (state .«row_prices»)) (take n (state .«col_prices»)) total ++ drop (slipLength n) (now (slip .entry)) ⌝ }
+fn write_state(slip: &mut [u8], state: State, edition: usize, m: usize, n: usize, total: i64)
+    requires { ⌜ (m ≤ n) × (n ≤ 64) × (slipLength edition m n ≤ length (now slip)) ⌝ }
+    ensures { λ _. ⌜ now (slip .exit) ≡ slipOf edition m n (take m (state .cols)) (take m (state .«row_prices»)) (take n (state .«col_prices»)) total ++ drop (slipLength edition m n) (now (slip .entry)) ⌝ }
 {
     let cols = state.cols;
     let row_prices = state.row_prices;
     let col_prices = state.col_prices;
-    write_arrays(slip, edition, n, &cols, &row_prices, &col_prices, total);
+    write_arrays(slip, edition, m, n, &cols, &row_prices, &col_prices, total);
 }
 
 // The entry: a sheet's slip is written over the front of its room; 0, or the refusal as number + 256*place. A 20 writes the rows that it
@@ -462,9 +471,9 @@ pub fn pair(sheet: &[u8], slip: &mut [u8]) -> u64
             layout::value::write_value(slip, 0, 8, rows as usize);
             matrix::refusals::NO_PAIRING
         }
-        Reply::Accepted(edition, n, total) => {
+        Reply::Accepted(edition, m, n, total) => {
             let state = settled.state;
-            write_state(slip, state, edition, n, total);
+            write_state(slip, state, edition, m, n, total);
             0
         }
     }

@@ -19,24 +19,23 @@ use Rattle.lists.specs.Counts.{bitOf}
 use Rattle.layout.specs.Values.{bytesOf, valueOf}
 use Rattle.layout.proofs.Values.{length-bytesOf, value-bytesOf}
 use Rattle.assignment.specs.Pairings.{Night, Pairing, signedAt}
-use Rattle.bars.specs.Barred.{barred, firstBarred, bitsAbove}
+use Rattle.bars.specs.Barred.{nightOf, barred, firstBarred, bitsAbove}
 use Rattle.bars.specs.Tests.{barredMost}
 use Rattle.bars.specs.Blocked.{Blocked}
 use Rattle.bars.specs.Masks.{columnsMask}
-use Rattle.bars.proofs.Barred.{no-pair-barred, barred-pairing, barred-iff, shown-blocked, shown-ones, wide-margin}
+use Rattle.bars.proofs.Barred.{no-pair-barred, barred-iff, shown-blocked, shown-ones, wide-margin}
 use Rattle.bars.proofs.Masks.{reached-below}
 use Rattle.matrix.specs.Limits.{K}
 use Rattle.matrix.specs.Refusals.{NoPairing}
-use Rattle.matrix.proofs.Passed.{costs-in}
 use Rattle.matrix.proofs.Verdicts.{then-iff, failsAt-iff}
 use Rattle.rules.specs.Run.{Result}
 use Rattle.rules.specs.Right.{Right}
-use Rattle.sheet.specs.Reading.{hasBars, costMost, Laid, night, read}
+use Rattle.sheet.specs.Reading.{hasBars, Laid, night, read}
 use Rattle.sheet.specs.Settle.{solvedCosts, found, barredRow, rowsShown, Delivery, blockedAs, slipAs, pairedAs, pair}
 use Rattle.sheet.proofs.Sheets.{below-word}
-use Rattle.sheet.proofs.Solver as solver
-use Rattle.sheet.proofs.Pairing.{Readable, read-right}
-use Rattle.sheet.proofs.Pairing as pairing
+use Rattle.sheet.proofs.Editions.{barred-uncounted}
+use Rattle.sheet.proofs.Pairing.{Readable}
+use Rattle.sheet.proofs.Nights.{sheetNight, readable, owed, costs-near, night-pairing}
 
 -- Costs within an edition's limit leave K far above, where the edition has bars.
 margin : (n : ℕ) → n ≤ 64 → pos (barredMost + n * (2 * barredMost)) <ℤ pos K
@@ -44,48 +43,60 @@ unfolding barredMost K
 margin = wide-margin
 
 module _ (sheet room : List ℕ) (laid : Laid) (e : read (length room) sheet ≡ night laid) where
+  abbrev m : ℕ
+  m = laid .rowCount
+
   abbrev n : ℕ
   n = laid .side
 
   abbrev a : Result
   a = found laid
 
-  abbrev sheetNight : Night
-  sheetNight = barred n (laid .costs) (laid .bars)
+  abbrev its : Night
+  its = sheetNight sheet (length room) laid e
 
   abbrev None : Type 0
-  None = (other : List ℕ) → Pairing sheetNight other → ⊥
+  None = (other : List ℕ) → Pairing its other → ⊥
 
-  readable : Readable (length room) laid
-  readable = subst (pairing.ReadRight (length room)) e (read-right (length room) sheet)
+  abbrev fits : Readable (length room) laid
+  fits = readable sheet (length room) laid e
 
-  owed : Right n (solvedCosts laid) K a
-  owed = solver.owed (laid .edition) n (laid .costs) (laid .bars) (readable .squared) (readable .rows) (readable .small) (readable .passes)
-
-  within : (k : ℕ) → k < n * n → Within (costMost (laid .edition)) (signedAt (laid .costs) k)
-  within k l = costs-in (costMost (laid .edition)) (laid .costs) .0 (then-iff _ _ .0 (readable .passes) .0) k (omega (arith, readable .squared))
+  abbrev right : Right n (solvedCosts laid) K a
+  right = owed sheet (length room) laid e
 
   clear : (i : ℕ) → i < n → at (laid .bars) i < 2 ^ n
-  clear i l = leb-false (2 ^ n) (at (laid .bars) i) (failsAt-iff _ (λ k. k) n (λ k. bitsAbove n (at (laid .bars) k)) .0 (then-iff _ _ .0 (readable .passes) .1) i l)
+  clear i l = leb-false (2 ^ n) (at (laid .bars) i) (failsAt-iff _ (λ k. k) n (λ k. bitsAbove n (at (laid .bars) k)) .0 (then-iff _ _ .0 (fits .passes) .1) i l)
 
-  -- Where a pair is barred the edition has bars, and so its costs are small.
-  barred-small : barredRow laid < n → (k : ℕ) → k < n * n → Within barredMost (signedAt (laid .costs) k)
-  barred-small h = by (hasBars (laid .edition)) refl
+  -- Where a pair is barred the edition has bars; so its costs are small, and its rows as many as its columns.
+  bars-there : barredRow laid < n → hasBars (laid .edition) ≡ true
+  bars-there h = by (hasBars (laid .edition)) refl
     where
-      by : (t : Bool) → hasBars (laid .edition) ≡ t → (k : ℕ) → k < n * n → Within barredMost (signedAt (laid .costs) k)
-      by true s k l = subst (λ (c : ℕ). Within c (signedAt (laid .costs) k)) (ap (λ (u : Bool). cond u barredMost K) s) (within k l)
-      by false s k l = absurd (omega (arith, ap (λ (bars : List ℕ). firstBarred n bars (a .cols)) (readable .unbarred s), no-pair-barred n (a .cols)))
+      by : (t : Bool) → hasBars (laid .edition) ≡ t → hasBars (laid .edition) ≡ true
+      by true s = s
+      by false s = absurd (omega (arith, ap (λ (bars : List ℕ). firstBarred n bars (a .cols)) (fits .unbarred s), no-pair-barred n (a .cols)))
+
+  square-there : barredRow laid < n → m ≡ n
+  square-there h = fits .square (barred-uncounted (laid .edition) (bars-there h))
+
+  barred-small : barredRow laid < n → (k : ℕ) → k < n * n → Within barredMost (signedAt (laid .costs) k)
+  barred-small h k l =
+      let there : k < length (laid .costs) = omega (arith, fits .filled, ap (λ (i : ℕ). i * n) (square-there h)) in
+      subst (λ (c : ℕ). Within c (signedAt (laid .costs) k)) (ap (λ (u : Bool). cond u barredMost K) (bars-there h)) (costs-near sheet (length room) laid e k there)
+
+  its-square : barredRow laid < n → barred n (laid .costs) (laid .bars) ≡ its
+  its-square h = ap (λ (i : ℕ). nightOf i n (laid .costs) (laid .bars)) (sym (square-there h))
 
   -- "Refuse with 20 exactly if there is none."
   pub barred-none : (barredRow laid < n) ↔ None
   barred-none = (
-    λ h. barred-iff n (pos K) (laid .costs) (laid .bars) barredMost (barred-small h) (margin n (readable .few)) (a .rowPrices) (a .columnPrices) (owed .feasible) (a .cols) (owed .pairing) (owed .tight) .0 h,
+    λ h. subst (λ (x : Night). (other : List ℕ) → Pairing x other → ⊥) (its-square h)
+        (barred-iff n (pos K) (laid .costs) (laid .bars) barredMost (barred-small h) (margin n (fits .few)) (a .rowPrices) (a .columnPrices) (right .feasible) (a .cols) (right .pairing) (right .tight) .0 h),
     λ none. by none (decLt (barredRow laid) n),
   )
     where
       by : None → Dec (barredRow laid < n) → barredRow laid < n
       by none (yes h) = h
-      by none (no h) = absurd (none (a .cols) (barred-pairing n (pos K) (laid .costs) (laid .bars) (a .cols) (owed .pairing) (omega arith)))
+      by none (no h) = absurd (none (take m (a .cols)) (night-pairing sheet (length room) laid e (omega arith)))
 
   delivered : {t : Bool} → ltb (barredRow laid) n ≡ t → pair sheet room ≡ cond t (blockedAs room laid) (slipAs room laid)
   unfolding pair
@@ -121,17 +132,18 @@ module _ (sheet room : List ℕ) (laid : Laid) (e : read (length room) sheet ≡
     shown-is =
         ap (λ (l : List ℕ). valueOf (take 8 l)) slip-is
         ∙ ap valueOf (take-at (bytesOf 8 (rowsShown laid)) (drop 8 room) 8 (length-bytesOf 8 (rowsShown laid)))
-        ∙ value-bytesOf 8 (rowsShown laid) (below-word n (readable .few) (rowsShown laid) (reached-below n (laid .costs) (laid .bars) (a .cols) (barredRow laid) h))
+        ∙ value-bytesOf 8 (rowsShown laid) (below-word n (fits .few) (rowsShown laid) (reached-below n (laid .costs) (laid .bars) (a .cols) (barredRow laid) h))
 
-    pub twenty-shows : Blocked sheetNight (bitOf shown)
+    pub twenty-shows : Blocked its (bitOf shown)
     twenty-shows =
-        subst (λ (rows : ℕ). Blocked sheetNight (bitOf rows)) (sym shown-is)
-        (shown-blocked n (pos K) (laid .costs) (laid .bars) barredMost (barred-small h) (margin n (readable .few)) (a .rowPrices) (a .columnPrices) (owed .feasible) (a .cols) (owed .pairing) (owed .tight) h)
+        subst (λ (rows : ℕ). Blocked its (bitOf rows)) (sym shown-is)
+        (subst (λ (x : Night). Blocked x (bitOf (rowsShown laid))) (its-square h)
+        (shown-blocked n (pos K) (laid .costs) (laid .bars) barredMost (barred-small h) (margin n (fits .few)) (a .rowPrices) (a .columnPrices) (right .feasible) (a .cols) (right .pairing) (right .tight) h))
 
     pub twenty-ones : ones (columnsMask n (laid .bars) shown) < ones shown
     twenty-ones =
         subst (λ (rows : ℕ). ones (columnsMask n (laid .bars) rows) < ones rows) (sym shown-is)
-        (shown-ones n (pos K) (laid .costs) (laid .bars) barredMost (barred-small h) (margin n (readable .few)) (a .rowPrices) (a .columnPrices) (owed .feasible) (a .cols) (owed .pairing) (owed .tight) clear h)
+        (shown-ones n (pos K) (laid .costs) (laid .bars) barredMost (barred-small h) (margin n (fits .few)) (a .rowPrices) (a .columnPrices) (right .feasible) (a .cols) (right .pairing) (right .tight) clear h)
 
     pub twenty-rest : drop 8 slip ≡ drop 8 room
     twenty-rest = ap (drop 8) slip-is ∙ drop-at (bytesOf 8 (rowsShown laid)) (drop 8 room) 8 (length-bytesOf 8 (rowsShown laid))

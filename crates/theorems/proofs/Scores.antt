@@ -35,13 +35,15 @@ module _ (firsts seconds room : List ℕ) (e : scoreSheet firsts seconds room .n
 
   -- The night as it lies on the sheet: edition 1, nothing barred.
   abbrev laid : Laid
-  laid = record { edition = 1; side = n; costs = scores n firsts seconds; bars = replicate n 0 }
+  laid = record { edition = 1; rowCount = n; side = n; costs = scores n firsts seconds; bars = replicate n 0 }
 
   layable : Layable laid
   layable = record {
     known = refl;
     small = accepted-lists firsts seconds room e .few;
-    squared = size;
+    fewer = omega arith;
+    square = λ h. refl;
+    filled = size;
     inside = λ k l. rw (getD-table (n * n) (scoreAt n firsts seconds) (pos 0) k l) (within-mono (omega (arith, K-large)) (sum-small (reference (k / n) firsts) (reference (k % n) seconds)));
     rows = length-replicate n 0;
     clear = λ i l. rw (getD-replicate {A = ℕ} n i 0 0 l) (pow-pos n);
@@ -51,10 +53,10 @@ module _ (firsts seconds room : List ℕ) (e : scoreSheet firsts seconds room .n
   no-note : Printable []
   no-note = record { short = omega arith; printed = λ k l. absurd (omega arith) }
 
-  pub scores-read : (slip : ℕ) → slipLength n ≤ slip → read slip sheet ≡ night laid
+  pub scores-read : (slip : ℕ) → slipLength 1 n n ≤ slip → read slip sheet ≡ night laid
   scores-read slip roomy = ap (read slip) (sheet-written firsts seconds room e) ∙ read-sheet [] laid slip no-note layable roomy
 
-  pub scores-paired : (slip : List ℕ) → slipLength n ≤ length slip → pair sheet slip .number ≡ 0
+  pub scores-paired : (slip : List ℕ) → slipLength 1 n n ≤ length slip → pair sheet slip .number ≡ 0
   unfolding pair
   scores-paired slip roomy =
       ap (λ (r : Read). pairedAs slip r .number) (scores-read (length slip) roomy)

@@ -15,8 +15,8 @@
  * Nothing is kept after the call returns. Nothing else is asked: any side, length and number is answered.
  *
  * A refusal is 0 where the input was accepted, else number + 256*place:
- *    1  side over 4,096; with bars over 64                          place 0
- *    2  not exactly n*n costs                                       0
+ *    1  side over 4,096; with bars or fewer rows over 64            place 0
+ *    2  not exactly n*n costs, with fewer rows m*n                  0
  *    3  an output or list shorter than n (cost: longer than n)      the first such, by its number
  *    4  work room too short                                         1 indices, 2 numbers
  *    5  a cost outside -1,000,000,000..1,000,000,000;               the first, i*n+j
@@ -24,15 +24,19 @@
  *    6  a listed column is not below n                              the first row
  *       repair: before that, the row number is not below n          n
  *    7  the column of a row does not name that row back             the first row
- *    8  a price outside -10,000,000,000..10,000,000,000             the first: row i is i, column j is n+j
+ *       with fewer rows: it is used twice                           the later row
+ *    8  a price outside -10,000,000,000..10,000,000,000             the first: row i is i, column j is n+j,
+ *                                                                   with fewer rows m+j
  *    9  row price + column price over the cost                      the first i*n+j
  *   10  on a paired place that sum is not the cost                  the first row
  *   11  sheet under 12 bytes, or wrong mark                         0
- *   12  edition neither 1 nor 2                                     0
+ *   12  edition not 1, 2 or 3                                       0
  *   13  sheet side over 64                                          0
- *   14  distance not 4*n*n, in edition 2 not 4*n*n+8*n              0
+ *   14  distance not 4*n*n, in edition 2 not 4*n*n+8*n,             0
+ *       in edition 3 not 4*m*n+2
  *   15  distance exceeds the bytes before the trailer               0
- *   16  slip room under 18n+20, or sheet room under 4*n*n+12        0
+ *   16  slip room under 18n+20, in edition 3 under 10m+8n+22,       0
+ *       or sheet room under 4*n*n+12
  *   17  sheet over 65,536 bytes                                     0
  *   18  a reference is not of 12 characters                         1 the first, 2 the second
  *       lists of references are unequal, or not of whole ones       0
@@ -42,8 +46,11 @@
  *   21  a note (all bytes before the first cost) over 4,096 bytes,  the first such position, 4,096 for a longer note
  *       or with a byte outside 32 to 126                            whose first 4,096 bytes are good
  *   22  a row's bars have a bit set from n up                       the first row
+ *   23  more rows than columns                                      the number of rows
+ *       a sheet of edition 3 under 14 bytes                         0
  *   24  a price outside -7,000,000,000..7,000,000,000               as for 8
  *   26  a row's column is barred to it                              the first row
+ *   27  a spare column's price below that of a used one             the first such spare column
  *   28  a piece or an end after the end of a sheet in pieces        0
  * Lists are numbered 1 columns by row, 2 rows by column, 3 row prices, 4 column prices, 5 bars. A refusal has total 0
  * and counts 0 and changes nothing that was lent, but for the state of a sheet in pieces (below) and, with 20, the first
@@ -84,8 +91,10 @@ enum {
     BRISTLEFROST_NO_PAIRING = 20,
     BRISTLEFROST_NOTE_UNFIT = 21,
     BRISTLEFROST_BARS_PAST_SIDE = 22,
+    BRISTLEFROST_ROWS_OVER = 23,
     BRISTLEFROST_PRICE_FAR = 24,
     BRISTLEFROST_BARRED_PAIR = 26,
+    BRISTLEFROST_SPARE_BELOW = 27,
     BRISTLEFROST_SHEET_ENDED = 28
 };
 
@@ -149,6 +158,17 @@ bristlefrost_checked bristlefrost_check_barred(
     const int64_t *col_prices, size_t col_prices_len,
     const uint64_t *bars, size_t bars_len);
 
+/* The same for a night of m rows and n columns, m at most n, n at most 64: m*n costs in row order, the column of each row,
+ * m row prices and n column prices; lists 1, 3 and 4. Accepted means that no choice of a column of its own for each row
+ * has a lower total. Any m may be passed: with 23 a place over 2^56 - 1 is told as that. Refusals 1 23 2 3 5 6 7 8 9 10
+ * 27. */
+bristlefrost_checked bristlefrost_check_oblong(
+    size_t m, size_t n,
+    const int32_t *costs, size_t costs_len,
+    const uint32_t *cols, size_t cols_len,
+    const int64_t *row_prices, size_t row_prices_len,
+    const int64_t *col_prices, size_t col_prices_len);
+
 /* The total over a list of at most n columns: the column of row 0, of row 1, and so on. Refusals 1 2 3 5 6. */
 bristlefrost_total bristlefrost_cost(
     size_t n,
@@ -172,7 +192,7 @@ bristlefrost_checked bristlefrost_repair(
     int64_t *numbers, size_t numbers_len);
 
 /* Reads a sheet and writes its slip of 18n+20 bytes, where n is the sheet's side, at most 64; later bytes of the
- * slip's room are untouched. Answers 0, or number + 256*place. Refusals 17 11 12 13 14 15 21 16 5 22 20.
+ * slip's room are untouched. Answers 0, or number + 256*place. Refusals 17 11 12 13 23 14 15 21 16 5 22 20.
  *
  * A sheet is a note for people, the n*n costs (4 bytes each) and a trailer: the distance from the trailer back to the
  * first cost, 4*n*n (4 bytes), the side (2), the edition, 1 (2), and MTCH. A slip is the columns by row (2 bytes each),
@@ -184,7 +204,13 @@ bristlefrost_checked bristlefrost_repair(
  * -1,000,000..1,000,000. The total is the least of the pairings without a barred pair, and the prices are those of the
  * same costs with 1,000,000,000 on barred places. Where there is no such pairing, 20 is given and the first 8 bytes of
  * the slip's room are a number whose bits are a set of rows: the columns allowed to any of them are fewer than they
- * are. It is the one refusal that writes. */
+ * are. It is the one refusal that writes.
+ *
+ * In edition 3 there are m rows and n columns, m at most n: m*n costs, then m (2 bytes), and a trailer with the distance
+ * 4*m*n+2 and the side n. Each row gets a column of its own, at the least total; the choice and the prices are those of
+ * the same costs with n-m rows of zeros below. The slip is m columns, m row prices, n column prices, the total, m (2
+ * bytes) and a trailer with the distance 10m+8n+10: 10m+8n+22 bytes. No spare column's price is below that of a used
+ * one. */
 uint64_t bristlefrost_sheet(
     const uint8_t *sheet, size_t sheet_len,
     uint8_t *slip, size_t slip_len);

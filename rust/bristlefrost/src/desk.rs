@@ -4,7 +4,7 @@ use std::fmt;
 
 use paper::{Sheet, Slip};
 
-use crate::{check, check_barred, sheet, Refusal};
+use crate::{check, check_barred, check_oblong, sheet, Refusal};
 
 /// Pairs the night of a sheet.
 ///
@@ -24,6 +24,11 @@ use crate::{check, check_barred, sheet, Refusal};
 /// assert_eq!(refused, bristlefrost::Refusal::NoPairing { rows: 0b101 });
 /// let said = "refused 20 place 0: no pairing is without a barred pair; too few columns are allowed to rows 0 2";
 /// assert_eq!(refused.to_string(), said);
+///
+/// // Two rows of three columns: column 0 is spare.
+/// let slip = pair(&Sheet::oblong(2, 3, &[5, 3, 4, 6, 7, 1])?)?;
+/// assert_eq!((slip.edition, &slip.columns[..], slip.total), (3, &[1, 2][..], 4));
+/// assert_eq!(slip.spare().collect::<Vec<_>>(), [0]);
 /// # Ok::<(), Box<dyn std::error::Error>>(())
 /// ```
 pub fn pair(night: &Sheet) -> Result<Slip, Refusal> {
@@ -88,26 +93,33 @@ pub fn audit(night: &Sheet, slip: &Slip) -> Result<(), Doubt> {
     if slip.edition != night.edition() {
         return Err(Doubt::Edition);
     }
-    let side = night.side();
-    let columns: Vec<u32> = slip.columns.iter().map(|&column| column.into()).collect();
-    if [columns.len(), slip.row_prices.len(), slip.column_prices.len()] != [side; 3] {
+    let (m, n) = (night.rows(), night.side());
+    if [slip.columns.len(), slip.row_prices.len(), slip.column_prices.len()] != [m, m, n] {
         return Err(Doubt::Side);
     }
-    // Of two rows with one column, the column names the earlier, so that the checker refuses the later.
-    let mut rows = vec![u32::MAX; side];
-    for (row, &column) in columns.iter().enumerate().rev() {
-        if let Some(named) = rows.get_mut(column as usize) {
-            *named = row as u32;
-        }
-    }
+    let columns: Vec<u32> = slip.columns.iter().map(|&column| column.into()).collect();
+    let rows = rows_by_column(n, &columns);
     let (costs, u, v) = (night.costs(), &slip.row_prices, &slip.column_prices);
-    let checked = match night.bars() {
-        None => check(side, costs, &columns, &rows, u, v),
-        Some(bars) => check_barred(side, costs, &columns, &rows, u, v, bars),
+    let checked = match (night.edition(), night.bars()) {
+        (_, Some(bars)) => check_barred(n, costs, &columns, &rows, u, v, bars),
+        (3, _) => check_oblong(m, n, costs, &columns, u, v),
+        _ => check(n, costs, &columns, &rows, u, v),
     };
     match checked {
         Err(refusal) => Err(Doubt::Refused(refusal)),
         Ok(total) if total != slip.total => Err(Doubt::Total(total)),
         Ok(_) => Ok(()),
     }
+}
+
+/// The row of each column. Of two rows with one column, the column names the earlier, so that the checker refuses the
+/// later.
+fn rows_by_column(n: usize, columns: &[u32]) -> Vec<u32> {
+    let mut rows = vec![u32::MAX; n];
+    for (row, &column) in columns.iter().enumerate().rev() {
+        if let Some(named) = rows.get_mut(column as usize) {
+            *named = row as u32;
+        }
+    }
+    rows
 }

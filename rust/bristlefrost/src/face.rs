@@ -78,6 +78,19 @@ extern "C" {
         bars_len: usize,
     ) -> Checked;
 
+    fn bristlefrost_check_oblong(
+        m: usize,
+        n: usize,
+        costs: *const i32,
+        costs_len: usize,
+        cols: *const u32,
+        cols_len: usize,
+        row_prices: *const i64,
+        row_prices_len: usize,
+        col_prices: *const i64,
+        col_prices_len: usize,
+    ) -> Checked;
+
     fn bristlefrost_cost(
         n: usize,
         costs: *const i32,
@@ -199,6 +212,31 @@ pub fn check_barred(
             column_prices.len(),
             bars.as_ptr(),
             bars.len(),
+        )
+    }
+}
+
+pub fn check_oblong(
+    m: usize,
+    n: usize,
+    costs: &[i32],
+    columns: &[u32],
+    row_prices: &[i64],
+    column_prices: &[i64],
+) -> Checked {
+    // Safety: every pointer and length come from one slice, and nothing is written.
+    unsafe {
+        bristlefrost_check_oblong(
+            m,
+            n,
+            costs.as_ptr(),
+            costs.len(),
+            columns.as_ptr(),
+            columns.len(),
+            row_prices.as_ptr(),
+            row_prices.len(),
+            column_prices.as_ptr(),
+            column_prices.len(),
         )
     }
 }

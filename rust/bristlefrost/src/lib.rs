@@ -32,7 +32,8 @@
 //! The same on paper: a [`Sheet`] is built from costs or from a table of numbers, [`pair`] answers its [`Slip`], and
 //! [`audit`] holds a slip against its sheet on another machine. [`sheet`] does it on bytes, and [`Pieces`] on bytes that
 //! arrive in pieces. On a sheet pairs can be barred: the total is then the least of the pairings without a barred pair,
-//! and where there is none, [`Refusal::NoPairing`] shows rows that have too few columns.
+//! and where there is none, [`Refusal::NoPairing`] shows rows that have too few columns. Or there are fewer rows than
+//! columns: each row gets a column of its own, and the others are spare.
 
 #![warn(missing_docs)]
 
@@ -315,6 +316,34 @@ pub fn check_barred(
     Ok(answer.total)
 }
 
+/// As [`check`], for a night of fewer rows than columns, or as many, and at most 64: rows * columns costs, the column of
+/// each row, and a price of each row and each column. Accepted means that no choice of a column of its own for each row
+/// has a lower total; no spare column's price may be below that of a used one.
+///
+/// ```
+/// use bristlefrost::{check_oblong, Refusal};
+///
+/// let costs = [5, 3, 4, 6, 7, 1];
+/// assert_eq!(check_oblong(2, 3, &costs, &[1, 2], &[3, 1], &[0, 0, 0]), Ok(4));
+/// assert_eq!(check_oblong(2, 3, &costs, &[1, 1], &[3, 1], &[0, 0, 0]), Err(Refusal::RowNotNamed { row: 1 }));
+///
+/// // Column 1 costs 0: the prices show nothing, since column 1 is spare and its price is below that of column 0.
+/// assert_eq!(check_oblong(1, 2, &[1, 0], &[0], &[2], &[-1, -2]), Err(Refusal::SpareBelow { column: 1 }));
+/// assert_eq!(check_oblong(3, 2, &[0; 6], &[0, 1, 0], &[0; 3], &[0; 2]), Err(Refusal::RowsOver { rows: 3 }));
+/// ```
+pub fn check_oblong(
+    rows: usize,
+    side: usize,
+    costs: &[i32],
+    columns: &[u32],
+    row_prices: &[i64],
+    column_prices: &[i64],
+) -> Result<i64, Refusal> {
+    let answer = face::check_oblong(rows, side, costs, columns, row_prices, column_prices);
+    Refusal::read(answer.refusal, answer.slack)?;
+    Ok(answer.total)
+}
+
 /// The total over a list of columns: of row 0, of row 1, and so on, at most as many as the side. A column may be
 /// listed twice.
 ///
@@ -332,10 +361,18 @@ pub fn cost(side: usize, costs: &[i32], listed: &[u32]) -> Result<i64, Refusal> 
     Ok(answer.total)
 }
 
-/// The number of bytes of a side's slip.
+/// The number of bytes of a side's slip, in editions 1 and 2.
 pub const fn slip_length(side: usize) -> usize {
     18 * side + 20
 }
+
+/// The number of bytes of a slip of edition 3.
+pub const fn oblong_slip_length(rows: usize, columns: usize) -> usize {
+    10 * rows + 8 * columns + 22
+}
+
+/// The most bytes that a slip has, in any edition.
+pub const LONGEST_SLIP: usize = oblong_slip_length(LARGEST_SHEET_SIDE, LARGEST_SHEET_SIDE);
 
 /// Pairs a sheet's bytes and answers its slip's.
 ///
@@ -351,20 +388,27 @@ pub const fn slip_length(side: usize) -> usize {
 /// # Ok::<(), bristlefrost::Refusal>(())
 /// ```
 pub fn sheet(sheet: &[u8]) -> Result<Vec<u8>, Refusal> {
-    let mut slip = vec![0; slip_length(LARGEST_SHEET_SIDE)];
+    let mut slip = vec![0; LONGEST_SLIP];
     sheet_into(sheet, &mut slip)?;
-    slip.truncate(slip_length(side_of(sheet)));
+    slip.truncate(slip_of(sheet));
     Ok(slip)
 }
 
-/// The side of an accepted sheet: it ends with its trailer, which holds the side in bytes 4 and 5.
-fn side_of(sheet: &[u8]) -> usize {
-    let side = &sheet[sheet.len() - 8..sheet.len() - 6];
-    usize::from(u16::from_le_bytes([side[0], side[1]]))
+/// The length of an accepted sheet's slip: its trailer holds the side in bytes 4 and 5 and the edition in bytes 6 and 7,
+/// and in edition 3 the number of rows stands before it.
+fn slip_of(sheet: &[u8]) -> usize {
+    let number = |before: usize| usize::from(u16::from_le_bytes([sheet[before], sheet[before + 1]]));
+    let trailer = sheet.len() - 12;
+    let (side, edition) = (number(trailer + 4), number(trailer + 6));
+    if edition == 3 {
+        oblong_slip_length(number(trailer - 2), side)
+    } else {
+        slip_length(side)
+    }
 }
 
-/// Pairs a sheet's bytes and writes its slip's, as many as [`slip_length`] says; later bytes are untouched. A refusal
-/// changes nothing, but [`Refusal::NoPairing`]: its rows are written over the first 8 bytes.
+/// Pairs a sheet's bytes and writes its slip's, as many as [`slip_length`] or [`oblong_slip_length`] says; later bytes
+/// are untouched. A refusal changes nothing, but [`Refusal::NoPairing`]: its rows are written over the first 8 bytes.
 ///
 /// ```
 /// let sheet = [7, 0, 0, 0, 4, 0, 0, 0, 1, 0, 1, 0, 0x4D, 0x54, 0x43, 0x48];

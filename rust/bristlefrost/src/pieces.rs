@@ -2,7 +2,7 @@
 
 use std::{fmt, io};
 
-use crate::{face, side_of, slip_length, Refusal, LARGEST_SHEET_SIDE, LONGEST_SHEET};
+use crate::{face, slip_of, Refusal, LONGEST_SHEET, LONGEST_SLIP};
 
 /// A sheet that arrives in pieces of any size, empty ones too, up to [`LONGEST_SHEET`] bytes in all. Its end gives what
 /// [`sheet`](crate::sheet) gives for the whole, however it was cut.
@@ -56,10 +56,10 @@ impl Pieces {
 
     /// Ends the sheet and answers its slip.
     pub fn end(&mut self) -> Result<Vec<u8>, Refusal> {
-        let mut slip = vec![0; slip_length(LARGEST_SHEET_SIDE)];
+        let mut slip = vec![0; LONGEST_SLIP];
         self.end_into(&mut slip)?;
         // Acceptance means that so many bytes have come.
-        slip.truncate(slip_length(side_of(&self.bytes[..self.state[0] as usize])));
+        slip.truncate(slip_of(&self.bytes[..self.state[0] as usize]));
         Ok(slip)
     }
 

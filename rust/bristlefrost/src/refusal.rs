@@ -32,7 +32,7 @@ pub enum Room {
 #[derive(Clone, Copy, Debug, PartialEq, Eq)]
 #[non_exhaustive]
 pub enum Refusal {
-    /// 1: the side is over 4,096; with bars over 64.
+    /// 1: the side is over 4,096; with bars or fewer rows over 64.
     SideOver,
     /// 2: there are not exactly side * side costs.
     CostsLength,
@@ -50,9 +50,9 @@ pub enum Refusal {
         /// The first such row; the side where it is the row to repair that lies outside.
         row: u64,
     },
-    /// 7: the column of a row does not name that row back.
+    /// 7: the column of a row does not name that row back, or is used twice.
     RowNotNamed {
-        /// The first such row.
+        /// The first such row; the later one of a column used twice.
         row: u64,
     },
     /// 8: a price lies outside -10,000,000,000..10,000,000,000.
@@ -76,15 +76,16 @@ pub enum Refusal {
     },
     /// 11: the sheet has under 12 bytes, or a wrong mark.
     NoMark,
-    /// 12: the sheet's edition is neither 1 nor 2.
+    /// 12: the sheet's edition is not 1, 2 or 3.
     EditionUnknown,
     /// 13: the sheet's side is over 64.
     SheetSideOver,
-    /// 14: the sheet's distance is not 4 * side * side, or in edition 2 8 * side more.
+    /// 14: the sheet's distance is not 4 * side * side, in edition 2 8 * side more, in edition 3 4 * rows * side + 2.
     DistanceWrong,
     /// 15: the sheet's distance exceeds the bytes before the trailer.
     DistancePastBytes,
-    /// 16: the slip's room is under 18 * side + 20 bytes, or the room of a sheet of scores under 4 * side * side + 12.
+    /// 16: the slip's room is under 18 * side + 20 bytes, in edition 3 under 10 * rows + 8 * side + 22, or the room of a
+    /// sheet of scores under 4 * side * side + 12.
     SlipRoomShort,
     /// 17: the sheet is over 65,536 bytes.
     SheetOver,
@@ -114,6 +115,11 @@ pub enum Refusal {
         /// The first such row.
         row: u64,
     },
+    /// 23: there are more rows than columns, or a sheet of edition 3 has under 14 bytes.
+    RowsOver {
+        /// The number of rows; 0 for a sheet that is too short.
+        rows: u64,
+    },
     /// 24: a price lies outside -7,000,000,000..7,000,000,000, so that a repair could take it too far: solve afresh.
     PriceFar {
         /// The first such price: a row's number, or side + a column's number.
@@ -123,6 +129,11 @@ pub enum Refusal {
     BarredPair {
         /// The first such row.
         row: u64,
+    },
+    /// 27: the price of a spare column is below that of a column that is used.
+    SpareBelow {
+        /// The first such spare column.
+        column: u64,
     },
     /// 28: the sheet in [`Pieces`](crate::Pieces) has ended.
     SheetEnded,
@@ -168,8 +179,10 @@ impl Refusal {
             (20, 0) => Refusal::NoPairing { rows: 0 },
             (21, _) => Refusal::NoteUnfit { place },
             (22, _) => Refusal::BarsPastSide { row: place },
+            (23, _) => Refusal::RowsOver { rows: place },
             (24, _) => Refusal::PriceFar { place },
             (26, _) => Refusal::BarredPair { row: place },
+            (27, _) => Refusal::SpareBelow { column: place },
             (28, 0) => Refusal::SheetEnded,
             _ => Refusal::Other { number, place },
         };
@@ -211,8 +224,10 @@ impl Refusal {
             Refusal::NoPairing { .. } => 20,
             Refusal::NoteUnfit { .. } => 21,
             Refusal::BarsPastSide { .. } => 22,
+            Refusal::RowsOver { .. } => 23,
             Refusal::PriceFar { .. } => 24,
             Refusal::BarredPair { .. } => 26,
+            Refusal::SpareBelow { .. } => 27,
             Refusal::SheetEnded => 28,
             Refusal::Other { number, .. } => number,
         }
@@ -236,6 +251,8 @@ impl Refusal {
             | Refusal::BarsPastSide { row }
             | Refusal::BarredPair { row } => row,
             Refusal::ReferenceLength { reference } => reference,
+            Refusal::RowsOver { rows } => rows,
+            Refusal::SpareBelow { column } => column,
             _ => 0,
         }
     }
@@ -252,7 +269,7 @@ impl Refusal {
 impl fmt::Display for Refusal {
     fn fmt(&self, out: &mut fmt::Formatter<'_>) -> fmt::Result {
         let meaning = match self {
-            Refusal::SideOver => "the side is over 4,096, or with bars over 64",
+            Refusal::SideOver => "the side is over 4,096, or with bars or fewer rows over 64",
             Refusal::CostsLength => "there are not exactly side * side costs",
             Refusal::ListLength(_) => "a list's length does not fit the side",
             Refusal::RoomShort(_) => "a work room is too short",
@@ -265,13 +282,11 @@ impl fmt::Display for Refusal {
             Refusal::PricesOverCost { .. } => "row price + column price is over the cost",
             Refusal::PricesNotCost { .. } => "on a pair row price + column price is not the cost",
             Refusal::NoMark => "the sheet is under 12 bytes or its mark is wrong",
-            Refusal::EditionUnknown => "the sheet's edition is neither 1 nor 2",
+            Refusal::EditionUnknown => "the sheet's edition is not 1, 2 or 3",
             Refusal::SheetSideOver => "the sheet's side is over 64",
             Refusal::DistanceWrong => "the sheet's distance is not that of its edition and side",
             Refusal::DistancePastBytes => "the sheet's distance exceeds the bytes before the trailer",
-            Refusal::SlipRoomShort => {
-                "the room is under the slip's 18 * side + 20 bytes or the sheet's 4 * side * side + 12"
-            }
+            Refusal::SlipRoomShort => "the room is under the slip's bytes or the sheet's",
             Refusal::SheetOver => "the sheet is over 65,536 bytes",
             Refusal::ReferenceLength { .. } => {
                 "a reference is not of 12 characters, or two lists of them do not fit"
@@ -280,8 +295,12 @@ impl fmt::Display for Refusal {
             Refusal::NoPairing { .. } => "no pairing is without a barred pair",
             Refusal::NoteUnfit { .. } => "the sheet's note is over 4,096 bytes or has a byte outside 32 to 126",
             Refusal::BarsPastSide { .. } => "a row's bars have a bit set from the side up",
+            Refusal::RowsOver { .. } => {
+                "there are more rows than columns, or a sheet of edition 3 has under 14 bytes"
+            }
             Refusal::PriceFar { .. } => "a price lies outside -7,000,000,000..7,000,000,000",
             Refusal::BarredPair { .. } => "a row has a column that is barred to it",
+            Refusal::SpareBelow { .. } => "the price of a spare column is below that of a used one",
             Refusal::SheetEnded => "the sheet has ended",
             Refusal::Other { .. } => "a number without a meaning",
         };

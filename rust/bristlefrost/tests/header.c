@@ -99,5 +99,20 @@ int main(void) {
     barred[16] = 2, barred[24] = 2;
     if (bristlefrost_sheet(barred, 44, room, 57) != BRISTLEFROST_NO_PAIRING) return 32;
     if (room[0] != 3 || room[1] != 0 || room[7] != 0 || room[36] != 11 || room[56] != 9) return 33;
+
+    /* Two rows of three columns: [5 3 4 / 6 7 1]. */
+    const int32_t six[6] = {5, 3, 4, 6, 7, 1};
+    const uint32_t chosen[2] = {1, 2};
+    const int64_t two[2] = {3, 1}, three[3] = {0, 0, 0}, below[3] = {-1, 0, 0};
+    checked = bristlefrost_check_oblong(2, 3, six, 6, chosen, 2, two, 2, three, 3);
+    if (checked.refusal != 0 || checked.total != 4) return 37;
+    checked = bristlefrost_check_oblong(2, 3, six, 6, chosen, 2, two, 2, below, 3);
+    if (checked.refusal != BRISTLEFROST_SPARE_BELOW || checked.total != 0) return 38;
+    checked = bristlefrost_check_oblong(SIZE_MAX, 3, six, 6, chosen, 2, two, 2, three, 3);
+    if (checked.refusal != BRISTLEFROST_ROWS_OVER + 256 * ((UINT64_C(1) << 56) - 1)) return 39;
+    const uint8_t oblong[22] = {7, 0, 0, 0, 6, 0, 0, 0, 1, 0, 10, 0, 0, 0, 2, 0, 3, 0, 0x4D, 0x54, 0x43, 0x48};
+    if (bristlefrost_sheet(oblong, 22, room, 47) != BRISTLEFROST_SLIP_ROOM_SHORT) return 40;
+    if (bristlefrost_sheet(oblong, 22, room, 48) != 0) return 41;
+    if (room[0] != 1 || room[26] != 6 || room[34] != 1 || room[36] != 36 || room[40] != 2 || room[42] != 3) return 42;
     return 0;
 }

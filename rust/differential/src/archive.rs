@@ -9,7 +9,7 @@ use crate::checks::{self, expect};
 use crate::nights::Random;
 use crate::rules::{self, Answer};
 use crate::sheets::{self, Sheet};
-use crate::{matching, refusals, scores, torn, K};
+use crate::{paper, refusals, scores, K};
 
 /// How often each entry answered each number; 0 is acceptance.
 #[derive(Default)]
@@ -21,17 +21,18 @@ impl Met {
     }
 
     /// The numbers that each entry can answer, in its order.
-    const ALL: [(&'static str, &'static [u64]); 10] = [
+    const ALL: [(&'static str, &'static [u64]); 11] = [
         ("solve", &[0, 1, 2, 3, 4, 5]),
         ("check", &[0, 1, 2, 3, 5, 6, 7, 8, 9, 10]),
         ("check with bars", &[0, 1, 2, 3, 5, 22, 6, 7, 26, 8, 9, 10]),
+        ("check of fewer rows", &[0, 1, 23, 2, 3, 5, 6, 7, 8, 9, 10, 27]),
         ("cost", &[0, 1, 2, 3, 5, 6]),
         ("repair", &[0, 1, 2, 3, 4, 5, 6, 7, 8, 24, 9, 10]),
-        ("sheet", &[0, 17, 11, 12, 13, 14, 15, 21, 16, 5, 22, 20]),
+        ("sheet", &[0, 17, 11, 12, 13, 23, 14, 15, 21, 16, 5, 22, 20]),
         ("score", &[0, 18, 19]),
         ("scores", &[0, 18, 13, 16, 19]),
         ("piece", &[0, 17, 28]),
-        ("end", &[0, 17, 11, 12, 13, 14, 15, 21, 16, 5, 22, 20, 28]),
+        ("end", &[0, 17, 11, 12, 13, 23, 14, 15, 21, 16, 5, 22, 20, 28]),
     ];
 
     /// One line for each entry; an error where a number was never met.
@@ -74,14 +75,14 @@ fn hold(lists: &mut Lists, n: usize, answer: &Answer) {
 }
 
 /// Random entries behind a list.
-fn behind<T>(random: &mut Random, list: &mut Vec<T>, entry: fn(u64) -> T) {
+pub fn behind<T>(random: &mut Random, list: &mut Vec<T>, entry: fn(u64) -> T) {
     for _ in 0..random.below(4) {
         list.push(entry(random.number()));
     }
 }
 
 /// The archive's number and total for what the plain reading gives.
-fn told(right: Result<i64, refusals::Refused>) -> (u64, i64) {
+pub fn told(right: Result<i64, refusals::Refused>) -> (u64, i64) {
     match right {
         Ok(total) => (0, total),
         Err(refused) => (refusals::code(refused), 0),
@@ -94,7 +95,7 @@ pub fn number_and_place(refusal: Refusal) -> u64 {
 }
 
 /// The wrapper's answer as number and total.
-fn wrapped(answer: Result<i64, Refusal>) -> (u64, i64) {
+pub fn wrapped(answer: Result<i64, Refusal>) -> (u64, i64) {
     answer.map_or_else(|refusal| (number_and_place(refusal), 0), |total| (0, total))
 }
 
@@ -189,6 +190,20 @@ pub fn check_barred(n: usize, costs: &[i32], lists: &Lists, bars: &[u64]) -> Res
     Ok(right.0)
 }
 
+/// The same, of fewer rows than columns.
+pub fn check_oblong(m: usize, n: usize, costs: &[i32], lists: &Lists) -> Result<u64, String> {
+    let (columns, u, v) = (&lists.columns, &lists.row_prices, &lists.column_prices);
+    let answer = refusals::oblong_checker(m, n, costs, columns, u, v);
+    let (slack, right) = (refusals::slack(&answer, n, costs, columns, u, v), told(answer));
+    let found = face::check_oblong(m, n, costs, columns, u, v);
+    expect("check of fewer rows", &(found.refusal, found.total), &right)?;
+    expect("the slack", &found.slack, &slack)?;
+    let again = bristlefrost::check_oblong(m, n, costs, columns, u, v);
+    expect("the wrapper's slack", &again.err().map_or(0, |refusal| refusal.slack()), &slack)?;
+    expect("the wrapper's check of fewer rows", &wrapped(again), &right)?;
+    Ok(right.0)
+}
+
 /// Lends a repair these lists and compares its answer and what stands in them; then the wrapper, with lists like them.
 /// The lists are left as the repair leaves them.
 pub fn repair(n: usize, costs: &[i32], row: usize, lists: &mut Lists) -> Result<u64, String> {
@@ -221,48 +236,6 @@ pub fn cost(n: usize, costs: &[i32], listed: &[u32]) -> Result<u64, String> {
     expect("cost", &(found.refusal, found.total), &right)?;
     expect("the wrapper's cost", &wrapped(bristlefrost::cost(n, costs, listed)), &right)?;
     Ok(right.0)
-}
-
-/// Hands over a sheet and room for a slip, and compares the slip's room in full.
-pub fn sheet(random: &mut Random, bytes: &[u8], room: usize) -> Result<u64, String> {
-    let mut found: Vec<u8> = (0..room).map(|_| random.number() as u8).collect();
-    let mut right = found.clone();
-    let night = refusals::sheet(bytes, room);
-    let code = match &night {
-        Err(refused) => refusals::code(*refused),
-        Ok(night) => {
-            let (written, code) = matching::written(night, &matching::settled(night));
-            right[..written.len()].copy_from_slice(&written);
-            code
-        }
-    };
-    expect("sheet", &face::sheet(bytes, &mut found), &code)?;
-    let rows = found.first_chunk().map_or(0, |&rows| u64::from_le_bytes(rows));
-    if let (20, Ok(Sheet { n, bars, .. })) = (code, &night) {
-        expect("too few columns are allowed to the rows shown", &matching::too_few(*n, bars, rows), &true)?;
-    }
-    expect("the slip's room", &found, &right).map_err(|failure| {
-        if room <= 400 {
-            failure
-        } else {
-            String::from("the slip's room (not shown)")
-        }
-    })?;
-    let again = bristlefrost::sheet_into(bytes, &mut found).map(|()| 0);
-    if code == 20 {
-        expect("the wrapper's rows", &again, &Err(Refusal::NoPairing { rows }))?;
-    }
-    expect("the wrapper's sheet", &wrapped(again), &(code, 0))?;
-    let read = bristlefrost::Sheet::read(bytes).ok();
-    let night = read.as_ref().map(|sheet| Sheet {
-        edition: sheet.edition(),
-        n: sheet.side(),
-        costs: sheet.costs().to_vec(),
-        bars: sheet.bars().map_or(vec![0; sheet.side()], <[u64]>::to_vec),
-    });
-    expect("the wrapper's reading", &night, &refusals::sheet(bytes, usize::MAX).ok())?;
-    expect("what is read is written again", &read.is_none_or(|sheet| sheet.bytes() == bytes), &true)?;
-    Ok(code)
 }
 
 /// Hands over two references and compares their score.
@@ -337,91 +310,9 @@ pub fn night(random: &mut Random, met: &mut Met, n: usize, costs: &[i32], answer
     checks::cost(n, costs, &listed)?;
 
     if n <= 64 {
-        paper(random, met, &Sheet::plain(n, costs), Ok(answer))?;
+        paper::on_sheet(random, met, &Sheet::plain(n, costs), Ok(answer))?;
     }
     Ok(())
-}
-
-/// A night with bars on a sheet.
-pub fn barred(
-    random: &mut Random,
-    met: &mut Met,
-    n: usize,
-    costs: &[i32],
-    bars: &[u64],
-    settled: &Result<Answer, u64>,
-) -> Result<(), String> {
-    if let Ok(answer) = settled {
-        let (lists, mut longer) = (longer(random, answer), bars.to_vec());
-        behind(random, &mut longer, |bits| bits);
-        let code = check_barred(n, costs, &lists, &longer)?;
-        expect("the answer is accepted", &code, &0)?;
-        met.note("check with bars", code);
-    }
-    paper(random, met, &Sheet::barred(n, costs, bars), settled.as_ref().map_err(|&rows| rows))
-}
-
-/// A night on a sheet with some note, and through the wrapper's sheet and slip: the sheet's bytes, the slip, that the
-/// slip is accepted and any other pairing as the checker has it; or that the wrapper makes no sheet with a note that
-/// the archive refused.
-fn paper(random: &mut Random, met: &mut Met, night: &Sheet, settled: Result<&Answer, u64>) -> Result<(), String> {
-    let Sheet { edition, n, costs, bars } = night;
-    let length = random.below(40);
-    let note = torn::note(random, length);
-    let bytes = night.bytes(&note);
-    let room = 18 * n + 20 + random.below(4);
-    let code = sheet(random, &bytes, room)?;
-    met.note("sheet", code);
-
-    let built = bristlefrost::Sheet::new(*n, costs)
-        .and_then(|sheet| if *edition == 2 { sheet.barred(bars) } else { Ok(sheet) })
-        .and_then(|sheet| sheet.noted(&note));
-    let unfit = |place: u64| Err(bristlefrost::Unfit::Note { place: place as usize });
-    if code % 256 == 21 {
-        return expect("the wrapper's sheet with such a note", &built, &unfit(code / 256));
-    }
-    let built = built.map_err(|unfit| unfit.to_string())?;
-    expect("the wrapper's sheet's bytes", &built.bytes(), &bytes)?;
-    let right = settled.map_err(|rows| Refusal::NoPairing { rows }).map(|answer| bristlefrost::Slip {
-        edition: *edition,
-        columns: answer.columns.iter().map(|&column| column as u16).collect(),
-        row_prices: answer.row_prices.clone(),
-        column_prices: answer.column_prices.clone(),
-        total: answer.total,
-    });
-    expect("the wrapper's slip", &bristlefrost::pair(&built), &right)?;
-    let Ok(slip) = right else { return Ok(()) };
-    expect("the slip is accepted", &bristlefrost::audit(&built, &slip), &Ok(()))?;
-    other_pairing(random, night, &built, slip)
-}
-
-/// A slip of another pairing, or of another edition, held against its sheet.
-fn other_pairing(
-    random: &mut Random,
-    night: &Sheet,
-    built: &bristlefrost::Sheet,
-    mut slip: bristlefrost::Slip,
-) -> Result<(), String> {
-    let Sheet { edition, n, costs, bars } = night;
-    let (columns, mut rows) = (random.permutation(*n), vec![0; *n]);
-    columns.iter().enumerate().for_each(|(i, &j)| rows[j] = i as u32);
-    slip.columns = columns.iter().map(|&j| j as u16).collect();
-    let columns: Vec<u32> = columns.iter().map(|&j| j as u32).collect();
-    let (u, v) = (&slip.row_prices, &slip.column_prices);
-    let checked = match edition {
-        2 => refusals::barred_checker(*n, costs, &columns, &rows, u, v, bars),
-        _ => refusals::checker(*n, costs, &columns, &rows, u, v),
-    };
-    let right = (refusals::slack(&checked, *n, costs, &columns, u, v), told(checked).0);
-    let found = match bristlefrost::audit(built, &slip) {
-        Err(bristlefrost::Doubt::Refused(refusal)) => (refusal.slack(), number_and_place(refusal)),
-        // Another pairing of the same total.
-        Ok(()) => (0, 0),
-        Err(other) => return Err(format!("another pairing's slip: {other}")),
-    };
-    expect("the audit of another pairing", &found, &right)?;
-    slip.edition = 3 - slip.edition;
-    expect("of another edition", &bristlefrost::audit(built, &slip), &Err(bristlefrost::Doubt::Edition))
 }
 
 fn limit(what: &str, found: u64, right: u64) -> Result<(), String> {
@@ -433,7 +324,7 @@ pub fn limits(random: &mut Random) -> Result<(), String> {
     let k = K as i32;
     for (cost, code) in [(k, 0), (-k, 0), (k + 1, 5), (-k - 1, 5)] {
         limit("a cost at its limit", solve(random, 1, &[cost], [1, 1, 1, 1, 4, 1], None)?, code)?;
-        limit("a sheet's cost at its limit", sheet(random, &sheets::sheet(&[], 1, &[cost]), 38)?, code)?;
+        limit("a sheet's cost at its limit", paper::sheet(random, &sheets::sheet(&[], 1, &[cost]), 38)?, code)?;
     }
     for (cost, outside) in
         [(1_000_000, false), (-1_000_000, false), (1_000_001, true), (-1_000_001, true), (k, true)]
@@ -441,7 +332,11 @@ pub fn limits(random: &mut Random) -> Result<(), String> {
         // No place is barred, the only one is, and columns that there are not.
         for (bits, code) in [(0, 0), (1, 20), (2, 22), (1 << 63, 22), (u64::MAX, 22)] {
             let bytes = Sheet::barred(1, &[cost], &[bits]).bytes(&[]);
-            limit("a cost beside bars at its limit", sheet(random, &bytes, 38)?, if outside { 5 } else { code })?;
+            limit(
+                "a cost beside bars at its limit",
+                paper::sheet(random, &bytes, 38)?,
+                if outside { 5 } else { code },
+            )?;
         }
     }
 
@@ -470,20 +365,20 @@ pub fn limits(random: &mut Random) -> Result<(), String> {
 
     for (n, code) in [(64, 0), (65, 13)] {
         let bytes = sheets::sheet(&[], n, &vec![-3; n * n]);
-        limit("a sheet's side at its limit", sheet(random, &bytes, 18 * n + 20)?, code)?;
+        limit("a sheet's side at its limit", paper::sheet(random, &bytes, 18 * n + 20)?, code)?;
         limit(
             "a slip's room at its limit",
-            sheet(random, &bytes, 18 * n + 19)?,
+            paper::sheet(random, &bytes, 18 * n + 19)?,
             if code == 0 { 16 } else { code },
         )?;
     }
     let costs = [1, 5, 6, 2];
     for (length, code) in [(4096, 0), (4097, 21 + 256 * 4096), (65_508, 21 + 256 * 4096), (65_509, 17)] {
         let bytes = sheets::sheet(&vec![b'x'; length], 2, &costs);
-        limit("a note's and a sheet's length at their limits", sheet(random, &bytes, 56)?, code)?;
+        limit("a note's and a sheet's length at their limits", paper::sheet(random, &bytes, 56)?, code)?;
     }
-    limit("an empty sheet", sheet(random, &[], 100)?, 11)?;
-    limit("a sheet of side 0", sheet(random, &sheets::sheet(&[], 0, &[]), 20)?, 0)?;
-    limit("one with bars", sheet(random, &Sheet::barred(0, &[], &[]).bytes(&[]), 20)?, 0)?;
+    limit("an empty sheet", paper::sheet(random, &[], 100)?, 11)?;
+    limit("a sheet of side 0", paper::sheet(random, &sheets::sheet(&[], 0, &[]), 20)?, 0)?;
+    limit("one with bars", paper::sheet(random, &Sheet::barred(0, &[], &[]).bytes(&[]), 20)?, 0)?;
     limit("side 0 and a column", cost(0, &[], &[0])?, 3 + 256)
 }

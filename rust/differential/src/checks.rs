@@ -33,6 +33,19 @@ pub fn barred(n: usize, costs: &[i32], bars: &[u64]) -> Result<Result<Answer, u6
     Ok(rows.map_or(Ok(answer), Err))
 }
 
+/// Solves a night of m rows and n columns by the rules, with rows of zeros below, and tests the answer in every way: that
+/// it is the crate's, that no choice of columns costs less, to 6 by 7, and that its first m rows prove that.
+pub fn oblong(m: usize, n: usize, costs: &[i32]) -> Result<Answer, String> {
+    let answer = night(n, &matching::squared(n, costs))?;
+    if m <= 6 && n <= 7 {
+        expect("total against every choice", &answer.total, &least_choice(m, n, costs))?;
+    }
+    let columns: Vec<u32> = answer.columns[..m].iter().map(|&column| column as u32).collect();
+    let (u, v) = (&answer.row_prices[..m], &answer.column_prices);
+    expect("the proof", &refusals::oblong_checker(m, n, costs, &columns, u, v), &Ok(answer.total))?;
+    Ok(answer)
+}
+
 /// What was found must be what is right.
 pub fn expect<T: PartialEq + std::fmt::Debug>(what: &str, found: &T, right: &T) -> Result<(), String> {
     if found == right {
@@ -108,9 +121,10 @@ pub fn cost(n: usize, costs: &[i32], listed: &[u32]) -> Result<i64, String> {
     Ok(total)
 }
 
-/// Takes the columns so far through all pairings of allowed pairs that begin with them, in dictionary order, each with
-/// its total.
+/// Takes the columns so far through all pairings of m rows over allowed pairs that begin with them, in dictionary order,
+/// each with its total.
 fn pairings(
+    m: usize,
     n: usize,
     costs: &[i32],
     allowed: &impl Fn(usize, usize) -> bool,
@@ -119,13 +133,13 @@ fn pairings(
     each: &mut impl FnMut(&[usize], i64),
 ) {
     let i = columns.len();
-    if i == n {
+    if i == m {
         return each(columns, total);
     }
     for j in 0..n {
         if !columns.contains(&j) && allowed(i, j) {
             columns.push(j);
-            pairings(n, costs, allowed, columns, total + i64::from(costs[i * n + j]), each);
+            pairings(m, n, costs, allowed, columns, total + i64::from(costs[i * n + j]), each);
             columns.pop();
         }
     }
@@ -133,8 +147,13 @@ fn pairings(
 
 /// The least total over all permutations.
 pub fn least(n: usize, costs: &[i32]) -> i64 {
+    least_choice(n, n, costs)
+}
+
+/// The least total over all choices of a column of its own for each row.
+pub fn least_choice(m: usize, n: usize, costs: &[i32]) -> i64 {
     let mut least = i64::MAX;
-    pairings(n, costs, &|_, _| true, &mut Vec::new(), 0, &mut |_, total| least = least.min(total));
+    pairings(m, n, costs, &|_, _| true, &mut Vec::new(), 0, &mut |_, total| least = least.min(total));
     least
 }
 
@@ -142,7 +161,7 @@ pub fn least(n: usize, costs: &[i32]) -> i64 {
 pub fn least_allowed(n: usize, costs: &[i32], bars: &[u64]) -> Option<i64> {
     let mut least = None;
     let allowed = |i: usize, j: usize| !matching::barred(bars, i, j);
-    pairings(n, costs, &allowed, &mut Vec::new(), 0, &mut |_, total| {
+    pairings(n, n, costs, &allowed, &mut Vec::new(), 0, &mut |_, total| {
         least = Some(least.map_or(total, |least: i64| least.min(total)))
     });
     least
@@ -151,7 +170,7 @@ pub fn least_allowed(n: usize, costs: &[i32], bars: &[u64]) -> Option<i64> {
 /// All permutations of the least total, in dictionary order.
 pub fn least_pairings(n: usize, costs: &[i32]) -> Vec<Vec<usize>> {
     let (mut least, mut found) = (i64::MAX, Vec::new());
-    pairings(n, costs, &|_, _| true, &mut Vec::new(), 0, &mut |columns, total| {
+    pairings(n, n, costs, &|_, _| true, &mut Vec::new(), 0, &mut |columns, total| {
         if total < least {
             least = total;
             found.clear();

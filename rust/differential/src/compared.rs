@@ -1,11 +1,11 @@
 //! A night through all that answer it: the crate, the rules and, with the feature `archive`, the archive.
 
-#[cfg(feature = "archive")]
-use crate::archive;
 use crate::checks;
 use crate::nights::Random;
 use crate::refusals::{self, Refused};
 use crate::rules::Answer;
+#[cfg(feature = "archive")]
+use crate::{archive, paper};
 
 /// What fills the lists that the archive is lent, and what it has answered.
 pub struct Compared {
@@ -48,13 +48,22 @@ impl Compared {
     ) -> Result<Result<Answer, u64>, String> {
         let settled = checks::barred(n, costs, bars).and_then(|settled| {
             #[cfg(feature = "archive")]
-            archive::barred(&mut self.random, &mut self.met, n, costs, bars, &settled)?;
+            paper::barred(&mut self.random, &mut self.met, n, costs, bars, &settled)?;
             Ok(settled)
         });
         settled.map_err(|failure| {
             let night = if n <= 12 { format!("{costs:?}, bars {bars:?}") } else { String::from("(not shown)") };
             format!("side {n}, barred: {family}: {failure}\ncosts {night}")
         })
+    }
+
+    /// A night of fewer rows than columns, on a sheet and by the wrapper's audit.
+    pub fn oblong(&mut self, m: usize, n: usize, costs: &[i32], answer: &Answer) -> Result<(), String> {
+        #[cfg(feature = "archive")]
+        paper::oblong(&mut self.random, &mut self.met, m, n, costs, answer)?;
+        #[cfg(not(feature = "archive"))]
+        let _ = (m, n, costs, answer);
+        Ok(())
     }
 
     /// The answer to a night that may have costs outside -K..K, or its refusal by document 01 and the archive.

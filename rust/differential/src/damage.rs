@@ -6,7 +6,7 @@ use bristlefrost::Lists;
 use crate::archive::{self, Met};
 use crate::nights::{Random, FAMILIES};
 use crate::refusals::LARGEST_SIDE;
-use crate::{barred, matching, rules, K};
+use crate::{barred, matching, oblong, rules, K};
 
 /// Sides that stand at or beyond a limit.
 const SIDES: [usize; 7] =
@@ -125,14 +125,20 @@ fn check(random: &mut Random, times: usize) -> Result<u64, String> {
         .map_err(|failure| format!("{failure}\nside {}, costs {:?}, {lists:?}", night.n, night.costs))
 }
 
-/// The checker with bars, on the answer with K on barred places: a barred pair is made where there is no other way.
+/// The checker with bars, on the answer with K on barred places: a barred pair is made where there is no other way, in
+/// some of the nights.
 fn check_barred(random: &mut Random, times: usize) -> Result<u64, String> {
     let side = if random.below(16) == 0 { 62 + random.below(3) } else { random.below(4) + random.below(4) };
-    let (costs, mut bars) = barred::night(random, side);
+    let (mut costs, mut bars) = barred::night(random, side);
+    for _ in 0..4 {
+        if !matching::pairable(side, &bars) {
+            (costs, bars) = barred::night(random, side);
+        }
+    }
     let answer = rules::solve(side, &matching::filled(side, &costs, &bars));
     let (mut lists, mut night) = (archive::longer(random, &answer), Night { n: side, costs });
     for _ in 0..times {
-        match random.below(6) {
+        match random.below(12) {
             0 => night.damage(random),
             1 if !night.costs.is_empty() => {
                 let place = random.below(night.costs.len());
@@ -150,6 +156,30 @@ fn check_barred(random: &mut Random, times: usize) -> Result<u64, String> {
     archive::check_barred(night.n, &night.costs, &lists, &bars).map_err(|failure| {
         format!("{failure}\nside {}, costs {:?}, {lists:?}, bars {bars:?}", night.n, night.costs)
     })
+}
+
+/// The checker of fewer rows than columns.
+fn check_oblong(random: &mut Random, times: usize) -> Result<u64, String> {
+    let n = if random.below(16) == 0 { 62 + random.below(3) } else { random.below(4) + random.below(4) };
+    let mut m = random.below(n + 1);
+    let costs = oblong::night(random, m, n);
+    let mut lists = archive::longer(random, &rules::solve(n, &matching::squared(n, &costs)));
+    let mut night = Night { n, costs };
+    for _ in 0..times {
+        match random.below(12) {
+            0 => night.damage(random),
+            1 => night.n = random.pick(&[64, 65, 66, 4096]) as usize,
+            2 => m = random.pick(&[n as i64 + 1, 65, 256, 1 << 55, 1 << 56, -1]) as usize,
+            3 => m = random.below(n + 1),
+            4 if n > 0 && lists.column_prices.len() >= n => {
+                let column = random.below(n);
+                lists.column_prices[column] += random.pick(&[-1, 1, -K, K]);
+            }
+            _ => damaged_lists(random, n, &mut lists),
+        }
+    }
+    archive::check_oblong(m, night.n, &night.costs, &lists)
+        .map_err(|failure| format!("{failure}\n{m} by {}, costs {:?}, {lists:?}", night.n, night.costs))
 }
 
 fn cost(random: &mut Random, times: usize) -> Result<u64, String> {
@@ -204,14 +234,15 @@ fn repair(random: &mut Random, times: usize) -> Result<u64, String> {
         .map_err(|failure| format!("{failure}\nside {}, costs {:?}, row {row}, {before:?}", night.n, night.costs))
 }
 
-/// One damaged input for the solver, either checker, a repair or `cost`.
+/// One damaged input for the solver, a checker, a repair or `cost`.
 pub fn one(random: &mut Random, met: &mut Met) -> Result<(), String> {
     let times = random.below(4);
-    let (entry, answered) = match random.below(5) {
+    let (entry, answered) = match random.below(6) {
         0 => ("solve", solve(random, times)?),
         1 => ("check", check(random, times)?),
         2 => ("repair", repair(random, times)?),
         3 => ("check with bars", check_barred(random, times)?),
+        4 => ("check of fewer rows", check_oblong(random, times)?),
         _ => ("cost", cost(random, times)?),
     };
     met.note(entry, answered);

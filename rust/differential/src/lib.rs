@@ -15,7 +15,10 @@ pub mod document;
 pub mod listed;
 pub mod matching;
 pub mod nights;
+pub mod oblong;
 pub mod oracle;
+#[cfg(feature = "archive")]
+pub mod paper;
 pub mod refusals;
 pub mod repairs;
 pub mod rules;

@@ -7,7 +7,7 @@
 //! of the sides 100, 256, 512, 1,023 and 1,024 (2); M is how many are run of side 4,096, the limit, with costs
 //! 0..10^6, with costs 0..3, and with costs -K or K (0). Small sides over few values are run in full each time; with
 //! --full side 3 over 0..5 too, ten million nights. Every set of barred places of sides to 4 is run, and N / 4 nights
-//! with bars of sides to 64. The archive is also given N damaged nights and lists, those at the limits, every small
+//! with bars and as many with fewer rows than columns, of sides to 64. The archive is also given N damaged nights and lists, those at the limits, every small
 //! damage to a sheet of each edition, every bar turned, B random sheets (20,000), most of them damaged, two sheets cut in
 //! every way in two and three and B / 4 such random sheets in random pieces, and references with N lists of them. Last come
 //! nights with amounts on columns and on rows: small ones in full, N / 8 of sides to 64, and L / 5, rounded up, of each
@@ -21,7 +21,7 @@ use differential::nights::{self, Every, Random, FAMILIES};
 use differential::refusals::LARGEST_SIDE;
 #[cfg(feature = "archive")]
 use differential::{archive, cuts, damage, scored, torn};
-use differential::{barred, command, oracle, repairs, surcharges, K};
+use differential::{barred, command, oblong, oracle, repairs, surcharges, K};
 
 /// What the command line sets.
 struct Settings {
@@ -58,7 +58,7 @@ fn damaged(compared: &mut Compared, settings: &Settings) -> Result<(), String> {
     }
     println!("{} damaged nights and lists, and the limits, seed {seed}: {sides}", settings.count);
     let (every, bars) = (torn::every(random, met)?, torn::bars(random, met)?);
-    println!("{every} small damages to two sheets, and {bars} bars turned: {sides}");
+    println!("{every} small damages to three sheets, and {bars} bars turned: {sides}");
     for _ in 0..settings.sheets {
         torn::one(random, met)?;
     }
@@ -172,6 +172,7 @@ fn run() -> Result<(), String> {
     for line in barred::run(&mut compared, seed, settings.count / 4)? {
         println!("{line}, seed {seed}: {sides}, a matching");
     }
+    println!("{}, seed {seed}: {sides}", oblong::run(&mut compared, seed, settings.count / 4)?);
     damaged(&mut compared, &settings)?;
     let (count, large) = (settings.count / 8, settings.large.div_ceil(5));
     for line in surcharges::run(&mut compared, seed, count, large)? {

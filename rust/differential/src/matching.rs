@@ -59,21 +59,30 @@ pub fn reached(n: usize, bars: &[u64], columns: &[usize]) -> Option<u64> {
     Some(rows)
 }
 
-/// The answer to a night, or the rows that show that it has no pairing.
+/// A night's costs, with rows of zeros below where there are fewer rows than columns.
+pub fn squared(n: usize, costs: &[i32]) -> Vec<i32> {
+    let mut square = costs.to_vec();
+    square.resize(n * n, 0);
+    square
+}
+
+/// The answer to a night, of n rows, or the rows that show that it has no pairing.
 pub fn settled(night: &Sheet) -> Result<Answer, u64> {
-    let Sheet { n, costs, bars, .. } = night;
-    let answer = rules::solve(*n, &filled(*n, costs, bars));
-    if pairable(*n, bars) {
+    let n = night.n;
+    let (costs, mut bars) = (squared(n, &night.costs), night.bars.clone());
+    bars.resize(n, 0);
+    let answer = rules::solve(n, &filled(n, &costs, &bars));
+    if pairable(n, &bars) {
         Ok(answer)
     } else {
-        Err(reached(*n, bars, &answer.columns).expect("a night without a pairing has a barred pair"))
+        Err(reached(n, &bars, &answer.columns).expect("a night without a pairing has a barred pair"))
     }
 }
 
 /// What a night's sheet leaves at the start of the slip's room, and the number that it is answered with.
 pub fn written(night: &Sheet, settled: &Result<Answer, u64>) -> (Vec<u8>, u64) {
     match settled {
-        Ok(answer) => (sheets::slip(night.edition, night.n, answer), 0),
+        Ok(answer) => (sheets::slip(night.edition, night.m, night.n, answer), 0),
         Err(rows) => (rows.to_le_bytes().to_vec(), 20),
     }
 }

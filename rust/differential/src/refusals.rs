@@ -2,7 +2,7 @@
 //! An answer is `Err((number, place))`, or what was accepted.
 
 use crate::matching::barred;
-use crate::sheets::Sheet;
+use crate::sheets::{slip_length, Sheet};
 use crate::K;
 
 /// A refusal: its number and its place.
@@ -122,6 +122,37 @@ fn checked(
     Ok((0..n).map(|i| i64::from(costs[i * n + paired(i)])).sum())
 }
 
+/// The checker of fewer rows than columns, for sides to 64: 1, 23, 2, 3, 5, 6, 7, 8, 9, 10, 27. Lists 1 and 3 have m
+/// entries at least, list 4 n; 7 is a column used twice. Accepts with the total.
+pub fn oblong_checker(
+    m: usize,
+    n: usize,
+    costs: &[i32],
+    columns: &[u32],
+    row_prices: &[i64],
+    column_prices: &[i64],
+) -> Result<i64, Refused> {
+    refuse(n > LARGEST_SHEET_SIDE, 1, 0)?;
+    refuse(m > n, 23, m)?;
+    refuse(costs.len() != m * n, 2, 0)?;
+    refuse(columns.len() < m, 3, 1)?;
+    refuse(row_prices.len() < m, 3, 3)?;
+    refuse(column_prices.len() < n, 3, 4)?;
+    costs_within(K, costs)?;
+    let (columns, u, v) = (&columns[..m], &row_prices[..m], &column_prices[..n]);
+    let slack = |i: usize, j: usize| i128::from(costs[i * n + j]) - i128::from(u[i]) - i128::from(v[j]);
+    let paired = |i: usize| columns[i] as usize;
+
+    refuse_first(6, (0..m).map(|i| paired(i) >= n))?;
+    refuse_first(7, (0..m).map(|i| columns[..i].contains(&columns[i])))?;
+    refuse_first(8, u.iter().chain(v).map(|price| !(-10 * K..=10 * K).contains(price)))?;
+    refuse_first(9, (0..m * n).map(|place| slack(place / n, place % n) < 0))?;
+    refuse_first(10, (0..m).map(|i| slack(i, paired(i)) != 0))?;
+    let used = |j: usize| columns.contains(&(j as u32));
+    refuse_first(27, (0..n).map(|j| !used(j) && (0..m).any(|i| v[j] < v[paired(i)])))?;
+    Ok((0..m).map(|i| i64::from(costs[i * n + paired(i)])).sum())
+}
+
 /// A repair: the solver's, then 6 of the row, and the checker's from 6 on, with 24 after 8; 9 and 10 leave the row out.
 /// `rooms` are the lengths of the work rooms.
 #[allow(clippy::too_many_arguments)]
@@ -176,7 +207,7 @@ pub fn cost(n: usize, costs: &[i32], listed: &[u32]) -> Result<i64, Refused> {
     Ok(listed.iter().enumerate().map(|(i, &column)| i64::from(costs[i * n + column as usize])).sum())
 }
 
-/// A sheet: 17, 11, 12, 13, 14, 15, 21, 16, 5, 22. What comes last, 20, is told by `matching::settled`.
+/// A sheet: 17, 11, 12, 13, 23, 14, 15, 21, 16, 5, 22. What comes last, 20, is told by `matching::settled`.
 pub fn sheet(bytes: &[u8], slip_room: usize) -> Result<Sheet, Refused> {
     refuse(bytes.len() > 65_536, 17, 0)?;
     refuse(bytes.len() < 12, 11, 0)?;
@@ -185,26 +216,32 @@ pub fn sheet(bytes: &[u8], slip_room: usize) -> Result<Sheet, Refused> {
     let distance = u32::from_le_bytes(trailer[0..4].try_into().unwrap()) as usize;
     let n = u16::from_le_bytes(trailer[4..6].try_into().unwrap()) as usize;
     let edition = u16::from_le_bytes(trailer[6..8].try_into().unwrap());
-    refuse(edition != 1 && edition != 2, 12, 0)?;
+    refuse(!(1..=3).contains(&edition), 12, 0)?;
     refuse(n > LARGEST_SHEET_SIDE, 13, 0)?;
-    let bytes_of_bars = if edition == 2 { 8 * n } else { 0 };
-    refuse(distance != 4 * n * n + bytes_of_bars, 14, 0)?;
+    let mut m = n;
+    if edition == 3 {
+        refuse(bytes.len() < 14, 23, 0)?;
+        m = u16::from_le_bytes(before[before.len() - 2..].try_into().unwrap()) as usize;
+        refuse(m > n, 23, m)?;
+    }
+    let behind_costs = [0, 8 * n, 2][usize::from(edition) - 1];
+    refuse(distance != 4 * m * n + behind_costs, 14, 0)?;
     refuse(distance > before.len(), 15, 0)?;
     let (note, rest) = before.split_at(before.len() - distance);
     refuse_first(21, note.iter().enumerate().map(|(k, byte)| k >= 4096 || !(32..=126).contains(byte)))?;
-    refuse(slip_room < 18 * n + 20, 16, 0)?;
-    let (costs, bars) = rest.split_at(4 * n * n);
+    refuse(slip_room < slip_length(edition, m, n), 16, 0)?;
+    let (costs, rest) = rest.split_at(4 * m * n);
     let costs: Vec<i32> = costs.chunks(4).map(|four| i32::from_le_bytes(four.try_into().unwrap())).collect();
     costs_within(if edition == 2 { LARGEST_BARRED_COST } else { K }, &costs)?;
-    if edition == 1 {
-        return Ok(Sheet::plain(n, &costs));
+    let mut bars = vec![0; m];
+    if edition == 2 {
+        bars = rest.chunks(8).map(|eight| u64::from_le_bytes(eight.try_into().unwrap())).collect();
+        bars_clear(n, &bars)?;
     }
-    let bars: Vec<u64> = bars.chunks(8).map(|eight| u64::from_le_bytes(eight.try_into().unwrap())).collect();
-    bars_clear(n, &bars)?;
-    Ok(Sheet::barred(n, &costs, &bars))
+    Ok(Sheet { edition, m, n, costs, bars })
 }
 
-/// The number that the faces answer for a refusal.
+/// The number that the faces answer for a refusal; a place that it has no room for is told as 2^56 - 1.
 pub fn code((number, place): Refused) -> u64 {
-    number + 256 * place
+    number + 256 * place.min((1 << 56) - 1)
 }

@@ -1,11 +1,11 @@
 //! Sheets for the archive: every small damage to one sheet, and random sheets damaged in up to three ways. What must
 //! be answered is what document 01's layout and refusals give for the same bytes.
 
-use crate::archive::{self, Met};
-use crate::barred;
+use crate::archive::Met;
 use crate::damage::Night;
 use crate::nights::Random;
 use crate::sheets::Sheet;
+use crate::{barred, oblong, paper};
 
 /// A note for people; one in eight has some other byte.
 pub fn note(random: &mut Random, count: usize) -> Vec<u8> {
@@ -19,7 +19,7 @@ pub fn note(random: &mut Random, count: usize) -> Vec<u8> {
 
 /// Compares one sheet; a failure names the sheet's end.
 fn compare(random: &mut Random, met: &mut Met, sheet: &[u8], room: usize) -> Result<(), String> {
-    let answered = archive::sheet(random, sheet, room).map_err(|failure| {
+    let answered = paper::sheet(random, sheet, room).map_err(|failure| {
         let last = &sheet[sheet.len().saturating_sub(160)..];
         format!("{failure}\nslip room {room}, {} bytes that end with {last:?}", sheet.len())
     })?;
@@ -27,18 +27,20 @@ fn compare(random: &mut Random, met: &mut Met, sheet: &[u8], room: usize) -> Res
     Ok(())
 }
 
-/// Two sheets of side 3, without bars and with, that have notes of every length to 400 and about 4,096, every byte at
+/// Three sheets of side 3, one of each edition, that have notes of every length to 400 and about 4,096, every byte at
 /// either end of a note, are cut off at every place from either end, have every bit turned, distances about the right
 /// one and every edition to 4, and slip rooms of every length to past their own.
 pub fn every(random: &mut Random, met: &mut Met) -> Result<usize, String> {
     let costs = [3, 1, 0, 0, 0, 2, 4, 1, 0];
-    let room = 18 * 3 + 20;
     let mut sheets = 0;
     let mut test = |random: &mut Random, sheet: &[u8], room: usize| {
         sheets += 1;
         compare(random, met, sheet, room)
     };
-    for night in [Sheet::plain(3, &costs), Sheet::barred(3, &costs, &[0b100, 0, 0b010])] {
+    let nights =
+        [Sheet::plain(3, &costs), Sheet::barred(3, &costs, &[0b100, 0, 0b010]), Sheet::oblong(2, 3, &costs[..6])];
+    for night in nights {
+        let room = night.slip_length();
         for length in (0..=400).chain(4090..=4100) {
             let note = note(random, length);
             test(random, &night.bytes(&note), room)?;
@@ -126,15 +128,20 @@ fn damage(random: &mut Random, sheet: &mut Vec<u8>) {
     }
 }
 
-/// A random sheet of either edition, most often small, whole or damaged in up to three ways, and the length of its
+/// A random sheet of any edition, most often small, whole or damaged in up to three ways, and the length of its
 /// slip's room, one in four too short.
 pub fn sheet(random: &mut Random) -> (Vec<u8>, usize) {
     let n = if random.below(16) == 0 { random.below(65) } else { random.below(4) + random.below(4) };
-    let night = if random.below(2) == 0 {
-        Sheet::plain(n, &Night::of_side(random, n).costs)
-    } else {
-        let (costs, bars) = barred::night(random, n);
-        Sheet::barred(n, &costs, &bars)
+    let night = match random.below(3) {
+        0 => Sheet::plain(n, &Night::of_side(random, n).costs),
+        1 => {
+            let (costs, bars) = barred::night(random, n);
+            Sheet::barred(n, &costs, &bars)
+        }
+        _ => {
+            let m = random.below(n + 1);
+            Sheet::oblong(m, n, &oblong::night(random, m, n))
+        }
     };
     let longest = random.pick(&[8, 8, 8, 8, 8, 8, 400, 5000]) as usize;
     let length = random.below(longest + 1);
@@ -144,7 +151,7 @@ pub fn sheet(random: &mut Random) -> (Vec<u8>, usize) {
         damage(random, &mut sheet);
     }
     let short = if random.below(4) == 0 { 1 + random.below(30) } else { 0 };
-    let room = (18 * n + 20 + random.below(4)).saturating_sub(short);
+    let room = (night.slip_length() + random.below(4)).saturating_sub(short);
     (sheet, room)
 }
 

@@ -53,7 +53,7 @@ fn sheet_and_slip_of_side_1() {
     let mut slip = vec![0; 10];
     slip.extend([7, 0, 0, 0, 0, 0, 0, 0, 7, 0, 0, 0, 0, 0, 0, 0]);
     slip.extend([0x1A, 0, 0, 0, 1, 0, 1, 0, 0x53, 0x4C, 0x49, 0x50]);
-    assert_eq!(sheets::slip(1, 1, &rules::solve(1, &[7])), slip);
+    assert_eq!(sheets::slip(1, 1, 1, &rules::solve(1, &[7])), slip);
 }
 
 /// Document 02's night, which edition 1 pairs at K, and in smaller numbers edition 2 does not.
@@ -81,12 +81,86 @@ fn refusals_of_a_sheet_with_bars() {
     let mut bytes = night.bytes(b"")[1..].to_vec();
     let end = bytes.len();
     assert_eq!(refusals::sheet(&bytes, 55), Err((15, 0)));
-    for (place, byte, number) in [(12, 31, 14), (8, 65, 13), (6, 3, 12), (1, 0, 11)] {
+    for (place, byte, number) in [(12, 31, 14), (8, 65, 13), (6, 4, 12), (1, 0, 11)] {
         bytes[end - place] = byte;
         assert_eq!(refusals::sheet(&bytes, 55), Err((number, 0)));
     }
     bytes.splice(0..0, vec![0; 65_536]);
     assert_eq!(refusals::sheet(&bytes, 55), Err((17, 0)));
+}
+
+/// A sheet of edition 3 and its slip: row 0 of cost 7 or 6 takes column 1.
+#[test]
+fn sheet_and_slip_of_1_by_2() {
+    let night = Sheet::oblong(1, 2, &[7, 6]);
+    let sheet = [7, 0, 0, 0, 6, 0, 0, 0, 1, 0, 10, 0, 0, 0, 2, 0, 3, 0, 0x4D, 0x54, 0x43, 0x48];
+    assert_eq!(night.bytes(&[]), sheet);
+    assert_eq!(refusals::sheet(&sheet, 48), Ok(night.clone()));
+    let answer = matching::settled(&night).unwrap();
+    assert_eq!(answer, rules::solve(2, &[7, 6, 0, 0]));
+    let (slip, code) = matching::written(&night, &Ok(answer));
+    let prices: Vec<u8> = [7i64, 0, -1, 6].iter().flat_map(|number| number.to_le_bytes()).collect();
+    let right = [&[1, 0], &prices[..], &[1, 0, 36, 0, 0, 0, 2, 0, 3, 0, 0x53, 0x4C, 0x49, 0x50]].concat();
+    assert_eq!((slip, code), (right, 0));
+}
+
+/// 17, 11, 12, 13, 23, 14, 15, 21, 16, 5 in this order: each damage hides those behind it.
+#[test]
+fn refusals_of_a_sheet_of_fewer_rows() {
+    let mut night = Sheet::oblong(2, 3, &[1, 2, 3, 4, 5, 6]);
+    let refused = |night: &Sheet, note: &[u8], room: usize| refusals::sheet(&night.bytes(note), room);
+    assert_eq!(refused(&night, b"note", 66), Ok(night.clone()));
+    night.costs[5] = 1_000_000_001;
+    assert_eq!(refused(&night, b"note", 66), Err((5, 5)));
+    assert_eq!(refused(&night, b"note", 65), Err((16, 0)));
+    assert_eq!(refused(&night, b"no\te", 65), Err((21, 2)));
+    let mut bytes = night.bytes(b"")[1..].to_vec();
+    let end = bytes.len();
+    for (place, byte, right) in [
+        (12, 26, (15, 0)),
+        (12, 27, (14, 0)),
+        (14, 4, (23, 4)),
+        (13, 1, (23, 260)),
+        (8, 65, (13, 0)),
+        (6, 4, (12, 0)),
+        (1, 0, (11, 0)),
+    ] {
+        bytes[end - place] = byte;
+        assert_eq!(refusals::sheet(&bytes, 65), Err(right));
+    }
+    bytes.splice(0..0, vec![0; 65_536]);
+    assert_eq!(refusals::sheet(&bytes, 65), Err((17, 0)));
+
+    // A trailer alone, with one byte and with the two of its rows.
+    let none = Sheet::oblong(0, 0, &[]).bytes(&[]);
+    assert_eq!(refusals::sheet(&none, 22), Ok(Sheet::oblong(0, 0, &[])));
+    assert_eq!(refusals::sheet(&none[1..], 22), Err((23, 0)));
+    assert_eq!(refusals::sheet(&none[2..], 22), Err((23, 0)));
+}
+
+/// 1, 23, 2, 3, 5, 6, 7, 8, 9, 10, 27.
+#[test]
+fn refusals_of_the_checker_of_fewer_rows() {
+    let check = |costs: &[i32], columns: &[u32], u: &[i64], v: &[i64]| {
+        refusals::oblong_checker(2, 3, costs, columns, u, v)
+    };
+    let (costs, far) = ([5, 3, 4, 6, 7, 1], -10_000_000_001);
+    assert_eq!(check(&costs, &[1, 2], &[3, 1], &[0, 0, 0]), Ok(4));
+    assert_eq!(check(&costs, &[1, 2], &[3, 1], &[2, 0, 0]), Ok(4));
+    assert_eq!(check(&costs, &[1, 2], &[3, 1], &[-1, 0, 0]), Err((27, 0)));
+    assert_eq!(check(&costs, &[1, 2], &[3, 0], &[-1, 0, 0]), Err((10, 1)));
+    assert_eq!(check(&costs, &[1, 2], &[3, 0], &[3, 0, 0]), Err((9, 0)));
+    assert_eq!(check(&costs, &[1, 2], &[3, 0], &[3, far, 0]), Err((8, 3)));
+    assert_eq!(check(&costs, &[1, 1], &[3, 0], &[3, far, 0]), Err((7, 1)));
+    assert_eq!(check(&costs, &[1, 3], &[3, 0], &[3, far, 0]), Err((6, 1)));
+    assert_eq!(check(&[5, 3, 4, 6, 7, -1_000_000_001], &[1, 3], &[3, 0], &[3, far, 0]), Err((5, 5)));
+    assert_eq!(check(&costs, &[1, 3], &[3, 0], &[3, far]), Err((3, 4)));
+    assert_eq!(check(&costs, &[1, 3], &[3], &[3, far]), Err((3, 3)));
+    assert_eq!(check(&costs, &[1], &[3], &[3, far]), Err((3, 1)));
+    assert_eq!(check(&costs[..5], &[1], &[3], &[3, far]), Err((2, 0)));
+    assert_eq!(refusals::oblong_checker(4, 3, &[], &[], &[], &[]), Err((23, 4)));
+    assert_eq!(refusals::oblong_checker(usize::MAX, 64, &[], &[], &[], &[]), Err((23, u64::MAX)));
+    assert_eq!(refusals::oblong_checker(66, 65, &[], &[], &[], &[]), Err((1, 0)));
 }
 
 /// 1, 2, 3, 5, 22, 6, 7, 26, 8, 9, 10, and 9 leaves barred places out.

@@ -31,7 +31,7 @@ fn sheets_are_those_of_their_tables() {
         assert!(output.status.success() && output.stdout == kept, "{}", table.display());
         made += 1;
     }
-    assert!(made >= 9, "only {made} tables");
+    assert!(made >= 10, "only {made} tables");
 }
 
 /// A sheet with neither a table nor lists of references is one that the program refuses, and is unfit here too.
@@ -45,7 +45,7 @@ fn refused_sheets_are_unfit() {
         assert!(paper::Sheet::read(&fs::read(&sheet).expect("a sheet")).is_err(), "{}", sheet.display());
         refused += 1;
     }
-    assert!(refused >= 9, "only {refused} refused sheets");
+    assert!(refused >= 11, "only {refused} refused sheets");
 }
 
 /// Document 01's slip of side 1.
@@ -80,7 +80,7 @@ fn an_unfit_table_leaves_nothing() {
     child.stdin.take().expect("its input").write_all(b"1 2 3\n4\n").expect("it reads");
     let output = child.wait_with_output().expect("it ends");
     assert_eq!((output.status.code(), output.stdout.len()), (Some(1), 0));
-    let told = "paper: line 1: as many costs are wanted as there are rows, 2, not 3\n";
+    let told = "paper: line 2: as many costs are wanted as in the first line, 3, not 1\n";
     assert_eq!(String::from_utf8_lossy(&output.stderr), told);
 }
 
@@ -108,11 +108,40 @@ fn bars_in_tables() {
     assert_eq!(Sheet::from_table(&vec![vec!["barred"; 65].join(" "); 65].join("\n")), Err(Unfit::Side(65)));
 }
 
+/// A table of fewer rows than columns makes a sheet of edition 3.
+#[test]
+fn oblong_tables_and_slips() {
+    use paper::{Sheet, Slip, Unfit};
+    let sheet = Sheet::from_table("# two of three\n1000000000 2 3\n4 5 -6\n").expect("a sheet");
+    assert_eq!((sheet.edition(), sheet.rows(), sheet.side()), (3, 2, 3));
+    assert_eq!(sheet.bytes().len(), 14 + 4 * 6 + 2 + 12);
+    assert_eq!(Sheet::read(&sheet.bytes()), Ok(sheet));
+    for (rows, columns) in [(0, 0), (0, 3), (3, 3), (64, 64)] {
+        let sheet = Sheet::oblong(rows, columns, &vec![7; rows * columns]).expect("a sheet");
+        assert_eq!((sheet.edition(), Sheet::read(&sheet.bytes())), (3, Ok(sheet)));
+    }
+    assert_eq!(Sheet::from_table("1 barred 3\n4 5 6"), Err(Unfit::BarsOblong));
+    assert_eq!(Sheet::oblong(2, 3, &[0; 6]).and_then(|sheet| sheet.bar(0, 0)), Err(Unfit::BarsOblong));
+    assert_eq!(Sheet::oblong(66, 65, &[]), Err(Unfit::Side(65)));
+
+    // Row 0 of cost 7 or 6: column 1, and column 0 is spare.
+    let mut slip = vec![1, 0];
+    slip.extend([6i64, 0, 0, 6].iter().flat_map(|number| number.to_le_bytes()));
+    slip.extend([1, 0, 36, 0, 0, 0, 2, 0, 3, 0, 0x53, 0x4C, 0x49, 0x50]);
+    let read = Slip::read(&slip).expect("a slip");
+    assert_eq!((read.edition, &read.columns[..], &read.row_prices[..], read.total), (3, &[1][..], &[6][..], 6));
+    let lines = "side 2 total 6\nrow 0 price 6, column 1\ncolumn 0 price 0, spare\ncolumn 1 price 0\n";
+    assert_eq!(read.to_string(), lines);
+    slip[34] = 3;
+    assert_eq!(Slip::read(&slip), Err(Unfit::Slip("it has more rows than columns")));
+}
+
 #[test]
 fn unfit_tables_and_slips_are_told() {
     use paper::{Sheet, Slip, Unfit};
-    assert_eq!(Sheet::from_table("1 2\n3"), Err(Unfit::Row { line: 2, costs: 1, side: 2 }));
-    assert_eq!(Sheet::from_table("# a note\n\n1 2 3\n4\n"), Err(Unfit::Row { line: 3, costs: 3, side: 2 }));
+    assert_eq!(Sheet::from_table("1 2\n3"), Err(Unfit::Row { line: 2, costs: 1, columns: 2 }));
+    assert_eq!(Sheet::from_table("# a note\n\n1 2 3\n4\n"), Err(Unfit::Row { line: 4, costs: 1, columns: 3 }));
+    assert_eq!(Sheet::from_table("1 2\n3 4\n5 6"), Err(Unfit::Rows { rows: 3, columns: 2 }));
     for (table, line) in [("1,,2\n3,4,5", 1), ("1, ,2\n3,4,5", 1), (",1\n2,3", 1), ("1,2\n3,", 2), (",", 1)] {
         assert_eq!(Sheet::from_table(table), Err(Unfit::EmptyCell { line }), "{table}");
     }

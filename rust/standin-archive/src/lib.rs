@@ -211,6 +211,42 @@ pub unsafe extern "C" fn bristlefrost_check_barred(
 /// # Safety
 /// As include/bristlefrost.h asks.
 #[no_mangle]
+pub unsafe extern "C" fn bristlefrost_check_oblong(
+    m: usize,
+    n: usize,
+    costs: *const i32,
+    costs_len: usize,
+    cols: *const u32,
+    cols_len: usize,
+    row_prices: *const i64,
+    row_prices_len: usize,
+    col_prices: *const i64,
+    col_prices_len: usize,
+) -> Checked {
+    let (costs, cols) = (from_raw_parts(costs, costs_len), from_raw_parts(cols, cols_len));
+    let row_prices = from_raw_parts(row_prices, row_prices_len);
+    let col_prices = from_raw_parts(col_prices, col_prices_len);
+    let mut result = refusals::oblong_checker(m, n, costs, cols, row_prices, col_prices);
+    if cfg!(feature = "spares-not-tested") && matches!(result, Err((27, _))) {
+        result = Ok((0..m).map(|i| i64::from(costs[i * n + cols[i] as usize])).sum());
+    }
+    if cfg!(feature = "spares-not-above") && matches!(result, Ok(_) | Err((27, _))) {
+        // The wrong sign.
+        let used = |j: usize| cols[..m].contains(&(j as u32));
+        let above = |j: usize| (0..m).any(|i| col_prices[j] > col_prices[cols[i] as usize]);
+        result = match (0..n).find(|&j| !used(j) && above(j)) {
+            Some(column) => Err((27, column as u64)),
+            None => Ok((0..m).map(|i| i64::from(costs[i * n + cols[i] as usize])).sum()),
+        };
+    }
+    let slack = refusals::slack(&result, n, costs, cols, row_prices, col_prices);
+    let Total { refusal, total } = answer(result);
+    Checked { refusal, total, slack }
+}
+
+/// # Safety
+/// As include/bristlefrost.h asks.
+#[no_mangle]
 pub unsafe extern "C" fn bristlefrost_repair(
     n: usize,
     costs: *const i32,
@@ -325,7 +361,12 @@ fn paired_or_blocked(night: &Sheet) -> Result<rules::Answer, u64> {
 }
 
 fn write_slip(sheet: &[u8], slip: &mut [u8]) -> u64 {
-    match refusals::sheet(sheet, slip.len()) {
+    let mut read = refusals::sheet(sheet, slip.len());
+    if cfg!(feature = "rows-from-the-trailer") && matches!(&read, Ok(night) if night.m < night.n) {
+        // There are as many rows as columns, and the distance is another one.
+        read = Err((14, 0));
+    }
+    match read {
         Ok(mut night) => {
             if cfg!(feature = "highest-byte-first") {
                 night.costs.iter_mut().for_each(|cost| *cost = cost.swap_bytes());
@@ -340,10 +381,11 @@ fn write_slip(sheet: &[u8], slip: &mut [u8]) -> u64 {
             let (bytes, code) = matching::written(&night, &settled);
             slip[..bytes.len()].copy_from_slice(&bytes);
             if cfg!(feature = "total-left-out") && code == 0 {
-                slip[18 * night.n..18 * night.n + 8].fill(0);
+                let total = 10 * night.m + 8 * night.n;
+                slip[total..total + 8].fill(0);
             }
             if cfg!(feature = "room-cleared-behind-rows") && code == 20 {
-                slip[8..18 * night.n + 20].fill(0);
+                slip[8..night.slip_length()].fill(0);
             }
             code
         }
@@ -363,8 +405,13 @@ fn write_slip(sheet: &[u8], slip: &mut [u8]) -> u64 {
             let mut pointed = sheet.to_vec();
             let trailer = sheet.len() - 12;
             let side = u32::from(u16::from_le_bytes([sheet[trailer + 4], sheet[trailer + 5]]));
-            let bars = if sheet[trailer + 6] == 2 { 8 * side } else { 0 };
-            pointed[trailer..trailer + 4].copy_from_slice(&(4 * side * side + bars).to_le_bytes());
+            let number = |place: usize| u32::from(u16::from_le_bytes([sheet[place], sheet[place + 1]]));
+            let distance = match sheet[trailer + 6] {
+                3 => 4 * number(trailer - 2) * side + 2,
+                2 => 4 * side * side + 8 * side,
+                _ => 4 * side * side,
+            };
+            pointed[trailer..trailer + 4].copy_from_slice(&distance.to_le_bytes());
             write_slip(&pointed, slip)
         }
         Err(refused) => {

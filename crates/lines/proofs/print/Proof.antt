@@ -16,7 +16,7 @@ use Rattle.sheet.specs.Settle.{settledAs, settled}
 use Rattle.sheet.proofs.Determined.{settled-values-determine}
 use Rattle.sheet.proofs.Pairing.{read-right}
 use Rattle.lines.specs.Put.{Put}
-use Rattle.lines.specs.Lines.{acceptedLine, rowLines, linesAs, output, Printed, printed, refusedLine}
+use Rattle.lines.specs.Lines.{acceptedLine, rowLines, spareLines, linesAs, output, Printed, printed, refusedLine}
 use Rattle.lines.proofs.Put.{put-as}
 use Rattle.lines.proofs.Night.{refused-lines, blocked-lines, Ready, night-lines}
 use Rattle.lines.proofs.print.Statement.{statement}
@@ -30,9 +30,9 @@ printed-as sheet out p h =
     let count : _ ≡ length (output sheet) = p .past ∙ zero-add (length (output sheet)) in
     ap₂ (λ (n : ℕ) (l : List ℕ). record { count = n; room = l }) count (p .stored ∙ sets-front (output sheet) out (length (output sheet)) refl (omega arith))
 
--- the sheet as it was read, for a slip room that is long enough for every side
+-- the sheet as it was read, for a slip room that is long enough for every edition and side
 abbrev reading : List ℕ → Read
-reading sheet = read 1172 sheet
+reading sheet = read 1174 sheet
 
 output-as : (sheet : List ℕ) → linesAs (reading sheet) ≡ output sheet
 unfolding output sheetSide
@@ -42,12 +42,12 @@ settled-as : (c : tie.After-settle) → c .settle .result ≡ settledAs (reading
 unfolding settled
 settled-as c = settled-values-determine _ _ (c .settle .ensures)
 
-ready : (c : tie.After-reply2) → Ready 1172 (c .before .before .settle .result) (c .reply2 .given .0 .1 .0) (c .reply2 .given .0 .1 .1 .0) (c .before .before .before .before .before .args .out .now) (linesAs (reading (c .before .before .before .before .before .args .sheet .now)))
+ready : (c : tie.After-reply2) → Ready 1174 (c .before .before .settle .result) (c .reply2 .given .0 .1 .0) (c .reply2 .given .0 .1 .1 .0) (c .reply2 .given .0 .1 .1 .1 .0) (c .before .before .before .before .before .args .out .now) (linesAs (reading (c .before .before .before .before .before .args .sheet .now)))
 ready c =
     let s = c .before .before in
     let u = s .before .before .before .args in
     let v = c .reply2 .given in
-    night-lines 1172 (s .settle .result) (reading (u .sheet .now)) (read-right 1172 (u .sheet .now)) (settled-as s) (v .0 .0) (v .0 .1 .0) (v .0 .1 .1 .0) (v .1) (u .out .now) (omega (arith, s .before .room .given .0))
+    night-lines 1174 (s .settle .result) (u .sheet .now) (reading (u .sheet .now)) (read-right 1174 (u .sheet .now)) (settled-as s) (v .0 .0) (v .0 .1 .0) (v .0 .1 .1 .0) (v .0 .1 .1 .1 .0) (v .1) (u .out .now) (omega (arith, s .before .room .given .0))
 
 settle-requires : tie.Need-settle-requires
 settle-requires c κs = search needs
@@ -78,7 +78,7 @@ returns c =
     let s = c .before .before .before .before in
     let u = s .before .before .before .args in
     let v = c .before .before .reply .given in
-    let lines = refused-lines 1172 (s .settle .result) (reading (u .sheet .now)) (settled-as s) (v .0 .0) (v .1) in
+    let lines = refused-lines 1174 (s .settle .result) (reading (u .sheet .now)) (settled-as s) (v .0 .0) (v .1) in
     printed-as (u .sheet .now) (u .out .now) (put-as (lines ∙ output-as (u .sheet .now)) (c .put-refused .ensures .0)) (omega (arith, c .put-refused .ensures .1, s .before .room .given .0))
 
 returns-2 : tie.Need-returns-2
@@ -87,7 +87,7 @@ returns-2 c =
     let s = n .before .before .before in
     let u = s .before .before .before .args in
     let v = n .before .enum-told .given in
-    let lines = ap refusedLine (n .no-pairing .ensures) ∙ blocked-lines 1172 (s .settle .result) (reading (u .sheet .now)) (settled-as s) (v .0 .0) (v .1) in
+    let lines = ap refusedLine (n .no-pairing .ensures) ∙ blocked-lines 1174 (s .settle .result) (reading (u .sheet .now)) (settled-as s) (v .0 .0) (v .1) in
     printed-as (u .sheet .now) (u .out .now) (put-as (lines ∙ output-as (u .sheet .now)) (c .put-refused2 .ensures .0)) (omega (arith, c .put-refused2 .ensures .1, s .before .room .given .0))
 
 returns-3 : tie.Need-returns-3
@@ -97,11 +97,12 @@ returns-3 c =
     let s = k .before .before .before in
     let u = s .before .before .before .args in
     let r = ready (k .before) in
-    let n = v .0 .1 .0 in
+    let m = v .0 .1 .0 in
+    let n = v .0 .1 .1 .0 in
     let state = s .settle .result .state in
-    let total = read-back w64 (v .0 .1 .1 .0) (k .known-told2 .given .1 .1 .0 .1) in
-    let lines = ap (λ (t : ℤ). acceptedLine n t ++ rowLines n (take (n * n) (state .costs)) (take n (state .cols)) n) total ∙ r .same ∙ output-as (u .sheet .now) in
-    printed-as (u .sheet .now) (u .out .now) (put-as lines (c .put-night .ensures .0)) (omega (arith, c .put-night .ensures .1, r .few, s .before .room .given .0))
+    let total = read-back w64 (v .0 .1 .1 .1 .0) (k .known-told2 .given .1 .1 .1 .0 .1) in
+    let lines = ap (λ (t : ℤ). acceptedLine n t ++ (rowLines n (take (n * n) (state .costs)) (take n (state .cols)) m ++ spareLines m (take n (state .cols)) n)) total ∙ r .same ∙ output-as (u .sheet .now) in
+    printed-as (u .sheet .now) (u .out .now) (put-as lines (c .put-night .ensures .0)) (omega (arith, c .put-night .ensures .1, r .few, r .rows .fewer, s .before .room .given .0))
 
 pub print-spec : {M : Type 1} → statement M
 print-spec =

@@ -20,11 +20,11 @@ use Rattle.lines.proofs.put_rows.Statement.{statement}
 use Rattle.lines.proofs.put_rows.Tie as tie
 
 abbrev Inv-loop : tie.InvT-loop
-Inv-loop out₀ place n costs cols next₀ start₀ i₀ out next start i =
-    (i ≤ n) × (start ≡ i * n) × (next ≤ place + 80 * i) × (length out ≡ length out₀) × Put out₀ place (rowLines n costs cols i) out next
+Inv-loop out₀ place m n costs cols next₀ start₀ i₀ out next start i =
+    (i ≤ m) × (start ≡ i * n) × (next ≤ place + 80 * i) × (length out ≡ length out₀) × Put out₀ place (rowLines n costs cols i) out next
 
 abbrev μ-loop : tie.MeasureT-loop
-μ-loop out₀ place n costs cols next₀ start₀ i₀ out next start i = n - i
+μ-loop out₀ place m n costs cols next₀ start₀ i₀ out next start i = m - i
 
 none : (n : ℕ) (costs : List ℤ) (cols out : List ℕ) (place : ℕ) → Put out place (rowLines n costs cols 0) out place
 unfolding rowLines
@@ -44,7 +44,7 @@ reached : (c : tie.After-shared-slice-known2 Inv-loop μ-loop) → c .before .be
 reached c =
     let s = c .before .before .before .before .before in
     let i = c .before .before .loop .i in
-    omega (arith, place-below (s .args .n) i (at (s .args .cols .now) i) (c .before .loop-test .taken) (s .pre .inside i (c .before .loop-test .taken)), s .pre .squared)
+    omega (arith, place-below (s .args .n) i (at (s .args .cols .now) i) (omega (arith, s .pre .fewer)) (s .pre .inside i (c .before .loop-test .taken)), s .pre .squared)
 
 loop-holds : tie.Need-loop-holds Inv-loop μ-loop
 loop-holds c =
@@ -81,7 +81,8 @@ put-row-requires c κs = omega (arith, c .before .before .before .before .before
 add-start : tie.Need-add-start Inv-loop μ-loop
 add-start c =
     let s = c .before .before .before .before .before .before .before .before .before .before .before in
-    omega (arith, mul-le-mul-right (s .args .n) (c .before .before .before .before .before .before .before .loop-test .taken), s .pre .squared)
+    let l : c .before .before .before .before .before .before .before .before .loop .i < s .args .n = omega (arith, s .pre .fewer) in
+    omega (arith, mul-le-mul-right (s .args .n) l, s .pre .squared)
 
 add-i : tie.Need-add-i Inv-loop μ-loop
 add-i c = search needs
@@ -111,7 +112,7 @@ returns : tie.Need-returns Inv-loop μ-loop
 returns c =
     let l = c .before .loop in
     let u = c .before .before .before .before .args in
-    let e : l .i ≡ u .n = omega arith in
+    let e : l .i ≡ u .m = omega arith in
     (put-as (ap (rowLines (u .n) (u .costs .now) (u .cols .now)) e) (l .inv .4), omega (arith, l .inv .2))
 
 pub put-rows-spec : {M : Type 1} → statement M

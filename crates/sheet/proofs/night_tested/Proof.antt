@@ -18,8 +18,11 @@ use Rattle.sheet.proofs.Editions.{costMost-within}
 use Rattle.sheet.proofs.night_tested.Statement.{statement}
 use Rattle.sheet.proofs.night_tested.Tie as tie
 
+places : (c : tie.Start) → c .args .m * c .args .n ≤ 4096
+places c = let h : c .args .m ≤ 64 = omega (arith, c .pre .0, c .pre .1) in mul-le-mul h (c .pre .1)
+
 mul-count : tie.Need-mul-count
-mul-count c = omega (arith, mul-le-mul (c .pre) (c .pre))
+mul-count c = omega (arith, places c)
 
 cost-most-requires : tie.Need-cost-most-requires
 cost-most-requires c κs = search needs
@@ -33,7 +36,7 @@ part-costs-in-start c = search needs
 part-costs-in-end : tie.Need-part-costs-in-end
 part-costs-in-end c =
     let s = c .before .before .before in
-    omega (arith, mul-le-mul (s .pre) (s .pre), c .before .before .all .given .0)
+    omega (arith, places s, c .before .before .all .given .0)
 
 costs-in-requires : tie.Need-costs-in-requires
 costs-in-requires c κs =
@@ -43,13 +46,13 @@ costs-in-requires c κs =
 bars-clear-requires : tie.Need-bars-clear-requires
 bars-clear-requires c κs = λ e. search needs
 
-inside : (c : tie.After-costs-in) → let u = c .before .before .before .before .before .args in c .costs-in .result ≡ costsIn (pos (costMost (u .edition))) (take (u .n * u .n) (u .costs .now))
+inside : (c : tie.After-costs-in) → let u = c .before .before .before .before .before .args in c .costs-in .result ≡ costsIn (pos (costMost (u .edition))) (take (u .m * u .n) (u .costs .now))
 unfolding _then_
 inside c =
     let d = c .before .before in
     let u = d .before .before .before .args in
     c .costs-in .ensures
-    ∙ ap₂ (λ (z : ℤ) (m : ℕ). costsIn z (take m (u .costs .now))) (read-back w64 (d .cost-most .result) (d .cost-most .ok) ∙ d .cost-most .ensures) (sub-zero (u .n * u .n))
+    ∙ ap₂ (λ (z : ℤ) (m : ℕ). costsIn z (take m (u .costs .now))) (read-back w64 (d .cost-most .result) (d .cost-most .ok) ∙ d .cost-most .ensures) (sub-zero (u .m * u .n))
 
 returns : tie.Need-returns
 returns c = after _ (c .bars-clear .ensures) (inside (c .before))

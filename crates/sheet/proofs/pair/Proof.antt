@@ -2,6 +2,7 @@
 use mathlib.Core.Path.{_≡_, sym, ap, _∙_}
 use mathlib.Core.List.{List, _++_}
 use Prim.Native.Nat.{ℕ}
+use native.Mathlib.Omega.{arith}
 use borrow.Author.Needs.{needs}
 use lib.IntN.{ℤ}
 use lib.ListN.{length, take, drop, length-map}
@@ -15,7 +16,7 @@ use Rattle.matrix.specs.Refusals.{NoPairing}
 use Rattle.sheet.specs.Reading.{Read, read}
 use Rattle.sheet.specs.Settle.{settledAs, settled, pair}
 use Rattle.sheet.proofs.Determined.{settled-values-determine}
-use Rattle.sheet.proofs.Pairing.{ReadRight, read-right, Sized, refused-outcome, blocked-outcome, paired-outcome}
+use Rattle.sheet.proofs.Pairing.{Bytes, ReadRight, read-right, Sized, refused-outcome, blocked-outcome, paired-outcome}
 use Rattle.sheet.proofs.pair.Statement.{statement}
 use Rattle.sheet.proofs.pair.Tie as tie
 
@@ -36,8 +37,12 @@ start c = c .before .before .before
 abbrev reading : tie.After-settle → Read
 reading c = read (length (start c .args .slip .now)) (start c .args .sheet .now)
 
-right : (c : tie.After-settle) → ReadRight (length (start c .args .slip .now)) (reading c)
+right : (c : tie.After-settle) → ReadRight (length (start c .args .slip .now)) (start c .args .sheet .now) (reading c)
 right c = read-right (length (start c .args .slip .now)) (start c .args .sheet .now)
+
+-- its entries are bytes
+bytes : (c : tie.After-settle) → Bytes (start c .args .sheet .now)
+bytes c k l = omega (arith, c .before .before .shared-slice-known .given k)
 
 settled-as : (c : tie.After-settle) → c .settle .result ≡ settledAs (reading c)
 unfolding settled
@@ -53,7 +58,7 @@ code-requires : tie.Need-code-requires
 code-requires c κs =
     let s = c .before .before .before in
     let v = c .before .reply .given in
-    refused-outcome (start s .args .slip .now) (s .settle .result) (reading s) (right s) (settled-as s) (v .0 .0) (v .1) .0
+    refused-outcome (start s .args .sheet .now) (start s .args .slip .now) (s .settle .result) (bytes s) (reading s) (right s) (settled-as s) (v .0 .0) (v .1) .0
 
 enum-known-reply-2 : tie.Need-enum-known-reply-2
 enum-known-reply-2 c = search needs
@@ -62,7 +67,7 @@ write-value-requires : tie.Need-write-value-requires
 write-value-requires c κs =
     let s = c .before .before .before .before in
     let v = c .before .before .reply2 .given in
-    blocked-outcome (start s .args .slip .now) (s .settle .result) (reading s) (right s) (settled-as s) (v .0 .0) (v .1) .0
+    blocked-outcome (start s .args .sheet .now) (start s .args .slip .now) (s .settle .result) (reading s) (right s) (settled-as s) (v .0 .0) (v .1) .0
 
 enum-known-reply-3 : tie.Need-enum-known-reply-3
 enum-known-reply-3 c = search needs
@@ -71,8 +76,8 @@ write-state-requires : tie.Need-write-state-requires
 write-state-requires c κs =
     let s = c .before .before .before .before .before in
     let v = c .before .before .before .reply3 .given in
-    let o = paired-outcome (start s .args .slip .now) (s .settle .result) (reading s) (right s) (settled-as s) (v .0 .0) (v .0 .1 .0) (v .0 .1 .1 .0) (v .1) (sized s) in
-    (o .0, o .1)
+    let o = paired-outcome (start s .args .sheet .now) (start s .args .slip .now) (s .settle .result) (reading s) (right s) (settled-as s) (v .0 .0) (v .0 .1 .0) (v .0 .1 .1 .0) (v .0 .1 .1 .1 .0) (v .1) (sized s) in
+    (o .0, o .1, o .2)
 
 returns : tie.Need-returns
 unfolding pair
@@ -81,7 +86,7 @@ returns c =
     let v = c .before .before .reply .given in
     let slip = start s .args .slip .now in
     ap (λ (m : ℕ). record { number = m; slip = slip }) (c .code .ensures)
-    ∙ refused-outcome slip (s .settle .result) (reading s) (right s) (settled-as s) (v .0 .0) (v .1) .1
+    ∙ refused-outcome (start s .args .sheet .now) slip (s .settle .result) (bytes s) (reading s) (right s) (settled-as s) (v .0 .0) (v .1) .1
 
 same-length : tie.Need-same-length
 same-length c = search needs
@@ -92,7 +97,7 @@ returns-2 c =
     let s = c .before .before .before .before .before .before .before in
     let v = c .before .before .before .before .before .reply2 .given in
     let slip = start s .args .slip .now in
-    let o = blocked-outcome slip (s .settle .result) (reading s) (right s) (settled-as s) (v .0 .0) (v .1) in
+    let o = blocked-outcome (start s .args .sheet .now) slip (s .settle .result) (reading s) (right s) (settled-as s) (v .0 .0) (v .1) in
     ap (λ (l : List ℕ). record { number = NoPairing; slip = l }) (c .before .before .write-value .ensures ∙ sets-front (bytesOf 8 (v .0 .0)) slip 8 (length-bytesOf 8 (v .0 .0)) (o .0))
     ∙ o .1
 
@@ -108,11 +113,12 @@ returns-3 c =
     let u = start s .args in
     let state = s .settle .result .state in
     let edition = v .0 .0 in
-    let n = v .0 .1 .0 in
-    let total = read-back w64 (v .0 .1 .1 .0) (k .known-told3 .given .1 .1 .0 .1) in
+    let m = v .0 .1 .0 in
+    let n = v .0 .1 .1 .0 in
+    let total = read-back w64 (v .0 .1 .1 .1 .0) (k .known-told3 .given .1 .1 .1 .0 .1) in
     ap (λ (l : List ℕ). record { number = 0; slip = l }) (c .before .before .write-state .ensures
-    ∙ ap (λ (t : ℤ). slipOf edition n (take n (state .cols)) (take n (state .«row_prices»)) (take n (state .«col_prices»)) t ++ drop (slipLength n) (u .slip .now)) total)
-    ∙ paired-outcome (u .slip .now) (s .settle .result) (reading s) (right s) (settled-as s) edition n (v .0 .1 .1 .0) (v .1) (sized s) .2
+    ∙ ap (λ (t : ℤ). slipOf edition m n (take m (state .cols)) (take m (state .«row_prices»)) (take n (state .«col_prices»)) t ++ drop (slipLength edition m n) (u .slip .now)) total)
+    ∙ paired-outcome (u .sheet .now) (u .slip .now) (s .settle .result) (reading s) (right s) (settled-as s) edition m n (v .0 .1 .1 .1 .0) (v .1) (sized s) .3
 
 pub pair-spec : {M : Type 1} → statement M
 pair-spec =

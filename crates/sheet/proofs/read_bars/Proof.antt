@@ -2,13 +2,13 @@
 use mathlib.Core.Path.{sym, ap, _∙_}
 use mathlib.Core.Bool.{Bool, cond}
 use mathlib.Core.List.{List}
-use Prim.Native.Nat.{ℕ}
+use Prim.Native.Nat.{ℕ, _*_}
 use native.Mathlib.Omega.{arith}
 use borrow.Author.Needs.{needs}
 use lib.Seq.{sets}
 use Rattle.layout.specs.Sheets.{barsAt}
 use Rattle.sheet.specs.Settle.{lent, stateOf}
-use Rattle.sheet.proofs.Editions.{with-bars, without-bars, due-with}
+use Rattle.sheet.proofs.Editions.{with-bars, without-bars}
 use Rattle.sheet.proofs.read_bars.Statement.{statement}
 use Rattle.sheet.proofs.read_bars.Tie as tie
 
@@ -22,7 +22,7 @@ read-bars-array-requires : tie.Need-read-bars-array-requires
 read-bars-array-requires c κs =
     let e = c .before .before .before .before .before .before .before .before .before in
     let s = e .before .before in
-    (s .pre .0, omega (arith, s .pre .1, due-with (s .args .n) (e .if1 .left)))
+    (s .pre .0, omega (arith, s .pre .1, ap (λ (t : Bool). cond t (8 * s .args .n) 0) (with-bars (e .if1 .left))))
 
 returns-2 : tie.Need-returns-2
 returns-2 c =

@@ -2,8 +2,9 @@
 use mathlib.Core.Path.{sym, ap, ap₂, _∙_}
 use Prim.Native.Nat.{ℕ}
 use borrow.Author.Needs.{needs}
+use Rattle.layout.specs.Trailers.{editionOf}
 use Rattle.matrix.specs.Verdicts.{Passes}
-use Rattle.sheet.specs.Reading.{distanceDue, laidAt, sheetTests, nightTested}
+use Rattle.sheet.specs.Reading.{rowsOf, distanceDue, laidAt, sheetTests, nightTested}
 use Rattle.sheet.specs.Settle.{settledAs}
 use Rattle.sheet.specs.Values.{settledValues}
 use Rattle.sheet.proofs.Passing.{SheetPassed, tests-passed}
@@ -33,15 +34,18 @@ passed c =
     tests-passed (u .room) (u .sheet .now) (all-passed c)
 
 edition-of-requires : tie.Need-edition-of-requires
-edition-of-requires c κs = passed c .ended
+edition-of-requires c κs = passed c .counted .ended .long
+
+rows-of-requires : tie.Need-rows-of-requires
+rows-of-requires c κs = passed (c .before) .counted .ended
 
 side-of-requires : tie.Need-side-of-requires
-side-of-requires c κs = passed (c .before) .ended
+side-of-requires c κs = passed (c .before .before) .counted .ended .long
 
 settle-night-requires : tie.Need-settle-night-requires
 settle-night-requires c κs =
-    let p = passed (c .before .before) in
-    rw (c .before .edition-of .ensures, c .side-of .ensures .0) (p .small, p .inside)
+    let p = passed (c .before .before .before) in
+    rw (c .before .before .edition-of .ensures, c .before .rows-of .ensures .0, c .side-of .ensures .0) (p .counted .fewer, p .counted .small, p .inside)
 
 returns : tie.Need-returns
 returns c =
@@ -51,10 +55,12 @@ returns c =
 
 returns-2 : tie.Need-returns-2
 returns-2 c =
-    let e = c .before .before .before in
+    let e = c .before .before .before .before in
     let u = e .before .before .before .before .args in
+    let n = c .before .side-of .result in
     ap settledValues (c .settle-night .ensures
-    ∙ ap₂ (λ (d m : ℕ). settledAs (nightTested (laidAt d m (distanceDue d m) (u .sheet .now)))) (c .before .before .edition-of .ensures) (c .before .side-of .ensures .0)
+    ∙ ap₂ (λ (d m : ℕ). settledAs (nightTested (laidAt d m n (distanceDue d m n) (u .sheet .now)))) (c .before .before .before .edition-of .ensures) (c .before .before .rows-of .ensures .0)
+    ∙ ap (λ (k : ℕ). settledAs (nightTested (laidAt (editionOf (u .sheet .now)) (rowsOf (u .sheet .now)) k (distanceDue (editionOf (u .sheet .now)) (rowsOf (u .sheet .now)) k) (u .sheet .now)))) (c .before .side-of .ensures .0)
     ∙ passed-settles (u .room) (u .sheet .now) (all-passed e))
 
 pub settle-spec : {M : Type 1} → statement M
@@ -66,6 +72,7 @@ settle-spec =
     refused-requires
     enum-told
     edition-of-requires
+    rows-of-requires
     side-of-requires
     settle-night-requires
     returns

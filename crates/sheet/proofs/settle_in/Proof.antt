@@ -29,14 +29,14 @@ returns : tie.Need-returns
 returns c =
     let d = c .before .before .before .before in
     let u = c .before .before .before .before .before .before .before .before .before .before .before .before .before .before .before .args in
-    c .refused .ensures ∙ ap (settledIf (u .edition) (u .n) (u .state)) (sym (c .before .before .refusal .given .1) ∙ d .night-tested .ensures)
+    c .refused .ensures ∙ ap (settledIf (u .edition) (u .m) (u .n) (u .state)) (sym (c .before .before .refusal .given .1) ∙ d .night-tested .ensures)
 
 returns-2 : tie.Need-returns-2
 returns-2 c =
     let d = c .before .before .before .before in
     let u = c .before .before .before .before .before .before .before .before .before .before .before .before .before .before .before .args in
-    c .solve-night .ensures ∙ ap (solvedIn (u .edition) (u .n)) (c .before .fill-night .ensures)
-    ∙ ap (settledIf (u .edition) (u .n) (u .state)) (sym (c .before .before .enum-told .given .1) ∙ d .night-tested .ensures)
+    c .solve-night .ensures ∙ ap (solvedIn (u .edition) (u .m) (u .n)) (c .before .fill-night .ensures)
+    ∙ ap (settledIf (u .edition) (u .m) (u .n) (u .state)) (sym (c .before .before .enum-told .given .1) ∙ d .night-tested .ensures)
 
 pub settle-in-spec : {M : Type 1} → statement M
 settle-in-spec =

@@ -36,12 +36,12 @@ abbrev state : tie.After-solve-arrays → State
 state c = stateOf (start c .args .state .costs) (start c .args .state .bars) (left c)
 
 abbrev by : tie.After-solve-arrays → Solved → Settled
-by c answer = settledBy (start c .args .edition) (start c .args .n) answer (state c)
+by c answer = settledBy (start c .args .edition) (start c .args .m) (start c .args .n) answer (state c)
 
-done : (c : tie.After-solve-arrays) → let u = start c .args in by c (c .solve-arrays .result) ≡ solvedIn (u .edition) (u .n) (u .state)
+done : (c : tie.After-solve-arrays) → let u = start c .args in by c (c .solve-arrays .result) ≡ solvedIn (u .edition) (u .m) (u .n) (u .state)
 done c =
     let u = start c .args in
-    ap (λ (o : Outcome). settledBy (u .edition) (u .n) (o .answer) (stateOf (u .state .costs) (u .state .bars) (o .lent))) (c .solve-arrays .ensures)
+    ap (λ (o : Outcome). settledBy (u .edition) (u .m) (u .n) (o .answer) (stateOf (u .state .costs) (u .state .bars) (o .lent))) (c .solve-arrays .ensures)
 
 enum-known-refusal : tie.Need-enum-known-refusal
 enum-known-refusal c = search needs
@@ -72,7 +72,7 @@ returns-2 c =
     let night = s .before .before .night .given in
     let bar = firstBarred (u .n) (state d .bars) (state d .cols) in
     c .unless-barred .ensures
-    ∙ ap (λ (t : ℤ). unlessBarred (u .n) bar (record { reply = Accepted (u .edition) (u .n) t; state = state d }) (state d)) (read-back w64 (night .0 .0 .total) (s .struct-told .given .0 .1))
+    ∙ ap (λ (t : ℤ). unlessBarred (u .n) bar (record { reply = Accepted (u .edition) (u .m) (u .n) t; state = state d }) (state d)) (read-back w64 (night .0 .0 .total) (s .struct-told .given .0 .1))
     ∙ ap (by d) (sym (night .1)) ∙ done d
 
 pub solve-night-spec : {M : Type 1} → statement M

@@ -21,7 +21,7 @@ abbrev with-rows : ℕ → Settled
 with-rows rows = record { reply = Blocked rows; state = fresh }
 
 abbrev as-is : tie.Start → ℤ → Settled
-as-is s total = record { reply = Accepted (s .args .edition) (s .args .n) total; state = s .args .state }
+as-is s total = record { reply = Accepted (s .args .edition) (s .args .m) (s .args .n) total; state = s .args .state }
 
 abbrev bar : tie.Start → ℕ
 bar s = firstBarred (s .args .n) (s .args .state .bars) (s .args .state .cols)

@@ -1,5 +1,5 @@
--- `write_arrays` lends the first n entries of each array. Assumes nothing.
-use mathlib.Core.Path.{_≡_, ap, _∙_}
+-- `write_arrays` lends the first entries of each array. Assumes nothing.
+use mathlib.Core.Path.{_≡_, ap₂, _∙_}
 use mathlib.Core.List.{List, _++_}
 use Prim.Native.Nat.{ℕ, _-_, _≤_}
 use native.Mathlib.Nat.{sub-zero}
@@ -13,13 +13,14 @@ use Rattle.layout.specs.Slips.{slipOf, slipLength}
 use Rattle.sheet.proofs.write_arrays.Statement.{statement}
 use Rattle.sheet.proofs.write_arrays.Tie as tie
 
--- the parts that are lent are the first n entries
-fronts : (slip : List ℕ) (edition n : ℕ) (cols : List ℕ) (rowPrices columnPrices : List ℤ) {read total : ℤ} → read ≡ total → n ≤ length cols
-    → slipOf edition (length (take (n - 0) cols)) (take (n - 0) cols) (take (n - 0) rowPrices) (take (n - 0) columnPrices) read ++ drop (slipLength (length (take (n - 0) cols))) slip
-    ≡ slipOf edition n (take n cols) (take n rowPrices) (take n columnPrices) total ++ drop (slipLength n) slip
-fronts slip edition n cols rowPrices columnPrices {total} e h =
-    rw (sub-zero, e)
-    (ap (λ (m : ℕ). slipOf edition m (take n cols) (take n rowPrices) (take n columnPrices) total ++ drop (slipLength m) slip) (length-take-le n cols h))
+-- the parts that are lent are the first entries
+fronts : (slip : List ℕ) (edition m n : ℕ) (cols : List ℕ) (rowPrices columnPrices : List ℤ) {read total : ℤ} → read ≡ total → m ≤ length cols → n ≤ length columnPrices
+    → slipOf edition (length (take (m - 0) cols)) (length (take (n - 0) columnPrices)) (take (m - 0) cols) (take (m - 0) rowPrices) (take (n - 0) columnPrices) read
+    ++ drop (slipLength edition (length (take (m - 0) cols)) (length (take (n - 0) columnPrices))) slip
+    ≡ slipOf edition m n (take m cols) (take m rowPrices) (take n columnPrices) total ++ drop (slipLength edition m n) slip
+fronts slip edition m n cols rowPrices columnPrices {total} e h k =
+    rw (sub-zero m, sub-zero n, e)
+    (ap₂ (λ (a b : ℕ). slipOf edition a b (take m cols) (take m rowPrices) (take n columnPrices) total ++ drop (slipLength edition a b) slip) (length-take-le m cols h) (length-take-le n columnPrices k))
 
 sub-write-slip : tie.Need-sub-write-slip
 sub-write-slip c = search needs
@@ -56,11 +57,12 @@ same-length c = search needs
 
 returns : tie.Need-returns
 returns c =
-    let lent = c .before .before .before .before .before .before .before .before .before in
+    let prices = c .before .before .before .before .before .before .before in
+    let lent = prices .before .before in
     let start = lent .before .before in
     let u = start .args in
     c .before .before .write-slip .ensures
-    ∙ fronts (u .slip .now) (u .edition) (u .n) (u .cols .now) (u .row-prices .now) (u .col-prices .now) (toZ-ofZ (start .fits .total)) (omega (arith, lent .all-cols .given .0, start .pre .0))
+    ∙ fronts (u .slip .now) (u .edition) (u .m) (u .n) (u .cols .now) (u .row-prices .now) (u .col-prices .now) (toZ-ofZ (start .fits .total)) (omega (arith, lent .all-cols .given .0, start .pre .0, start .pre .1)) (omega (arith, prices .all-col-prices .given .0, start .pre .1))
 
 pub write-arrays-spec : {M : Type 1} → statement M
 write-arrays-spec =

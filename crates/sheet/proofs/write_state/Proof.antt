@@ -21,7 +21,7 @@ returns c =
     let u = start .args in
     let s = u .state in
     c .before .before .write-arrays .ensures
-    ∙ ap (λ (t : ℤ). slipOf (u .edition) (u .n) (take (u .n) (s .cols)) (take (u .n) (s .«row_prices»)) (take (u .n) (s .«col_prices»)) t ++ drop (slipLength (u .n)) (u .slip .now)) (toZ-ofZ (start .fits .total))
+    ∙ ap (λ (t : ℤ). slipOf (u .edition) (u .m) (u .n) (take (u .m) (s .cols)) (take (u .m) (s .«row_prices»)) (take (u .n) (s .«col_prices»)) t ++ drop (slipLength (u .edition) (u .m) (u .n)) (u .slip .now)) (toZ-ofZ (start .fits .total))
 
 pub write-state-spec : {M : Type 1} → statement M
 write-state-spec = tie.close (tie.spec write-arrays-requires same-length returns)

@@ -1,7 +1,6 @@
 -- `row_over` answers refusal 9 for one row: its first such column is one of the night's. The row left out has none. Assumes nothing.
 use mathlib.Core.Path.{sym, ap, _∙_}
 use Prim.Native.Nat.{ℕ}
-use borrow.Author.Needs.{needs}
 use lib.Dec.{ltb}
 use Rattle.bars.specs.Barred.{nightOf}
 use Rattle.checker.specs.Tests.{overIn}

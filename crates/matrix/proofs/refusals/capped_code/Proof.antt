@@ -1,7 +1,5 @@
 -- `capped_code` answers a refusal as one number: a place that would not fit is told as the last that does. Assumes nothing.
-use mathlib.Core.Path.{refl}
 use Prim.Native.Nat.{_^_}
-use native.Mathlib.Omega.{arith}
 use borrow.Author.Needs.{needs}
 use borrow.Author.Tests.{lt-ltb, le-ltb}
 use Rattle.matrix.specs.Refusals.{placeOf}

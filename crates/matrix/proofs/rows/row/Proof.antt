@@ -1,7 +1,6 @@
 -- `row` hands back a row of a square. Assumes nothing.
 use native.Mathlib.Nat.{mul-le-mul-right}
 use native.Mathlib.Omega.{arith}
-use borrow.Author.Needs.{needs}
 use Rattle.matrix.proofs.rows.row.Statement.{statement}
 use Rattle.matrix.proofs.rows.row.Tie as tie
 

@@ -1,7 +1,6 @@
 -- `room_long` hands a refusal on, and answers test 16 where none came. Assumes nothing.
 use mathlib.Core.Path.{ap, _∙_}
-use Prim.Native.Nat.{ℕ, _+_, _*_}
-use native.Mathlib.Omega.{arith}
+use Prim.Native.Nat.{ℕ}
 use borrow.Author.Needs.{needs}
 use lib.Dec.{ltb}
 use Rattle.matrix.specs.Verdicts.{failsIf}
@@ -19,14 +18,8 @@ returns c = fails-then _ (c .before .before2 .given .1)
 enum-told : tie.Need-enum-told
 enum-told c = search needs
 
-side-of-requires : tie.Need-side-of-requires
-side-of-requires c κs = c .before .before .before .pre (c .enum-told .given .1)
-
-mul-least : tie.Need-mul-least
-mul-least c = omega (arith, c .side-of .ensures .1)
-
-add-least : tie.Need-add-least
-add-least c = omega (arith, c .side-of .ensures .1)
+slip-length-requires : tie.Need-slip-length-requires
+slip-length-requires c κs = c .before .before .before .pre (c .enum-told .given .1)
 
 fails-if-requires : tie.Need-fails-if-requires
 fails-if-requires c κs = search needs
@@ -36,7 +29,7 @@ returns-2 c =
     let d = c .before in
     let room = d .before .before .before .before .args .room in
     passed-then _ (d .before .enum-told .given .1)
-    (c .fails-if .ensures ∙ ap (λ (side : ℕ). failsIf SlipRoomShort 0 (ltb room (18 * side + 20))) (d .side-of .ensures .0))
+    (c .fails-if .ensures ∙ ap (λ (least : ℕ). failsIf SlipRoomShort 0 (ltb room least)) (d .slip-length .ensures))
 
 pub room-long-spec : {M : Type 1} → statement M
-room-long-spec = tie.close (tie.spec enum-known-before returns enum-told side-of-requires mul-least add-least fails-if-requires returns-2)
+room-long-spec = tie.close (tie.spec enum-known-before returns enum-told slip-length-requires fails-if-requires returns-2)

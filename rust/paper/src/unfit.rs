@@ -1,0 +1,143 @@
+//! What cannot be made or read, in words.
+
+use std::fmt;
+
+use crate::{LARGEST_COST, LARGEST_SIDE, LONGEST_NOTE, LONGEST_SHEET, REFERENCE};
+
+/// Why a sheet cannot be made or a slip cannot be read.
+#[derive(Clone, Debug, PartialEq, Eq)]
+#[non_exhaustive]
+pub enum Unfit {
+    /// A word of the table is no 32-bit number and not `barred`.
+    Word {
+        /// The table's line, from 1.
+        line: usize,
+        /// The word.
+        word: String,
+    },
+    /// A line of the table has nothing before, behind or between its commas.
+    EmptyCell {
+        /// The table's line, from 1.
+        line: usize,
+    },
+    /// A line of the table has not as many costs as the first.
+    Row {
+        /// The table's line, from 1.
+        line: usize,
+        /// How many costs it has.
+        costs: usize,
+        /// How many costs the first has.
+        columns: usize,
+    },
+    /// There are not exactly as many costs as rows times columns.
+    Costs {
+        /// The rows.
+        rows: usize,
+        /// The columns.
+        columns: usize,
+        /// How many costs there are.
+        costs: usize,
+    },
+    /// There are more rows than columns.
+    Rows {
+        /// The rows.
+        rows: usize,
+        /// The columns.
+        columns: usize,
+    },
+    /// The side, or the number of columns, is over 64.
+    Side(usize),
+    /// A cost lies outside -1,000,000,000..1,000,000,000; on a sheet with bars, outside -1,000,000..1,000,000.
+    Cost {
+        /// The first such, row * columns + column.
+        place: usize,
+        /// The largest that it may be.
+        most: i32,
+    },
+    /// A cost of the table lies outside -1,000,000,000..1,000,000,000; where pairs are barred, outside
+    /// -1,000,000..1,000,000.
+    TableCost {
+        /// The table's line, from 1.
+        line: usize,
+        /// The table's column, from 1.
+        column: usize,
+        /// The largest that it may be.
+        most: i32,
+    },
+    /// A pair to be barred is not on the sheet.
+    Pair {
+        /// Its row.
+        row: usize,
+        /// Its column.
+        column: usize,
+    },
+    /// Pairs are barred on a sheet that has fewer rows than columns, or is of edition 3.
+    BarsOblong,
+    /// There are not as many bars as rows.
+    BarsLength {
+        /// The side.
+        side: usize,
+        /// How many bars there are.
+        bars: usize,
+    },
+    /// A row's bars have a bit set from the side up.
+    BarsPastSide {
+        /// The first such row.
+        row: usize,
+    },
+    /// The note is over 4,096 bytes or has a byte outside 32 to 126.
+    Note {
+        /// The first such position, 4,096 for a longer note whose first 4,096 bytes are good.
+        place: usize,
+    },
+    /// The bytes are over 65,536.
+    Long,
+    /// A line of a list is no reference of 12 characters from 0-9 and A-Z.
+    Reference {
+        /// The list's line, from 1.
+        line: usize,
+        /// What stands there.
+        word: String,
+    },
+    /// The bytes are not those of a sheet: what is wrong with them.
+    Sheet(&'static str),
+    /// The bytes are not those of a slip: what is wrong with them.
+    Slip(&'static str),
+}
+
+impl fmt::Display for Unfit {
+    fn fmt(&self, f: &mut fmt::Formatter<'_>) -> fmt::Result {
+        match self {
+            Unfit::Word { line, word } => write!(f, "line {line}: '{word}' is neither a number nor 'barred'"),
+            Unfit::EmptyCell { line } => write!(f, "line {line}: a comma without a cost beside it"),
+            Unfit::Row { line, costs, columns } => {
+                write!(f, "line {line}: as many costs are wanted as in the first line, {columns}, not {costs}")
+            }
+            Unfit::Costs { rows, columns, costs } => {
+                write!(f, "{rows} rows and {columns} columns want {} costs, not {costs}", rows * columns)
+            }
+            Unfit::Rows { rows, columns } => write!(f, "{rows} rows are more than {columns} columns"),
+            Unfit::Side(side) => write!(f, "side {side} is over {LARGEST_SIDE}"),
+            Unfit::Cost { place, most } => write!(f, "the cost at place {place} is outside -{most}..{most}"),
+            Unfit::TableCost { line, column, most } => {
+                let beside = if *most < LARGEST_COST { ", since the table has barred pairs" } else { "" };
+                write!(f, "line {line}, column {column}: the cost is outside -{most}..{most}{beside}")
+            }
+            Unfit::Pair { row, column } => write!(f, "row {row} and column {column} are no pair of the sheet"),
+            Unfit::BarsOblong => write!(f, "pairs can be barred only where there are as many rows as columns"),
+            Unfit::BarsLength { side, bars } => write!(f, "{side} rows want {side} bars, not {bars}"),
+            Unfit::BarsPastSide { row } => write!(f, "row {row}: its bars have a bit set from the side up"),
+            Unfit::Note { place } => {
+                write!(f, "place {place}: the note is over {LONGEST_NOTE} bytes or has a byte outside 32 to 126")
+            }
+            Unfit::Long => write!(f, "a sheet of over {LONGEST_SHEET} bytes"),
+            Unfit::Reference { line, word } => {
+                write!(f, "line {line}: '{word}' is no reference of {REFERENCE} characters from 0-9 and A-Z")
+            }
+            Unfit::Sheet(what) => write!(f, "not a sheet: {what}"),
+            Unfit::Slip(what) => write!(f, "not a slip: {what}"),
+        }
+    }
+}
+
+impl std::error::Error for Unfit {}
