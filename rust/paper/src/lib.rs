@@ -11,6 +11,7 @@
 #![warn(missing_docs)]
 
 mod layout;
+pub mod page;
 mod sheet;
 mod slip;
 mod table;

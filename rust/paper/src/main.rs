@@ -2,12 +2,13 @@
 //!
 //!     paper sheet < TABLE > SHEET    a sheet of the costs in a table of numbers
 //!     paper slip < SLIP              the lines of a slip
+//!     paper page SHEET SLIP          a page that holds both and checks them, for a browser
 
 use std::error::Error;
 use std::io::{self, Read, Write};
 use std::process::ExitCode;
 
-use paper::{Sheet, Slip};
+use paper::{page, Sheet, Slip};
 
 fn input() -> io::Result<Vec<u8>> {
     let mut bytes = Vec::new();
@@ -23,7 +24,8 @@ fn run() -> Result<(), Box<dyn Error>> {
             Sheet::from_table(&table)?.bytes()
         }
         ["slip"] => Slip::read(&input()?)?.to_string().into_bytes(),
-        _ => return Err("paper sheet < TABLE > SHEET, or paper slip < SLIP".into()),
+        ["page", sheet, slip] => page::of_files(sheet, slip)?.into_bytes(),
+        _ => return Err("paper sheet < TABLE > SHEET, paper slip < SLIP, or paper page SHEET SLIP > PAGE".into()),
     };
     io::stdout().write_all(&output)?;
     Ok(io::stdout().flush()?)
