@@ -2,9 +2,9 @@
 //
 //     node test.mjs [--reading COMMAND] [--audit COMMAND] [--write COMMAND] [--seed SEED] [--count COUNT]
 //
-// COMMAND of --reading takes any number of sheets and slips by turns and writes the line of each pair; that of --audit
-// takes one sheet and one slip, and the first line that it writes counts. Every line must be the check's. COMMAND of
-// --write reads a sheet and writes its slip.
+// COMMAND of --reading takes any number of sheets and slips by turns and writes the line of each pair, or, behind the word
+// also, the program's last line; that of --audit takes one sheet and one slip, and the first line that it writes counts.
+// Every line must be the check's. COMMAND of --write reads a sheet and writes its slip.
 import { strict as assert } from "node:assert";
 import { spawnSync } from "node:child_process";
 import { mkdtempSync, readFileSync, readdirSync, rmSync, writeFileSync } from "node:fs";
@@ -21,7 +21,8 @@ const options = { seed: "1", count: "6000" };
 for (let k = 2; k < process.argv.length; k += 2) options[process.argv[k].slice(2)] = process.argv[k + 1];
 const random = randomFrom(Number(options.seed));
 
-// Every sheet and slip that was tried, and the line that the check gave: for the comparison at the end.
+// Every sheet and slip that was tried, the line that the check gave, and the program's last line: for the comparison at
+// the end.
 const tried = [];
 const refusals = {};
 function line(sheet, slip) {
@@ -30,7 +31,8 @@ function line(sheet, slip) {
   assert.match(answer, /^(Yes|Not shown)\. .*\.$/);
   const [, number] = lineOf(found).match(/^refused (\d+)/) ?? [];
   refusals[number ?? 0] = (refusals[number ?? 0] ?? 0) + 1;
-  tried.push({ sheet, slip, line: lineOf(found) });
+  const other = found.refusal ? null : another(found.night, found.slip);
+  tried.push({ sheet, slip, line: lineOf(found), also: found.refusal ? "" : other ? `also ${other.join(" ")}` : "only" });
   return lineOf(found);
 }
 
@@ -248,16 +250,20 @@ function compared(directory) {
     return names.get(key);
   };
   const run = (command, files) => spawnSync(command, files, { encoding: "utf8", maxBuffer: 2 ** 28 });
-  const same = (told, { line: found, sheet, slip }) =>
+  const same = (told, found, { sheet, slip }) =>
     assert.equal(told, found, `sheet ${Buffer.from(sheet).toString("hex")} slip ${Buffer.from(slip).toString("hex")}`);
   const pairs = tried.map((one) => [named(one.sheet, "sheet"), named(one.slip, "slip")]);
   for (let from = 0; options.reading && from < tried.length; from += 1000) {
-    const { stdout, stderr } = run(options.reading, pairs.slice(from, from + 1000).flat());
-    const lines = stdout.split("\n").slice(0, -1);
-    assert.equal(lines.length, Math.min(1000, tried.length - from), stderr);
-    lines.forEach((told, k) => same(told, tried[from + k]));
+    for (const words of [[], ["also"]]) {
+      const { stdout, stderr } = run(options.reading, [...words, ...pairs.slice(from, from + 1000).flat()]);
+      const lines = stdout.split("\n").slice(0, -1);
+      assert.equal(lines.length, Math.min(1000, tried.length - from), stderr);
+      const found = (one) => (words.length ? one.also || one.line : one.line);
+      lines.forEach((told, k) => same(told, found(tried[from + k]), tried[from + k]));
+    }
   }
-  if (options.audit) pairs.forEach((files, k) => same(run(options.audit, files).stdout.split("\n")[0], tried[k]));
+  const first = ({ stdout }) => stdout.split("\n")[0];
+  if (options.audit) pairs.forEach((files, k) => same(first(run(options.audit, files)), tried[k].line, tried[k]));
 }
 
 const directory = mkdtempSync(join(tmpdir(), "page-"));

@@ -70,7 +70,7 @@ fn answered(verdict: Verdict, m: usize, n: usize, costs: &[i32], cols: &[u32]) -
 }
 
 // Tests 5 to 10.
-fn proven(
+pub fn proven(
     before: Verdict,
     n: usize,
     costs: &[i32],
@@ -105,7 +105,7 @@ pub fn check(n: usize, costs: &[i32], cols: &[u32], rows: &[u32], us: &[i64], vs
 }
 
 // Tests 1, 2, 3 of a night with bars, given the lengths of its five lists.
-fn shaped_barred(
+pub fn shaped_barred(
     n: usize,
     costs: &[i32],
     cols: usize,
@@ -123,7 +123,7 @@ fn shaped_barred(
 }
 
 // Tests 5, 22, 6, 7, 26.
-fn paired_barred(
+pub fn paired_barred(
     before: Verdict,
     n: usize,
     costs: &[i32],
@@ -183,7 +183,14 @@ pub fn check_barred(
 }
 
 // Tests 1, 23, 2, 3 of an oblong night, given the lengths of its three lists.
-fn shaped_oblong(m: usize, n: usize, costs: &[i32], cols: usize, us: usize, vs: usize) -> Verdict
+pub fn shaped_oblong(
+    m: usize,
+    n: usize,
+    costs: &[i32],
+    cols: usize,
+    us: usize,
+    vs: usize,
+) -> Verdict
     ensures { λ r. ⌜ r ≡ shapedOblong m n (now (costs .entry)) cols us vs ⌝ }
 {
     let sized = tests::side_within(sheet_side(), n);
@@ -195,7 +202,7 @@ fn shaped_oblong(m: usize, n: usize, costs: &[i32], cols: usize, us: usize, vs: 
 }
 
 // Tests 5, 6, 7.
-fn paired_oblong(before: Verdict, m: usize, n: usize, costs: &[i32], cols: &[u32]) -> Verdict
+pub fn paired_oblong(before: Verdict, m: usize, n: usize, costs: &[i32], cols: &[u32]) -> Verdict
     requires { ⌜ (Passes before → m ≤ length (now cols)) ⌝ }
     ensures { λ r. ⌜ r ≡ (before then pairedOblong m n (now (costs .entry)) (now (cols .entry))) ⌝ }
 {

@@ -13,9 +13,12 @@ ghost use Rattle.repair.specs.Repair.{repair};
 ghost use Rattle.sheet.specs.Settle.{Delivery, pair};
 ghost use Rattle.pieces.specs.Kept.{kept};
 ghost use Rattle.pieces.specs.Calls.{taken, piece, ending, delivered, end, reset};
+ghost use Rattle.swaps.specs.Entries.{secondValues, secondSquare, secondBarred, secondOblong};
+ghost use Rattle.face.specs.Seconds.{flag, secondedAny, NumberedSecond, three, HandedSecond, handedSecond, handedSecondAny};
 ghost use Rattle.face.specs.Face.{totalled, checked, checkedAny, NumberedIn, solution, Handed, handed, HandedBack, handedBack};
 use lapjv::Solved;
 use matrix::Answer;
+use swaps::Seconded;
 
 // What `cost` and `score` answer: a total, or a refusal and 0. The refusal is 0 or number + 256*place.
 #[repr(C)]
@@ -43,6 +46,15 @@ pub struct Solution {
     pub looks_two: u64,
     pub rows_left: u64,
     pub columns_scanned: u64,
+}
+
+// A total and whether another pairing has it, 0 or 1; or a refusal and the slack that it carries.
+#[repr(C)]
+pub struct Second {
+    pub refusal: u64,
+    pub total: i64,
+    pub slack: i64,
+    pub also: u64,
 }
 
 // What a C caller gets of the answer of `cost` or `score`.
@@ -232,6 +244,126 @@ pub extern "C" fn bristlefrost_repair(
         rows,
         row_prices,
         col_prices,
+        indices,
+        numbers,
+    ))
+}
+
+// A truth as a number.
+fn flag(b: bool) -> u64
+    ensures { λ r. ⌜ r ≡ flag b ⌝ }
+{
+    if b {
+        return 1;
+    }
+    0
+}
+
+// What a C caller gets of an answer about a second pairing, with any place.
+fn told_second(answer: Seconded) -> Second
+    requires { ⌜ NumberedSecond answer ⌝ }
+    ensures { λ r. ⌜ r ≡ secondedAny (secondValues answer) ⌝ }
+{
+    match answer {
+        Seconded::Told(pairings) => {
+            let also = flag(pairings.another);
+            Second {
+                refusal: 0,
+                total: pairings.total,
+                slack: 0,
+                also,
+            }
+        }
+        Seconded::Refused(refusal) => Second {
+            refusal: matrix::refusals::capped_code(refusal),
+            total: 0,
+            slack: matrix::refusals::slack(refusal),
+            also: 0,
+        },
+    }
+}
+
+// Whether another pairing has the same total, and its columns in `list`.
+#[no_mangle]
+pub extern "C" fn bristlefrost_second(
+    n: usize,
+    costs: &[i32],
+    cols: &[u32],
+    rows: &[u32],
+    row_prices: &[i64],
+    col_prices: &[i64],
+    list: &mut [u32],
+    indices: &mut [u32],
+    numbers: &mut [i64],
+) -> Second
+    ensures { λ r. ⌜ _≡_ {A = HandedSecond} (record { second = r; lent = three (now (list .exit)) (now (indices .exit)) (now (numbers .exit)) }) (handedSecond (secondSquare n (now (costs .entry)) (now (cols .entry)) (now (rows .entry)) (now («row_prices» .entry)) (now («col_prices» .entry)) (three (now (list .entry)) (now (indices .entry)) (now (numbers .entry))))) ⌝ }
+{
+    told_second(swaps::second(
+        n,
+        costs,
+        cols,
+        rows,
+        row_prices,
+        col_prices,
+        list,
+        indices,
+        numbers,
+    ))
+}
+
+// The same with bars.
+#[no_mangle]
+pub extern "C" fn bristlefrost_second_barred(
+    n: usize,
+    costs: &[i32],
+    cols: &[u32],
+    rows: &[u32],
+    row_prices: &[i64],
+    col_prices: &[i64],
+    bars: &[u64],
+    list: &mut [u32],
+    indices: &mut [u32],
+    numbers: &mut [i64],
+) -> Second
+    ensures { λ r. ⌜ _≡_ {A = HandedSecond} (record { second = r; lent = three (now (list .exit)) (now (indices .exit)) (now (numbers .exit)) }) (handedSecond (secondBarred n (now (costs .entry)) (now (cols .entry)) (now (rows .entry)) (now («row_prices» .entry)) (now («col_prices» .entry)) (now (bars .entry)) (three (now (list .entry)) (now (indices .entry)) (now (numbers .entry))))) ⌝ }
+{
+    told_second(swaps::second_barred(
+        n,
+        costs,
+        cols,
+        rows,
+        row_prices,
+        col_prices,
+        bars,
+        list,
+        indices,
+        numbers,
+    ))
+}
+
+// The same of m rows and n columns.
+#[no_mangle]
+pub extern "C" fn bristlefrost_second_oblong(
+    m: usize,
+    n: usize,
+    costs: &[i32],
+    cols: &[u32],
+    row_prices: &[i64],
+    col_prices: &[i64],
+    list: &mut [u32],
+    indices: &mut [u32],
+    numbers: &mut [i64],
+) -> Second
+    ensures { λ r. ⌜ _≡_ {A = HandedSecond} (record { second = r; lent = three (now (list .exit)) (now (indices .exit)) (now (numbers .exit)) }) (handedSecondAny (secondOblong m n (now (costs .entry)) (now (cols .entry)) (now («row_prices» .entry)) (now («col_prices» .entry)) (three (now (list .entry)) (now (indices .entry)) (now (numbers .entry))))) ⌝ }
+{
+    told_second(swaps::second_oblong(
+        m,
+        n,
+        costs,
+        cols,
+        row_prices,
+        col_prices,
+        list,
         indices,
         numbers,
     ))

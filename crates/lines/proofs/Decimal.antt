@@ -50,7 +50,7 @@ decimal-more x l h =
 pub length-more : (x : ℕ) → x < 2 ^ 64 → 10 ≤ x → length (decimal x) ≡ length (decimal (x / 10)) + 1
 length-more x l h = ap length (decimal-more x l h) ∙ length-append (decimal (x / 10)) ((48 + x % 10) ∷ [])
 
-length-digits : (k m x : ℕ) → x < 10 ^ suc k → length (digits m x) ≤ suc k
+pub length-digits : (k m x : ℕ) → x < 10 ^ suc k → length (digits m x) ≤ suc k
 length-digits k zero x h = omega (arith, ap length (digits-none x))
 length-digits k (suc m) x h = by (decLt x 10) k h (λ j l. length-digits j m (x / 10) l)
   where

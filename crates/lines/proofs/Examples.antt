@@ -21,9 +21,11 @@ use Rattle.rules.specs.Search.{scan, lastFree, searchBlocks, search, newPrices}
 use Rattle.rules.specs.Augmentation.{flips, augments, augmentation}
 use Rattle.rules.specs.Run.{stages, run}
 use Rattle.bars.specs.Tests.{barredMost}
+use Rattle.swaps.specs.Walks.{walk}
+use Rattle.swaps.specs.Second.{dearest, second}
 use Rattle.sheet.specs.Reading.{sheetMost, noteMost, sheetTests, read}
 use Rattle.lines.specs.Decimal.{digits, decimal, signedDecimal}
-use Rattle.lines.specs.Lines.{acceptedLine, rowLine, rowLines, spareLine, spareLines, refusedLine, output}
+use Rattle.lines.specs.Lines.{acceptedLine, rowLine, rowLines, spareLine, spareLines, columnsText, refusedLine, output}
 
 -- digits as text
 text : List ℕ → List ℕ
@@ -41,24 +43,34 @@ least : signedDecimal (negsuc 9223372036854775807) ≡ 45 ∷ text (9 ∷ 2 ∷ 
 unfolding digits text
 least = refl
 
--- "The program's whole output for N8 is four lines: `accepted 3 total 1`, `0 2 0`, `1 0 0`, `2 1 1`."
+-- "The program's whole output for N8 is four lines: `accepted 3 total 1`, `0 2 0`, `1 0 0`, `2 1 1`", and a last line: `also 1 0 2`.
 n8 : output (sheetOf [] 3 (map pos (3 ∷ 1 ∷ 0 ∷ 0 ∷ 0 ∷ 2 ∷ 4 ∷ 1 ∷ 0 ∷ [])))
     ≡ 97 ∷ 99 ∷ 99 ∷ 101 ∷ 112 ∷ 116 ∷ 101 ∷ 100 ∷ 32 ∷ 51 ∷ 32 ∷ 116 ∷ 111 ∷ 116 ∷ 97 ∷ 108 ∷ 32 ∷ 49 ∷ 10
     ∷ 48 ∷ 32 ∷ 50 ∷ 32 ∷ 48 ∷ 10
     ∷ 49 ∷ 32 ∷ 48 ∷ 32 ∷ 48 ∷ 10
     ∷ 50 ∷ 32 ∷ 49 ∷ 32 ∷ 49 ∷ 10
+    ∷ 97 ∷ 108 ∷ 115 ∷ 111 ∷ 32 ∷ 49 ∷ 32 ∷ 48 ∷ 32 ∷ 50 ∷ 10
     ∷ []
-unfolding digits turns upward downward until first table sum flatMap bytesOf valueOf fields _then_ failsBy failsAtBy K sheetSide sheetMost noteMost barredMost sheetTests read filledCosts reachedMask columnsMask pairedMask acceptedLine rowLine rowLines spareLine spareLines refusedLine output twoLowest lowest leastBut block free claims transfers columnReduction looks rowReduction scan lastFree searchBlocks search newPrices flips augments augmentation stages run
+unfolding digits turns upward downward until first table sum flatMap bytesOf valueOf fields _then_ failsBy failsAtBy K sheetSide sheetMost noteMost barredMost sheetTests read filledCosts reachedMask columnsMask pairedMask acceptedLine rowLine rowLines spareLine spareLines columnsText refusedLine output twoLowest lowest leastBut block free claims transfers columnReduction looks rowReduction scan lastFree searchBlocks search newPrices flips augments augmentation stages run dearest walk second
 n8 = refl
 
--- A row with costs 1 0: `accepted 2 total 0`, `0 1 0`, `spare 0`.
+-- A row with costs 1 0: `accepted 2 total 0`, `0 1 0`, `spare 0`, `only`.
 one-row : output (sheetOblong [] 1 2 (map pos (1 ∷ 0 ∷ [])))
     ≡ 97 ∷ 99 ∷ 99 ∷ 101 ∷ 112 ∷ 116 ∷ 101 ∷ 100 ∷ 32 ∷ 50 ∷ 32 ∷ 116 ∷ 111 ∷ 116 ∷ 97 ∷ 108 ∷ 32 ∷ 48 ∷ 10
     ∷ 48 ∷ 32 ∷ 49 ∷ 32 ∷ 48 ∷ 10
     ∷ 115 ∷ 112 ∷ 97 ∷ 114 ∷ 101 ∷ 32 ∷ 48 ∷ 10
+    ∷ 111 ∷ 110 ∷ 108 ∷ 121 ∷ 10
     ∷ []
-unfolding digits turns upward downward until first table sum flatMap bytesOf valueOf fields _then_ failsBy failsAtBy K sheetSide sheetMost noteMost barredMost sheetTests read filledCosts reachedMask columnsMask pairedMask acceptedLine rowLine rowLines spareLine spareLines refusedLine output twoLowest lowest leastBut block free claims transfers columnReduction looks rowReduction scan lastFree searchBlocks search newPrices flips augments augmentation stages run
+unfolding digits turns upward downward until first table sum flatMap bytesOf valueOf fields _then_ failsBy failsAtBy K sheetSide sheetMost noteMost barredMost sheetTests read filledCosts reachedMask columnsMask pairedMask acceptedLine rowLine rowLines spareLine spareLines columnsText refusedLine output twoLowest lowest leastBut block free claims transfers columnReduction looks rowReduction scan lastFree searchBlocks search newPrices flips augments augmentation stages run dearest walk second
 one-row = refl
+
+-- "for side 0 `only`": `accepted 0 total 0`, `only`.
+nobody : output (sheetOf [] 0 [])
+    ≡ 97 ∷ 99 ∷ 99 ∷ 101 ∷ 112 ∷ 116 ∷ 101 ∷ 100 ∷ 32 ∷ 48 ∷ 32 ∷ 116 ∷ 111 ∷ 116 ∷ 97 ∷ 108 ∷ 32 ∷ 48 ∷ 10
+    ∷ 111 ∷ 110 ∷ 108 ∷ 121 ∷ 10
+    ∷ []
+unfolding digits turns upward downward until first table sum flatMap bytesOf valueOf fields _then_ failsBy failsAtBy K sheetSide sheetMost noteMost barredMost sheetTests read filledCosts reachedMask columnsMask pairedMask acceptedLine rowLine rowLines spareLine spareLines columnsText refusedLine output twoLowest lowest leastBut block free claims transfers columnReduction looks rowReduction scan lastFree searchBlocks search newPrices flips augments augmentation stages run dearest walk second
+nobody = refl
 
 -- No bytes at all: `refused 11 place 0`.
 empty : output [] ≡ 114 ∷ 101 ∷ 102 ∷ 117 ∷ 115 ∷ 101 ∷ 100 ∷ 32 ∷ 49 ∷ 49 ∷ 32 ∷ 112 ∷ 108 ∷ 97 ∷ 99 ∷ 101 ∷ 32 ∷ 48 ∷ 10 ∷ []

@@ -1,8 +1,8 @@
 -- Spare columns: their lines, which they are, and that a night of as many rows as columns has none. Assumes nothing.
-use mathlib.Core.Path.{_≡_, refl, sym, _∙_}
+use mathlib.Core.Path.{_≡_, refl, sym, ap, ap₂, _∙_}
 use mathlib.Core.Bool.{true, false, true≢false}
 use mathlib.Core.Logic.{_↔_}
-use mathlib.Core.List.{List, [], _∷_, _++_, append-nil}
+use mathlib.Core.List.{List, [], _∷_, _++_}
 use Prim.Native.Nat.{ℕ, zero, suc, _<_}
 use native.Mathlib.Omega.{arith}
 use borrow.Author.Tests.{eq-eqb, eqb-true}
@@ -17,7 +17,7 @@ use Rattle.sheet.specs.Settle.{found}
 use Rattle.sheet.proofs.Pairing.{Readable}
 use Rattle.sheet.proofs.Solver.{owed}
 use Rattle.lines.specs.Decimal.{digits}
-use Rattle.lines.specs.Lines.{acceptedLine, rowLines, spareLine, used, spareAt, spareLines, nightLines}
+use Rattle.lines.specs.Lines.{acceptedLine, rowLines, spareLine, used, spareAt, spareLines, secondLine, secondOf, nightLines}
 
 -- One row, paired with column 1 of 3: `spare 0`, `spare 2`.
 rising : spareLines 1 (1 ∷ []) 3 ≡ 115 ∷ 112 ∷ 97 ∷ 114 ∷ 101 ∷ 32 ∷ 48 ∷ 10 ∷ 115 ∷ 112 ∷ 97 ∷ 114 ∷ 101 ∷ 32 ∷ 50 ∷ 10 ∷ []
@@ -48,12 +48,14 @@ pub spares-none : (m : ℕ) (cols : List ℕ) (k : ℕ) → ((j : ℕ) → j < k
 spares-none m cols zero h = spares-start m cols
 spares-none m cols (suc k) h = spares-more m cols k ∙ rw (spares-none m cols k (λ j l. h j (omega arith)), h k (omega arith))
 
--- A night of as many rows as columns, as every night of editions 1 and 2 is: the first line and those of its rows.
+-- A night of as many rows as columns, as every night of editions 1 and 2 is: the first line, those of its rows and the last.
 pub square-lines : (room : ℕ) (laid : Laid) → Readable room laid → laid .rowCount ≡ laid .side
-    → nightLines laid ≡ acceptedLine (laid .side) (found laid .total) ++ rowLines (laid .side) (laid .costs) (found laid .cols) (laid .side)
+    → nightLines laid
+    ≡ acceptedLine (laid .side) (found laid .total) ++ (rowLines (laid .side) (laid .costs) (found laid .cols) (laid .side) ++ secondLine (secondOf laid))
 square-lines room laid right e =
     let n = laid .side in
     let a = found laid in
     let back = owed (laid .edition) (laid .rowCount) n (laid .costs) (laid .bars) (right .filled) (right .rows) (right .fewer) (right .small) (right .passes) .named-back in
     let none : spareLines n (a .cols) n ≡ [] = spares-none n (a .cols) n (λ j l. used-by n (a .cols) j (at (a .rows) j) (back .inside j l) (back .back j l)) in
-    rw (e, none, append-nil (rowLines n (laid .costs) (a .cols) n))
+    ap₂ (λ (k : ℕ) (l : List ℕ). acceptedLine n (a .total) ++ (rowLines n (laid .costs) (a .cols) k ++ (l ++ secondLine (secondOf laid)))) e
+    (ap (λ (k : ℕ). spareLines k (a .cols) n) e ∙ none)

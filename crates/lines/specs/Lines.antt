@@ -9,9 +9,11 @@ use Rattle.lists.specs.Permutations.{at}
 use Rattle.lists.specs.Counts.{some}
 use Rattle.layout.specs.Slips.{slipLength}
 use Rattle.assignment.specs.Pairings.{signedAt}
+use Rattle.bars.specs.Barred.{nightOf}
 use Rattle.matrix.specs.Limits.{sheetSide}
 use Rattle.matrix.specs.Refusals.{numberOf, placeOf, NoPairing}
 use Rattle.matrix.specs.declared.Refusal.{Refusal}
+use Rattle.swaps.specs.Second.{Answer, only, also, second}
 use Rattle.sheet.specs.Reading.{Laid, Read, refused, night, read}
 use Rattle.sheet.specs.Settle.{found, barredRow}
 use Rattle.lines.specs.Decimal.{decimal, signedDecimal}
@@ -27,6 +29,14 @@ totalText = 32 ∷ 116 ∷ 111 ∷ 116 ∷ 97 ∷ 108 ∷ 32 ∷ []
 -- "spare "
 abbrev pub spareText : List ℕ
 spareText = 115 ∷ 112 ∷ 97 ∷ 114 ∷ 101 ∷ 32 ∷ []
+
+-- "only"
+abbrev pub onlyText : List ℕ
+onlyText = 111 ∷ 110 ∷ 108 ∷ 121 ∷ []
+
+-- "also"
+abbrev pub alsoText : List ℕ
+alsoText = 97 ∷ 108 ∷ 115 ∷ 111 ∷ []
 
 -- "refused "
 abbrev pub refusedText : List ℕ
@@ -74,6 +84,16 @@ unfoldable pub spareLines : ℕ → List ℕ → ℕ → List ℕ
 spareLines m cols zero = []
 spareLines m cols (suc k) = spareLines m cols k ++ spareAt m cols k
 
+-- "the second's columns, each after one blank": the first k of them.
+unfoldable pub columnsText : List ℕ → ℕ → List ℕ
+columnsText cols zero = []
+columnsText cols (suc k) = columnsText cols k ++ (blank ++ decimal (at cols k))
+
+-- "a last line: `only`, or `also` and the second's columns".
+abbrev pub secondLine : Answer → List ℕ
+secondLine only = onlyText ++ feed
+secondLine (also cols) = alsoText ++ (columnsText cols (length cols) ++ feed)
+
 -- "A refusal is the one line "refused N place P"."
 unfoldable pub refusedLine : Refusal → List ℕ
 refusedLine refusal = refusedText ++ (decimal (numberOf refusal) ++ (placeText ++ (decimal (placeOf refusal) ++ feed)))
@@ -82,13 +102,19 @@ refusedLine refusal = refusedText ++ (decimal (numberOf refusal) ++ (placeText +
 abbrev pub noPairing : Refusal
 noPairing = record { number = NoPairing; place = 0; slack = pos 0 }
 
+-- Whether another pairing of the night has the total of the one found. Columns and row prices behind those of its rows do not count.
+abbrev pub secondOf : Laid → Answer
+secondOf laid =
+    let a = found laid in
+    second (nightOf (laid .rowCount) (laid .side) (laid .costs) (laid .bars)) (a .rowPrices) (a .columnPrices) (a .cols)
+
 -- The lines of a paired night: "the side written is n", and the costs are those of the sheet.
 abbrev pub nightLines : Laid → List ℕ
 nightLines laid =
     let m = laid .rowCount in
     let n = laid .side in
     let cols = found laid .cols in
-    acceptedLine n (found laid .total) ++ (rowLines n (laid .costs) cols m ++ spareLines m cols n)
+    acceptedLine n (found laid .total) ++ (rowLines n (laid .costs) cols m ++ (spareLines m cols n ++ secondLine (secondOf laid)))
 
 -- The lines of a sheet as it was read.
 abbrev pub linesAs : Read → List ℕ

@@ -1,15 +1,20 @@
 // The program's lines: from a sheet's bytes to the bytes that are written. What is promised is said in specs/.
 ghost use mathlib.Core.Path.{_≡_};
+ghost use mathlib.Core.Bool.{true, cond};
 ghost use mathlib.Core.List.{[], _∷_, _++_};
-ghost use Prim.Native.Nat.{_+_, _*_, _%_, _<_, _≤_};
+ghost use Prim.Native.Nat.{ℕ, _+_, _*_, _%_, _<_, _≤_};
 ghost use lib.ListN.{length, take};
+ghost use Rattle.lists.specs.Permutations.{at};
+ghost use Rattle.swaps.specs.Second.{only, also};
+ghost use Rattle.swaps.specs.Found.{another, writtenFront};
 ghost use Rattle.lines.specs.Decimal.{decimal, signedDecimal};
 ghost use Rattle.lines.specs.Put.{Put};
-ghost use Rattle.lines.specs.Lines.{acceptedLine, rowLine, rowLines, spareLine, used, spareAt, spareLines, refusedLine, noPairing, Printed, printed};
-ghost use Rattle.lines.specs.Asked.{Rows};
+ghost use Rattle.lines.specs.Lines.{blank, acceptedLine, rowLine, rowLines, spareLine, used, spareAt, spareLines, columnsText, secondLine, refusedLine, noPairing, Printed, printed};
+ghost use Rattle.lines.specs.Asked.{Rows, Columns, Searchable, secondIn, stateLines, Ready};
 use matrix::Refusal;
 use sheet::Reply;
 use sheet::State;
+use swaps::search::find_second;
 
 // A byte at a position.
 fn put_byte(out: &mut [u8], place: usize, byte: u8) -> usize
@@ -191,15 +196,107 @@ fn put_arrays(
     put_spares(out, next, m, n, &all_cols[0..n])
 }
 
+// A column of at most two digits, after a blank.
+fn put_column(out: &mut [u8], place: usize, column: u32) -> usize
+    requires { ⌜ (column < 100) × (place + 3 ≤ length (now out)) ⌝ }
+    ensures { λ r. ⌜ Put (now (out .entry)) place (blank ++ decimal column) (now (out .exit)) r × (r ≤ place + 3) ⌝ }
+{
+    let after_blank = put_byte(out, place, b' ');
+    put_decimal(out, after_blank, column as u64)
+}
+
+// The first m columns of a list, each after a blank.
+fn put_columns(out: &mut [u8], place: usize, m: usize, cols: &[u32]) -> usize
+    requires { ⌜ Columns m (now cols) (place + 3 * m) (now out) ⌝ }
+    ensures { λ r. ⌜ Put (now (out .entry)) place (columnsText (now (cols .entry)) m) (now (out .exit)) r × (r ≤ place + 3 * m) ⌝ }
+{
+    let mut next = place;
+    let mut i = 0;
+    while i < m {
+        next = put_column(out, next, cols[i]);
+        i += 1;
+    }
+    next
+}
+
+// The last line: the first m columns of an array, where they are another pairing's.
+fn put_second(out: &mut [u8], place: usize, another: bool, m: usize, list: &[u32; 64]) -> usize
+    requires { ⌜ (m ≤ 64) × (another ≡ true → (i : ℕ) → i < m → at (now list) i < 100) × (place + 5 + 3 * m ≤ length (now out)) ⌝ }
+    ensures { λ r. ⌜ Put (now (out .entry)) place (secondLine (cond another (also (take m (now (list .entry)))) only)) (now (out .exit)) r × (r ≤ place + 5 + 3 * m) ⌝ }
+{
+    if another {
+        let cols: &[u32] = list;
+        let after_word = put_text(out, place, b"also");
+        let after_columns = put_columns(out, after_word, m, cols);
+        return put_byte(out, after_columns, b'\n');
+    }
+    put_text(out, place, b"only\n")
+}
+
+// Whether another pairing of the night at the front of the arrays has the total of the one found.
+fn find_arrays(
+    m: usize,
+    n: usize,
+    costs: &[i32; 4096],
+    bars: &[u64; 64],
+    cols: &[u32; 64],
+    us: &[i64; 64],
+    vs: &[i64; 64],
+    list: &mut [u32; 64],
+    indices: &mut [u32; 256],
+    numbers: &mut [i64; 64],
+) -> bool
+    requires { ⌜ Searchable m n (take (m * n) (now costs)) (take n (now bars)) (take n (now cols)) (take n (now us)) (take n (now vs)) ⌝ }
+    ensures { λ r. ⌜ (r ≡ another (secondIn m n (now (costs .entry)) (now (bars .entry)) (now (cols .entry)) (now (us .entry)) (now (vs .entry)))) × (now (list .exit) ≡ writtenFront m (secondIn m n (now (costs .entry)) (now (bars .entry)) (now (cols .entry)) (now (us .entry)) (now (vs .entry))) (now (list .entry))) ⌝ }
+{
+    let count = m * n;
+    let all_costs: &[i32] = costs;
+    let all_bars: &[u64] = bars;
+    let all_cols: &[u32] = cols;
+    let all_us: &[i64] = us;
+    let all_vs: &[i64] = vs;
+    find_second(
+        m,
+        n,
+        &all_costs[0..count],
+        &all_bars[0..n],
+        &all_cols[0..n],
+        &all_us[0..n],
+        &all_vs[0..n],
+        list,
+        indices,
+        numbers,
+    )
+}
+
 // The lines of a night that is settled.
 fn put_night(out: &mut [u8], m: usize, n: usize, total: i64, state: State) -> usize
-    requires { ⌜ (n ≤ 64) × Rows m n (take (n * n) (state .costs)) (take n (state .cols)) (80 + 80 * m + 27 * n + 80) (now out) ⌝ }
-    ensures { λ r. ⌜ Put (now (out .entry)) 0 (acceptedLine n total ++ (rowLines n (take (n * n) (state .costs)) (take n (state .cols)) m ++ spareLines m (take n (state .cols)) n)) (now (out .exit)) r × (r ≤ 80 + 80 * m + 27 * n) ⌝ }
+    requires { ⌜ Ready m n state (now out) ⌝ }
+    ensures { λ r. ⌜ Put (now (out .entry)) 0 (stateLines m n total state) (now (out .exit)) r × (r ≤ 85 + 83 * m + 27 * n) ⌝ }
 {
     let costs = state.costs;
+    let bars = state.bars;
     let cols = state.cols;
+    let us = state.row_prices;
+    let vs = state.col_prices;
+    let mut indices = state.indices;
+    let mut numbers = state.numbers;
+    let mut list = [0u32; 64];
     let place = put_accepted(out, n, total);
-    put_arrays(out, place, m, n, &costs, &cols)
+    let next = put_arrays(out, place, m, n, &costs, &cols);
+    let another = find_arrays(
+        m,
+        n,
+        &costs,
+        &bars,
+        &cols,
+        &us,
+        &vs,
+        &mut list,
+        &mut indices,
+        &mut numbers,
+    );
+    put_second(out, next, another, m, &list)
 }
 
 // 20.

@@ -1,13 +1,15 @@
 //! Times the crate lapjv 0.3.0 on f64, the archive on the same matrices, the archive's checker on what it paired, and other solvers where
 //! they are at hand, and writes the medians and their ratios as a table; then a repair of one changed row against a fresh
-//! run, and sheets of side 64.
+//! run, a second pairing against the checker, and sheets of side 64.
 //!
 //!     bench [--seed S] [--matrices M] [--rounds R] [--largest N]
+//!     bench seconds
 //!     bench picture < TABLE > PICTURE
 //!
 //! M matrices of each kind and side (3) are solved R times each (5), by the crate and by the archive in turn, after
 //! one round that is not counted; of a side over 1,024 one matrix, 3 times at most. Sides over N (4,096) are left out.
-//! layouts.sh runs it in several layouts. The second command draws a table as SVG.
+//! layouts.sh runs it in several layouts. The second command writes the table of second pairings alone; the third draws a
+//! table as SVG.
 //!
 //! What is timed: the crate's `lapjv` on a matrix of f64 that is made beforehand; the archive's solver on a slice
 //! of i32, into lists that are allocated once for each matrix beforehand. Nobody clears those lists between runs;
@@ -19,6 +21,7 @@ mod matrix;
 mod peers;
 mod picture;
 mod repairs;
+mod seconds;
 mod sheets;
 
 use std::process::ExitCode;
@@ -49,8 +52,14 @@ struct Settings {
     largest: u64,
 }
 
+impl Default for Settings {
+    fn default() -> Self {
+        Settings { seed: 1, matrices: 3, rounds: 5, largest: LARGEST_SIDE as u64 }
+    }
+}
+
 fn settings() -> Result<Settings, String> {
-    let mut settings = Settings { seed: 1, matrices: 3, rounds: 5, largest: LARGEST_SIDE as u64 };
+    let mut settings = Settings::default();
     command::numbers(&mut [
         ("--seed", &mut settings.seed),
         ("--matrices", &mut settings.matrices),
@@ -187,12 +196,17 @@ fn run() -> Result<(), String> {
         }
     }
     repairs::table(&settings, &mut random)?;
+    seconds::table(&settings, &mut random)?;
     sheets::table(&settings, &mut random)
 }
 
 fn main() -> ExitCode {
     std::hint::black_box(bench_shift as *const ());
-    let done = if std::env::args().nth(1).as_deref() == Some("picture") { picture::draw() } else { run() };
+    let done = match std::env::args().nth(1).as_deref() {
+        Some("picture") => picture::draw(),
+        Some("seconds") => seconds::table(&Settings::default(), &mut Random::new(1)),
+        _ => run(),
+    };
     match done {
         Ok(()) => ExitCode::SUCCESS,
         Err(failure) => {

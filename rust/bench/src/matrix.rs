@@ -2,19 +2,20 @@
 
 use std::time::{Duration, Instant};
 
-use bristlefrost::Lists;
+use bristlefrost::{LentSecond, Lists};
 use differential::oracle;
 
 pub struct Matrix {
     pub n: usize,
     pub costs: Vec<i32>,
     pub lists: Lists,
+    second: Vec<u32>,
     floats: oracle::Floats,
 }
 
 impl Matrix {
     pub fn new(n: usize, costs: Vec<i32>) -> Self {
-        Matrix { n, floats: oracle::Floats::new(n, &costs), costs, lists: Lists::new(n) }
+        Matrix { n, floats: oracle::Floats::new(n, &costs), costs, lists: Lists::new(n), second: vec![0; n] }
     }
 
     pub fn by_crate(&self) -> (Duration, Option<oracle::Pairing>) {
@@ -44,5 +45,14 @@ impl Matrix {
         let Lists { columns, rows, row_prices, column_prices, .. } = &self.lists;
         let checked = bristlefrost::check(self.n, &self.costs, columns, rows, row_prices, column_prices);
         (start.elapsed(), checked.map_err(|refusal| refusal.to_string()))
+    }
+
+    /// A second pairing of what the lists hold: the total, and whether there is one.
+    pub fn by_second(&mut self) -> (Duration, Result<(i64, bool), String>) {
+        let Lists { columns, rows, row_prices, column_prices, indices, numbers } = &mut self.lists;
+        let lent = LentSecond { second: &mut self.second, indices, numbers };
+        let start = Instant::now();
+        let told = bristlefrost::second_into(self.n, &self.costs, columns, rows, row_prices, column_prices, lent);
+        (start.elapsed(), told.map_err(|refusal| refusal.to_string()))
     }
 }

@@ -52,10 +52,10 @@
  *   26  a row's column is barred to it                              the first row
  *   27  a spare column's price below that of a used one             the first such spare column
  *   28  a piece or an end after the end of a sheet in pieces        0
- * Lists are numbered 1 columns by row, 2 rows by column, 3 row prices, 4 column prices, 5 bars. A refusal has total 0
- * and counts 0 and changes nothing that was lent, but for the state of a sheet in pieces (below) and, with 20, the first
- * 8 bytes of the slip's room. With 9 and 10 comes the slack of the place named, its cost minus both its prices: below 0
- * with a 9, above 0 with a 10. All others have slack 0. */
+ * Lists are numbered 1 columns by row, 2 rows by column, 3 row prices, 4 column prices, 5 bars, 6 the columns of a second
+ * pairing. A refusal has total 0 and counts 0 and changes nothing that was lent, but for the state of a sheet in pieces
+ * (below) and, with 20, the first 8 bytes of the slip's room. With 9 and 10 comes the slack of the place named, its cost
+ * minus both its prices: below 0 with a 9, above 0 with a 10. All others have slack 0. */
 
 #ifndef BRISTLEFROST_H
 #define BRISTLEFROST_H
@@ -117,6 +117,14 @@ typedef struct {
     int64_t slack; /* of refusals 9 and 10 */
 } bristlefrost_checked;
 
+/* What is told of a second pairing. */
+typedef struct {
+    uint64_t refusal;
+    int64_t total; /* of either */
+    int64_t slack; /* of refusals 9 and 10 */
+    uint64_t also; /* 1 where there is a second, 0 where there is only one */
+} bristlefrost_seconded;
+
 /* The answer of cost and score. */
 typedef struct {
     uint64_t refusal;
@@ -168,6 +176,48 @@ bristlefrost_checked bristlefrost_check_oblong(
     const uint32_t *cols, size_t cols_len,
     const int64_t *row_prices, size_t row_prices_len,
     const int64_t *col_prices, size_t col_prices_len);
+
+/* Whether another pairing has the total of this one. costs, cols, rows, row_prices, col_prices: as check takes them, and
+ * tested as there. Where there is another, the first n entries of second, list 6, are its columns; where there is only one,
+ * second is untouched. Which second is given is defined: always the same one of a pairing and its prices. second: at least
+ * n entries; indices, numbers: as for solve. Refusals 1 2 3 4 5 6 7 8 9 10. */
+bristlefrost_seconded bristlefrost_second(
+    size_t n,
+    const int32_t *costs, size_t costs_len,
+    const uint32_t *cols, size_t cols_len,
+    const uint32_t *rows, size_t rows_len,
+    const int64_t *row_prices, size_t row_prices_len,
+    const int64_t *col_prices, size_t col_prices_len,
+    uint32_t *second, size_t second_len,
+    uint32_t *indices, size_t indices_len,
+    int64_t *numbers, size_t numbers_len);
+
+/* The same for a night with bars, tested as check_barred does: only pairings without a barred pair count. Refusals 1 2 3 4
+ * 5 22 6 7 26 8 9 10. */
+bristlefrost_seconded bristlefrost_second_barred(
+    size_t n,
+    const int32_t *costs, size_t costs_len,
+    const uint32_t *cols, size_t cols_len,
+    const uint32_t *rows, size_t rows_len,
+    const int64_t *row_prices, size_t row_prices_len,
+    const int64_t *col_prices, size_t col_prices_len,
+    const uint64_t *bars, size_t bars_len,
+    uint32_t *second, size_t second_len,
+    uint32_t *indices, size_t indices_len,
+    int64_t *numbers, size_t numbers_len);
+
+/* The same for m rows and n columns, tested as check_oblong does: another choice of spare columns is another pairing.
+ * second: at least m entries, the first m are written; indices, numbers: at least 4n and n. Refusals 1 23 2 3 4 5 6 7 8 9
+ * 10 27. */
+bristlefrost_seconded bristlefrost_second_oblong(
+    size_t m, size_t n,
+    const int32_t *costs, size_t costs_len,
+    const uint32_t *cols, size_t cols_len,
+    const int64_t *row_prices, size_t row_prices_len,
+    const int64_t *col_prices, size_t col_prices_len,
+    uint32_t *second, size_t second_len,
+    uint32_t *indices, size_t indices_len,
+    int64_t *numbers, size_t numbers_len);
 
 /* The total over a list of at most n columns: the column of row 0, of row 1, and so on. Refusals 1 2 3 5 6. */
 bristlefrost_total bristlefrost_cost(

@@ -1,10 +1,10 @@
-//! A night on paper: a sheet in, a slip out, and the slip held against its sheet.
+//! A night on paper: a sheet in, a slip out, the slip held against its sheet, and another of the same total.
 
 use std::fmt;
 
 use paper::{Sheet, Slip};
 
-use crate::{check, check_barred, check_oblong, sheet, Refusal};
+use crate::{check, check_barred, check_oblong, second, second_barred, second_oblong, sheet, Refusal, Second};
 
 /// Pairs the night of a sheet.
 ///
@@ -109,6 +109,35 @@ pub fn audit(night: &Sheet, slip: &Slip) -> Result<(), Doubt> {
         Err(refusal) => Err(Doubt::Refused(refusal)),
         Ok(total) if total != slip.total => Err(Doubt::Total(total)),
         Ok(_) => Ok(()),
+    }
+}
+
+/// Whether another pairing of a sheet's night has the total of a slip's, which must be least by the slip's prices.
+///
+/// ```
+/// use bristlefrost::{another, pair, Sheet};
+///
+/// let night = Sheet::new(3, &[3, 1, 0, 0, 0, 2, 4, 1, 0])?;
+/// let slip = pair(&night)?;
+/// let second = another(&night, &slip)?;
+/// assert_eq!((&slip.columns[..], second.total, &second.also), (&[2, 0, 1][..], 1, &Some(vec![1, 0, 2])));
+/// let told: Vec<String> = second.swaps(&[2, 0, 1]).iter().map(|swap| swap.to_string()).collect();
+/// assert_eq!(told[0], "row 0 has column 2 and could have column 1, which row 2 has");
+///
+/// // With that place barred there is only one.
+/// let night = night.bar(0, 1)?;
+/// assert_eq!(another(&night, &pair(&night)?)?.also, None);
+/// # Ok::<(), Box<dyn std::error::Error>>(())
+/// ```
+pub fn another(night: &Sheet, slip: &Slip) -> Result<Second, Refusal> {
+    let (m, n) = (night.rows(), night.side());
+    let columns: Vec<u32> = slip.columns.iter().map(|&column| column.into()).collect();
+    let rows = rows_by_column(n, &columns);
+    let (costs, u, v) = (night.costs(), &slip.row_prices, &slip.column_prices);
+    match (night.edition(), night.bars()) {
+        (_, Some(bars)) => second_barred(n, costs, &columns, &rows, u, v, bars),
+        (3, _) => second_oblong(m, n, costs, &columns, u, v),
+        _ => second(n, costs, &columns, &rows, u, v),
     }
 }
 

@@ -2,7 +2,7 @@
 //! a caller: a slice's pointer is never null, is aligned and is valid for its length, and a slice that is written
 //! overlaps no other.
 
-use crate::{Lent, LONGEST_SHEET};
+use crate::{Lent, LentSecond, LONGEST_SHEET};
 
 #[repr(C)]
 pub struct Solved {
@@ -27,6 +27,14 @@ pub struct Checked {
     pub refusal: u64,
     pub total: i64,
     pub slack: i64,
+}
+
+#[repr(C)]
+pub struct Seconded {
+    pub refusal: u64,
+    pub total: i64,
+    pub slack: i64,
+    pub also: u64,
 }
 
 extern "C" {
@@ -90,6 +98,67 @@ extern "C" {
         col_prices: *const i64,
         col_prices_len: usize,
     ) -> Checked;
+
+    fn bristlefrost_second(
+        n: usize,
+        costs: *const i32,
+        costs_len: usize,
+        cols: *const u32,
+        cols_len: usize,
+        rows: *const u32,
+        rows_len: usize,
+        row_prices: *const i64,
+        row_prices_len: usize,
+        col_prices: *const i64,
+        col_prices_len: usize,
+        second: *mut u32,
+        second_len: usize,
+        indices: *mut u32,
+        indices_len: usize,
+        numbers: *mut i64,
+        numbers_len: usize,
+    ) -> Seconded;
+
+    fn bristlefrost_second_barred(
+        n: usize,
+        costs: *const i32,
+        costs_len: usize,
+        cols: *const u32,
+        cols_len: usize,
+        rows: *const u32,
+        rows_len: usize,
+        row_prices: *const i64,
+        row_prices_len: usize,
+        col_prices: *const i64,
+        col_prices_len: usize,
+        bars: *const u64,
+        bars_len: usize,
+        second: *mut u32,
+        second_len: usize,
+        indices: *mut u32,
+        indices_len: usize,
+        numbers: *mut i64,
+        numbers_len: usize,
+    ) -> Seconded;
+
+    fn bristlefrost_second_oblong(
+        m: usize,
+        n: usize,
+        costs: *const i32,
+        costs_len: usize,
+        cols: *const u32,
+        cols_len: usize,
+        row_prices: *const i64,
+        row_prices_len: usize,
+        col_prices: *const i64,
+        col_prices_len: usize,
+        second: *mut u32,
+        second_len: usize,
+        indices: *mut u32,
+        indices_len: usize,
+        numbers: *mut i64,
+        numbers_len: usize,
+    ) -> Seconded;
 
     fn bristlefrost_cost(
         n: usize,
@@ -237,6 +306,108 @@ pub fn check_oblong(
             row_prices.len(),
             column_prices.as_ptr(),
             column_prices.len(),
+        )
+    }
+}
+
+pub fn second(
+    n: usize,
+    costs: &[i32],
+    columns: &[u32],
+    rows: &[u32],
+    row_prices: &[i64],
+    column_prices: &[i64],
+    lent: LentSecond<'_>,
+) -> Seconded {
+    // Safety: every pointer and length come from one slice, and the mutable ones are exclusive.
+    unsafe {
+        bristlefrost_second(
+            n,
+            costs.as_ptr(),
+            costs.len(),
+            columns.as_ptr(),
+            columns.len(),
+            rows.as_ptr(),
+            rows.len(),
+            row_prices.as_ptr(),
+            row_prices.len(),
+            column_prices.as_ptr(),
+            column_prices.len(),
+            lent.second.as_mut_ptr(),
+            lent.second.len(),
+            lent.indices.as_mut_ptr(),
+            lent.indices.len(),
+            lent.numbers.as_mut_ptr(),
+            lent.numbers.len(),
+        )
+    }
+}
+
+#[allow(clippy::too_many_arguments)]
+pub fn second_barred(
+    n: usize,
+    costs: &[i32],
+    columns: &[u32],
+    rows: &[u32],
+    row_prices: &[i64],
+    column_prices: &[i64],
+    bars: &[u64],
+    lent: LentSecond<'_>,
+) -> Seconded {
+    // Safety: every pointer and length come from one slice, and the mutable ones are exclusive.
+    unsafe {
+        bristlefrost_second_barred(
+            n,
+            costs.as_ptr(),
+            costs.len(),
+            columns.as_ptr(),
+            columns.len(),
+            rows.as_ptr(),
+            rows.len(),
+            row_prices.as_ptr(),
+            row_prices.len(),
+            column_prices.as_ptr(),
+            column_prices.len(),
+            bars.as_ptr(),
+            bars.len(),
+            lent.second.as_mut_ptr(),
+            lent.second.len(),
+            lent.indices.as_mut_ptr(),
+            lent.indices.len(),
+            lent.numbers.as_mut_ptr(),
+            lent.numbers.len(),
+        )
+    }
+}
+
+pub fn second_oblong(
+    m: usize,
+    n: usize,
+    costs: &[i32],
+    columns: &[u32],
+    row_prices: &[i64],
+    column_prices: &[i64],
+    lent: LentSecond<'_>,
+) -> Seconded {
+    // Safety: every pointer and length come from one slice, and the mutable ones are exclusive.
+    unsafe {
+        bristlefrost_second_oblong(
+            m,
+            n,
+            costs.as_ptr(),
+            costs.len(),
+            columns.as_ptr(),
+            columns.len(),
+            row_prices.as_ptr(),
+            row_prices.len(),
+            column_prices.as_ptr(),
+            column_prices.len(),
+            lent.second.as_mut_ptr(),
+            lent.second.len(),
+            lent.indices.as_mut_ptr(),
+            lent.indices.len(),
+            lent.numbers.as_mut_ptr(),
+            lent.numbers.len(),
         )
     }
 }

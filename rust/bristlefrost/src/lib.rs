@@ -27,7 +27,8 @@
 //! # Ok::<(), bristlefrost::Refusal>(())
 //! ```
 //!
-//! Where the costs of one row change, a [`KeptNight`] is repaired with one search instead of paired anew.
+//! Where the costs of one row change, a [`KeptNight`] is repaired with one search instead of paired anew. Where two
+//! pairings have the same total, [`second`] tells it, and which rows could be swapped.
 //!
 //! The same on paper: a [`Sheet`] is built from costs or from a table of numbers, [`pair`] answers its [`Slip`], and
 //! [`audit`] holds a slip against its sheet on another machine. [`sheet`] does it on bytes, and [`Pieces`] on bytes that
@@ -43,12 +44,14 @@ pub mod face;
 mod kept;
 mod pieces;
 mod refusal;
+mod second;
 
-pub use desk::{audit, pair, Doubt};
+pub use desk::{another, audit, pair, Doubt};
 pub use kept::{Change, KeptNight};
-pub use paper::{references, Sheet, Slip, Unfit, LARGEST_BARRED_COST, LARGEST_COST};
+pub use paper::{references, swaps, Sheet, Slip, Swap, Unfit, LARGEST_BARRED_COST, LARGEST_COST};
 pub use pieces::Pieces;
 pub use refusal::{List, Refusal, Room};
+pub use second::{second, second_barred, second_into, second_oblong, LentSecond, Second};
 
 /// The largest side.
 pub const LARGEST_SIDE: usize = 4096;

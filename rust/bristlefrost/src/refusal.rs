@@ -15,6 +15,8 @@ pub enum List {
     ColumnPrices,
     /// 5: the columns barred to each row.
     Bars,
+    /// 6: the columns of a second pairing.
+    Second,
 }
 
 /// A work room, by its number.
@@ -159,6 +161,7 @@ impl Refusal {
             (3, 3) => Refusal::ListLength(List::RowPrices),
             (3, 4) => Refusal::ListLength(List::ColumnPrices),
             (3, 5) => Refusal::ListLength(List::Bars),
+            (3, 6) => Refusal::ListLength(List::Second),
             (4, 1) => Refusal::RoomShort(Room::Indices),
             (4, 2) => Refusal::RoomShort(Room::Numbers),
             (5, _) => Refusal::CostOutside { place },

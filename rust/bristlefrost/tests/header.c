@@ -1,4 +1,5 @@
-/* Document 01's night N8, its sheet of side 1, whole and in pieces, a barred sheet, and a score, through the header.
+/* Document 01's night N8 and its second pairing, the sheet of side 1, whole and in pieces, a barred sheet, and a score,
+ * through the header.
  * Status 0 where every answer is right. */
 
 #include <bristlefrost.h>
@@ -23,6 +24,24 @@ int main(void) {
     const uint32_t other[3] = {0, 1, 2};
     checked = bristlefrost_check(3, costs, 9, other, 3, other, 3, row_prices, 3, col_prices, 3);
     if (checked.refusal != BRISTLEFROST_PRICES_NOT_COST || checked.total != 0 || checked.slack != 2) return 9;
+
+    /* Columns 1 0 2 have the same total. [1 5 / 6 2] has only one pairing of its total. */
+    uint32_t second[4] = {9, 9, 9, 9};
+    bristlefrost_seconded seconded = bristlefrost_second(
+        3, costs, 9, cols, 3, rows, 3, row_prices, 3, col_prices, 3, second, 4, indices, 12, numbers, 3);
+    if (seconded.refusal != 0 || seconded.total != 1 || seconded.slack != 0 || seconded.also != 1) return 43;
+    if (second[0] != 1 || second[1] != 0 || second[2] != 2 || second[3] != 9) return 44;
+    seconded = bristlefrost_second(
+        3, costs, 9, other, 3, other, 3, row_prices, 3, col_prices, 3, second, 4, indices, 12, numbers, 3);
+    if (seconded.refusal != BRISTLEFROST_PRICES_NOT_COST || seconded.slack != 2 || seconded.also != 0) return 45;
+    seconded = bristlefrost_second(
+        3, costs, 9, cols, 3, rows, 3, row_prices, 3, col_prices, 3, second, 2, indices, 12, numbers, 3);
+    if (seconded.refusal != BRISTLEFROST_LIST_LENGTH + 256 * 6) return 46;
+    const int32_t square[4] = {1, 5, 6, 2};
+    const int64_t one_two[2] = {1, 2}, none[2] = {0, 0};
+    seconded = bristlefrost_second(
+        2, square, 4, other, 2, other, 2, one_two, 2, none, 2, second, 4, indices, 12, numbers, 3);
+    if (seconded.refusal != 0 || seconded.total != 3 || seconded.also != 0 || second[0] != 1) return 47;
 
     /* Row 1 becomes 9 9 9. A row that is not below the side comes first, and changes nothing. */
     const int32_t changed[9] = {3, 1, 0, 9, 9, 9, 4, 1, 0};
@@ -94,6 +113,14 @@ int main(void) {
     if (checked.refusal != BRISTLEFROST_BARRED_PAIR + 256 || checked.total != 0) return 35;
     checked = bristlefrost_check_barred(2, four, 4, crossed, 2, crossed, 2, us, 2, vs, 2, bars, 1);
     if (checked.refusal != BRISTLEFROST_LIST_LENGTH + 256 * 5) return 36;
+    const int32_t tied[4] = {5, 5, 6, 6};
+    const uint64_t open[2] = {0, 0}, shut[2] = {0, 2};
+    seconded = bristlefrost_second_barred(
+        2, tied, 4, crossed, 2, crossed, 2, us, 2, vs, 2, open, 2, second, 4, indices, 12, numbers, 3);
+    if (seconded.refusal != 0 || seconded.total != 11 || seconded.also != 1 || second[0] != 0 || second[1] != 1) return 48;
+    seconded = bristlefrost_second_barred(
+        2, tied, 4, crossed, 2, crossed, 2, us, 2, vs, 2, shut, 2, second, 4, indices, 12, numbers, 3);
+    if (seconded.refusal != 0 || seconded.total != 11 || seconded.also != 0) return 49;
     barred[24] = 4;
     if (bristlefrost_sheet(barred, 44, room, 57) != BRISTLEFROST_BARS_PAST_SIDE + 256) return 31;
     barred[16] = 2, barred[24] = 2;
@@ -110,6 +137,12 @@ int main(void) {
     if (checked.refusal != BRISTLEFROST_SPARE_BELOW || checked.total != 0) return 38;
     checked = bristlefrost_check_oblong(SIZE_MAX, 3, six, 6, chosen, 2, two, 2, three, 3);
     if (checked.refusal != BRISTLEFROST_ROWS_OVER + 256 * ((UINT64_C(1) << 56) - 1)) return 39;
+    const int32_t alike_too[6] = {3, 3, 4, 6, 7, 1};
+    seconded = bristlefrost_second_oblong(
+        2, 3, alike_too, 6, chosen, 2, two, 2, three, 3, second, 2, indices, 12, numbers, 3);
+    if (seconded.refusal != 0 || seconded.total != 4 || seconded.also != 1 || second[0] != 0 || second[1] != 2) return 50;
+    seconded = bristlefrost_second_oblong(2, 3, six, 6, chosen, 2, two, 2, three, 3, second, 2, indices, 12, numbers, 3);
+    if (seconded.refusal != 0 || seconded.total != 4 || seconded.also != 0) return 51;
     const uint8_t oblong[22] = {7, 0, 0, 0, 6, 0, 0, 0, 1, 0, 10, 0, 0, 0, 2, 0, 3, 0, 0x4D, 0x54, 0x43, 0x48};
     if (bristlefrost_sheet(oblong, 22, room, 47) != BRISTLEFROST_SLIP_ROOM_SHORT) return 40;
     if (bristlefrost_sheet(oblong, 22, room, 48) != 0) return 41;

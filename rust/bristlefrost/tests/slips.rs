@@ -30,10 +30,29 @@ fn slips_of_the_samples() {
         fs::write(&written, &output.stdout).expect("the slip is kept");
         let audited = slip(&[Path::new("audit"), &sheet, &written], &sheet);
         assert_eq!(String::from_utf8_lossy(&audited.stdout), format!("{first}\n"));
+        told_swaps(&slip(&[Path::new("swaps"), &sheet, &written], &sheet), &output.stdout);
         wrong_slips(&sheet, &output.stdout, &written);
         accepted += 1;
     }
     assert!(accepted >= 10 && refused >= 12, "{accepted} accepted, {refused} refused");
+}
+
+/// `only`, or `also` with as many columns as rows, another pairing, and a line for each row that has another column.
+fn told_swaps(output: &Output, slip_bytes: &[u8]) {
+    let columns = Slip::read(slip_bytes).expect("a slip").columns;
+    assert!(output.status.success());
+    let text = String::from_utf8_lossy(&output.stdout);
+    let lines: Vec<&str> = text.lines().collect();
+    let mut words = lines[0].split(' ');
+    let first = words.next();
+    let second: Vec<u16> = words.map(|word| word.parse().expect("a column")).collect();
+    let moved = columns.iter().zip(&second).filter(|(column, other)| column != other).count();
+    assert_eq!(lines.len(), 1 + moved);
+    match first {
+        Some("only") => assert!(second.is_empty()),
+        Some("also") => assert!(second.len() == columns.len() && moved > 0),
+        _ => panic!("{text}"),
+    }
 }
 
 /// A slip with any bit of its total turned is not accepted.

@@ -9,7 +9,7 @@ use crate::checks::{self, expect};
 use crate::nights::Random;
 use crate::rules::{self, Answer};
 use crate::sheets::{self, Sheet};
-use crate::{paper, refusals, scores, K};
+use crate::{paper, refusals, scores, seconded, K};
 
 /// How often each entry answered each number; 0 is acceptance.
 #[derive(Default)]
@@ -21,11 +21,14 @@ impl Met {
     }
 
     /// The numbers that each entry can answer, in its order.
-    const ALL: [(&'static str, &'static [u64]); 11] = [
+    const ALL: [(&'static str, &'static [u64]); 14] = [
         ("solve", &[0, 1, 2, 3, 4, 5]),
         ("check", &[0, 1, 2, 3, 5, 6, 7, 8, 9, 10]),
         ("check with bars", &[0, 1, 2, 3, 5, 22, 6, 7, 26, 8, 9, 10]),
         ("check of fewer rows", &[0, 1, 23, 2, 3, 5, 6, 7, 8, 9, 10, 27]),
+        ("second", &[0, 1, 2, 3, 4, 5, 6, 7, 8, 9, 10]),
+        ("second with bars", &[0, 1, 2, 3, 4, 5, 22, 6, 7, 26, 8, 9, 10]),
+        ("second of fewer rows", &[0, 1, 23, 2, 3, 4, 5, 6, 7, 8, 9, 10, 27]),
         ("cost", &[0, 1, 2, 3, 5, 6]),
         ("repair", &[0, 1, 2, 3, 4, 5, 6, 7, 8, 24, 9, 10]),
         ("sheet", &[0, 17, 11, 12, 13, 23, 14, 15, 21, 16, 5, 22, 20]),
@@ -303,6 +306,10 @@ pub fn night(random: &mut Random, met: &mut Met, n: usize, costs: &[i32], answer
     let code = check(n, costs, &lists)?;
     expect("the solver's answer is accepted", &code, &0)?;
     met.note("check", code);
+    let rooms = seconded::rooms(random, n, n);
+    let code = seconded::square(random, n, costs, &lists, rooms)?;
+    expect("a second is told of the solver's answer", &code, &0)?;
+    met.note("second", code);
 
     met.note("cost", cost(n, costs, &lists.columns[..n])?);
     let listed: Vec<u32> = (0..random.below(n + 1)).map(|_| random.below(n) as u32).collect();
@@ -354,6 +361,14 @@ pub fn limits(random: &mut Random) -> Result<(), String> {
         };
         limit("checker's side at its limit", check(n, &full[..n * n], &lists)?, code)?;
         limit("side over that of bars", check_barred(n, &full[..n * n], &lists, &vec![0; n])?, 1)?;
+        let rooms = [n, 4 * n, n];
+        limit("a second's side at its limit", seconded::square(random, n, &full[..n * n], &lists, rooms)?, code)?;
+        for (list, short) in [(0, 3 + 256 * 6), (1, 4 + 256), (2, 4 + 512)] {
+            let mut rooms = rooms;
+            rooms[list] -= 1;
+            let found = seconded::square(random, n, &full[..n * n], &lists, rooms)?;
+            limit("a second's room at its limit", found, if code == 0 { short } else { code })?;
+        }
         limit("cost's side at its limit", cost(n, &full[..n * n], &identity)?, code)?;
     }
     let places = SIDE * SIDE;

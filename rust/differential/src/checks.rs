@@ -3,6 +3,7 @@
 
 use crate::oracle::Floats;
 use crate::rules::{self, Answer};
+use crate::seconds::{self, Shown};
 use crate::{matching, refusals, K};
 
 /// Solves a night by the rules and tests the answer in every way; says what failed.
@@ -11,9 +12,11 @@ pub fn night(n: usize, costs: &[i32]) -> Result<Answer, String> {
     with_crate(n, costs, &answer)?;
     priced(n, costs, &answer)?;
     bounds(n, &answer)?;
-    if n <= 7 {
-        expect("total against every permutation", &answer.total, &least(n, costs))?;
+    let ways = (n <= 7).then(|| least_ways(n, n, costs, None));
+    if let Some(ways) = ways {
+        expect("total against every permutation", &Some(answer.total), &ways.map(|(least, _)| least))?;
     }
+    second_of(n, n, costs, None, &answer, ways)?;
     Ok(answer)
 }
 
@@ -23,9 +26,13 @@ pub fn night(n: usize, costs: &[i32]) -> Result<Answer, String> {
 pub fn barred(n: usize, costs: &[i32], bars: &[u64]) -> Result<Result<Answer, u64>, String> {
     let answer = night(n, &matching::filled(n, costs, bars))?;
     let pairable = matching::pairable(n, bars);
-    if n <= 7 {
-        let least = least_allowed(n, costs, bars);
-        expect("total against every pairing without a barred pair", &pairable.then_some(answer.total), &least)?;
+    let ways = (n <= 7).then(|| least_ways(n, n, costs, Some(bars)));
+    if let Some(ways) = ways {
+        let (total, least) = (pairable.then_some(answer.total), ways.map(|(least, _)| least));
+        expect("total against every pairing without a barred pair", &total, &least)?;
+    }
+    if pairable {
+        second_of(n, n, costs, Some(bars), &answer, ways)?;
     }
     let rows = matching::reached(n, bars, &answer.columns);
     expect("a barred pair is made exactly if there is no other way", &rows.is_none(), &pairable)?;
@@ -34,16 +41,55 @@ pub fn barred(n: usize, costs: &[i32], bars: &[u64]) -> Result<Result<Answer, u6
 }
 
 /// Solves a night of m rows and n columns by the rules, with rows of zeros below, and tests the answer in every way: that
-/// it is the crate's, that no choice of columns costs less, to 6 by 7, and that its first m rows prove that.
+/// it is the crate's, that no choice of columns costs less, to side 7, and that its first m rows prove that.
 pub fn oblong(m: usize, n: usize, costs: &[i32]) -> Result<Answer, String> {
     let answer = night(n, &matching::squared(n, costs))?;
-    if m <= 6 && n <= 7 {
-        expect("total against every choice", &answer.total, &least_choice(m, n, costs))?;
+    let ways = (n <= 7).then(|| least_ways(m, n, costs, None));
+    if let Some(ways) = ways {
+        expect("total against every choice", &Some(answer.total), &ways.map(|(least, _)| least))?;
     }
+    second_of(m, n, costs, None, &answer, ways)?;
     let columns: Vec<u32> = answer.columns[..m].iter().map(|&column| column as u32).collect();
     let (u, v) = (&answer.row_prices[..m], &answer.column_prices);
     expect("the proof", &refusals::oblong_checker(m, n, costs, &columns, u, v), &Ok(answer.total))?;
     Ok(answer)
+}
+
+/// The second pairing by the walk that defines it, of the first m rows of an answer, tested: it is one of the same total,
+/// allowed, and another; and it is given exactly if, by all pairings, more than one way comes to the least total.
+fn second_of(
+    m: usize,
+    n: usize,
+    costs: &[i32],
+    bars: Option<&[u64]>,
+    answer: &Answer,
+    ways: Option<Option<(i64, usize)>>,
+) -> Result<(), String> {
+    let columns: Vec<u32> = answer.columns[..m].iter().map(|&column| column as u32).collect();
+    let (row_prices, column_prices) = (&answer.row_prices[..m], &answer.column_prices[..]);
+    let second = second(&Shown { m, n, costs, bars, columns: &columns, row_prices, column_prices })?;
+    if let Some(ways) = ways {
+        let more = ways.is_some_and(|(_, ways)| ways > 1);
+        expect("a second pairing against all pairings", &second.is_some(), &more)?;
+    }
+    Ok(())
+}
+
+/// The second pairing by the walk that defines it; it must be one of the same total, allowed, and another.
+pub fn second(night: &Shown) -> Result<Option<Vec<u32>>, String> {
+    let second = seconds::second(night);
+    if let Some(columns) = &second {
+        let mut taken = vec![false; night.n];
+        hold("a second pairing has a column for each row", columns.len() == night.m)?;
+        for (i, j) in columns.iter().map(|&column| column as usize).enumerate() {
+            hold("a second pairing's columns are columns", j < night.n)?;
+            hold("a second pairing has each column once", !std::mem::replace(&mut taken[j], true))?;
+            hold("a second pairing has no barred pair", night.allowed(i, j))?;
+        }
+        expect("a second pairing's total", &night.total(columns), &night.total(night.columns))?;
+        hold("a second pairing is another", columns != night.columns)?;
+    }
+    Ok(second)
 }
 
 /// What was found must be what is right.
@@ -145,24 +191,16 @@ fn pairings(
     }
 }
 
-/// The least total over all permutations.
-pub fn least(n: usize, costs: &[i32]) -> i64 {
-    least_choice(n, n, costs)
-}
-
-/// The least total over all choices of a column of its own for each row.
-pub fn least_choice(m: usize, n: usize, costs: &[i32]) -> i64 {
-    let mut least = i64::MAX;
-    pairings(m, n, costs, &|_, _| true, &mut Vec::new(), 0, &mut |_, total| least = least.min(total));
-    least
-}
-
-/// The least total over all pairings without a barred pair; none where there are none.
-pub fn least_allowed(n: usize, costs: &[i32], bars: &[u64]) -> Option<i64> {
+/// The least total over all pairings of m rows without a barred pair, and how many have it; none where there are none.
+pub fn least_ways(m: usize, n: usize, costs: &[i32], bars: Option<&[u64]>) -> Option<(i64, usize)> {
     let mut least = None;
-    let allowed = |i: usize, j: usize| !matching::barred(bars, i, j);
-    pairings(n, n, costs, &allowed, &mut Vec::new(), 0, &mut |_, total| {
-        least = Some(least.map_or(total, |least: i64| least.min(total)))
+    let allowed = |i: usize, j: usize| !bars.is_some_and(|bars| matching::barred(bars, i, j));
+    pairings(m, n, costs, &allowed, &mut Vec::new(), 0, &mut |_, total| {
+        least = match least {
+            Some((lower, ways)) if lower < total => Some((lower, ways)),
+            Some((lower, ways)) if lower == total => Some((lower, ways + 1)),
+            _ => Some((total, 1)),
+        }
     });
     least
 }

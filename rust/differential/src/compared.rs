@@ -4,8 +4,9 @@ use crate::checks;
 use crate::nights::Random;
 use crate::refusals::{self, Refused};
 use crate::rules::Answer;
+use crate::seconds::Shown;
 #[cfg(feature = "archive")]
-use crate::{archive, paper};
+use crate::{archive, paper, seconded};
 
 /// What fills the lists that the archive is lent, and what it has answered.
 pub struct Compared {
@@ -63,6 +64,15 @@ impl Compared {
         paper::oblong(&mut self.random, &mut self.met, m, n, costs, answer)?;
         #[cfg(not(feature = "archive"))]
         let _ = (m, n, costs, answer);
+        Ok(())
+    }
+
+    /// The archive's second pairing of a night of an edition.
+    pub fn second(&mut self, edition: u16, shown: &Shown) -> Result<(), String> {
+        #[cfg(feature = "archive")]
+        seconded::accepted(&mut self.random, &mut self.met, edition, shown)?;
+        #[cfg(not(feature = "archive"))]
+        let _ = (edition, shown);
         Ok(())
     }
 

@@ -1,12 +1,12 @@
 //! Nights and lists for the archive that are damaged in up to three ways. What it must answer is what document 01's
-//! refusals give for the same input.
+//! refusals give for the same input. What a checker is given, a search for a second pairing is given too.
 
 use bristlefrost::Lists;
 
 use crate::archive::{self, Met};
 use crate::nights::{Random, FAMILIES};
-use crate::refusals::LARGEST_SIDE;
-use crate::{barred, matching, oblong, rules, K};
+use crate::refusals::{Rooms, LARGEST_SIDE};
+use crate::{barred, matching, oblong, rules, seconded, K};
 
 /// Sides that stand at or beyond a limit.
 const SIDES: [usize; 7] =
@@ -70,6 +70,20 @@ fn damaged_lists(random: &mut Random, n: usize, lists: &mut Lists) {
     }
 }
 
+/// What an entry answered.
+type Answered = (&'static str, u64);
+
+/// Rooms for a second pairing of m rows and n columns, one in eight too short.
+fn rooms(random: &mut Random, m: usize, n: usize) -> Rooms {
+    let mut rooms = seconded::rooms(random, m, n);
+    for (room, least) in rooms.iter_mut().zip([m, 4 * n, n]) {
+        if random.below(8) == 0 {
+            *room = least.saturating_sub(1 + random.below(2));
+        }
+    }
+    rooms
+}
+
 /// A night before any damage.
 pub struct Night {
     n: usize,
@@ -110,7 +124,7 @@ fn solve(random: &mut Random, times: usize) -> Result<u64, String> {
         .map_err(|failure| format!("{failure}\nside {}, costs {:?}, lengths {lengths:?}", night.n, night.costs))
 }
 
-fn check(random: &mut Random, times: usize) -> Result<u64, String> {
+fn check(random: &mut Random, times: usize) -> Result<[Answered; 2], String> {
     let mut night = Night::new(random);
     let side = night.n;
     let mut lists = archive::longer(random, &rules::solve(side, &night.costs));
@@ -121,13 +135,16 @@ fn check(random: &mut Random, times: usize) -> Result<u64, String> {
             damaged_lists(random, side, &mut lists);
         }
     }
-    archive::check(night.n, &night.costs, &lists)
-        .map_err(|failure| format!("{failure}\nside {}, costs {:?}, {lists:?}", night.n, night.costs))
+    let rooms = rooms(random, side, side);
+    let told = |failure| format!("{failure}\nside {}, costs {:?}, {lists:?}, {rooms:?}", night.n, night.costs);
+    let check = archive::check(night.n, &night.costs, &lists).map_err(told)?;
+    let second = seconded::square(random, night.n, &night.costs, &lists, rooms).map_err(told)?;
+    Ok([("check", check), ("second", second)])
 }
 
 /// The checker with bars, on the answer with K on barred places: a barred pair is made where there is no other way, in
 /// some of the nights.
-fn check_barred(random: &mut Random, times: usize) -> Result<u64, String> {
+fn check_barred(random: &mut Random, times: usize) -> Result<[Answered; 2], String> {
     let side = if random.below(16) == 0 { 62 + random.below(3) } else { random.below(4) + random.below(4) };
     let (mut costs, mut bars) = barred::night(random, side);
     for _ in 0..4 {
@@ -153,13 +170,15 @@ fn check_barred(random: &mut Random, times: usize) -> Result<u64, String> {
             _ => damaged_lists(random, side, &mut lists),
         }
     }
-    archive::check_barred(night.n, &night.costs, &lists, &bars).map_err(|failure| {
-        format!("{failure}\nside {}, costs {:?}, {lists:?}, bars {bars:?}", night.n, night.costs)
-    })
+    let (rooms, n, costs) = (rooms(random, side, side), night.n, &night.costs);
+    let told = |failure| format!("{failure}\nside {n}, costs {costs:?}, {lists:?}, bars {bars:?}, {rooms:?}");
+    let check = archive::check_barred(n, costs, &lists, &bars).map_err(told)?;
+    let second = seconded::barred(random, n, costs, &lists, &bars, rooms).map_err(told)?;
+    Ok([("check with bars", check), ("second with bars", second)])
 }
 
 /// The checker of fewer rows than columns.
-fn check_oblong(random: &mut Random, times: usize) -> Result<u64, String> {
+fn check_oblong(random: &mut Random, times: usize) -> Result<[Answered; 2], String> {
     let n = if random.below(16) == 0 { 62 + random.below(3) } else { random.below(4) + random.below(4) };
     let mut m = random.below(n + 1);
     let costs = oblong::night(random, m, n);
@@ -172,14 +191,17 @@ fn check_oblong(random: &mut Random, times: usize) -> Result<u64, String> {
             2 => m = random.pick(&[n as i64 + 1, 65, 256, 1 << 55, 1 << 56, -1]) as usize,
             3 => m = random.below(n + 1),
             4 if n > 0 && lists.column_prices.len() >= n => {
-                let column = random.below(n);
-                lists.column_prices[column] += random.pick(&[-1, 1, -K, K]);
+                let price = &mut lists.column_prices[random.below(n)];
+                *price = price.saturating_add(random.pick(&[-1, 1, -K, K]));
             }
             _ => damaged_lists(random, n, &mut lists),
         }
     }
-    archive::check_oblong(m, night.n, &night.costs, &lists)
-        .map_err(|failure| format!("{failure}\n{m} by {}, costs {:?}, {lists:?}", night.n, night.costs))
+    let (rooms, n, costs) = (rooms(random, m.min(n), n), night.n, &night.costs);
+    let told = |failure| format!("{failure}\n{m} by {n}, costs {costs:?}, {lists:?}, {rooms:?}");
+    let check = archive::check_oblong(m, n, costs, &lists).map_err(told)?;
+    let second = seconded::oblong(random, m, n, costs, &lists, rooms).map_err(told)?;
+    Ok([("check of fewer rows", check), ("second of fewer rows", second)])
 }
 
 fn cost(random: &mut Random, times: usize) -> Result<u64, String> {
@@ -234,17 +256,17 @@ fn repair(random: &mut Random, times: usize) -> Result<u64, String> {
         .map_err(|failure| format!("{failure}\nside {}, costs {:?}, row {row}, {before:?}", night.n, night.costs))
 }
 
-/// One damaged input for the solver, a checker, a repair or `cost`.
+/// One damaged input for the solver, a checker and a second pairing, a repair or `cost`.
 pub fn one(random: &mut Random, met: &mut Met) -> Result<(), String> {
     let times = random.below(4);
-    let (entry, answered) = match random.below(6) {
-        0 => ("solve", solve(random, times)?),
-        1 => ("check", check(random, times)?),
-        2 => ("repair", repair(random, times)?),
-        3 => ("check with bars", check_barred(random, times)?),
-        4 => ("check of fewer rows", check_oblong(random, times)?),
-        _ => ("cost", cost(random, times)?),
+    let answered = match random.below(6) {
+        0 => vec![("solve", solve(random, times)?)],
+        1 => check(random, times)?.to_vec(),
+        2 => vec![("repair", repair(random, times)?)],
+        3 => check_barred(random, times)?.to_vec(),
+        4 => check_oblong(random, times)?.to_vec(),
+        _ => vec![("cost", cost(random, times)?)],
     };
-    met.note(entry, answered);
+    answered.into_iter().for_each(|(entry, code)| met.note(entry, code));
     Ok(())
 }

@@ -3,6 +3,7 @@
 
 #[cfg(feature = "archive")]
 pub mod archive;
+pub mod audits;
 pub mod barred;
 pub mod checks;
 pub mod command;
@@ -25,8 +26,12 @@ pub mod rules;
 #[cfg(feature = "archive")]
 pub mod scored;
 pub mod scores;
+#[cfg(feature = "archive")]
+pub mod seconded;
+pub mod seconds;
 pub mod sheets;
 pub mod surcharges;
+pub mod ties;
 #[cfg(feature = "archive")]
 pub mod torn;
 

@@ -3,16 +3,18 @@
 //!
 //!     differential [--seed S] [--count N] [--large L] [--limit M] [--full 1] [--sheets B]
 //!
-//! S is where the random nights begin (1), N how many of sides to 64 are run (20,000), and L how many of each
-//! of the sides 100, 256, 512, 1,023 and 1,024 (2); M is how many are run of side 4,096, the limit, with costs
-//! 0..10^6, with costs 0..3, and with costs -K or K (0). Small sides over few values are run in full each time; with
-//! --full side 3 over 0..5 too, ten million nights. Every set of barred places of sides to 4 is run, and N / 4 nights
-//! with bars and as many with fewer rows than columns, of sides to 64. The archive is also given N damaged nights and lists, those at the limits, every small
-//! damage to a sheet of each edition, every bar turned, B random sheets (20,000), most of them damaged, two sheets cut in
-//! every way in two and three and B / 4 such random sheets in random pieces, and references with N lists of them. Last come
-//! nights with amounts on columns and on rows: small ones in full, N / 8 of sides to 64, and L / 5, rounded up, of each
-//! of the sides 100, 256 and 1,024; and nights that change row by row and are repaired: every change of one row of
-//! small ones, N / 40 chains of sides to 64, and L / 5, rounded up, of sides 100 and 256.
+//! S is where the random nights begin (1), N how many of sides to 64 are run (20,000), and L how many of each of the
+//! sides 100, 256, 512, 1,023 and 1,024 (2); M is how many are run of side 4,096, the limit, with costs 0..10^6, with
+//! costs 0..3, and with costs -K or K (0). Small sides over few values are run in full each time; with --full side 3
+//! over 0..5 too, ten million nights. Every set of barred places of sides to 4 is run, and N / 4 nights with bars and
+//! as many with fewer rows than columns, of sides to 64. Each night is asked for a second pairing of its total, and so
+//! are N / 4 nights more with many ties, of all editions, and nights made to be hard for it. The archive is also given
+//! N damaged nights and lists, those at the limits, every small damage to a sheet of each edition, every bar turned, B
+//! random sheets (20,000), most of them damaged, two sheets cut in every way in two and three and B / 4 such random
+//! sheets in random pieces, and references with N lists of them. Last come nights with amounts on columns and on rows:
+//! small ones in full, N / 8 of sides to 64, and L / 5, rounded up, of each of the sides 100, 256 and 1,024; and nights
+//! that change row by row and are repaired: every change of one row of small ones, N / 40 chains of sides to 64, and L
+//! / 5, rounded up, of sides 100 and 256.
 
 use std::process::ExitCode;
 
@@ -21,7 +23,7 @@ use differential::nights::{self, Every, Random, FAMILIES};
 use differential::refusals::LARGEST_SIDE;
 #[cfg(feature = "archive")]
 use differential::{archive, cuts, damage, scored, torn};
-use differential::{barred, command, oblong, oracle, repairs, surcharges, K};
+use differential::{barred, command, oblong, oracle, repairs, surcharges, ties, K};
 
 /// What the command line sets.
 struct Settings {
@@ -173,6 +175,8 @@ fn run() -> Result<(), String> {
         println!("{line}, seed {seed}: {sides}, a matching");
     }
     println!("{}, seed {seed}: {sides}", oblong::run(&mut compared, seed, settings.count / 4)?);
+    let seconds = ties::run(&mut compared, seed, settings.count / 4, settings.large)?;
+    println!("{seconds}, seed {seed}: {}", ties::SIDES);
     damaged(&mut compared, &settings)?;
     let (count, large) = (settings.count / 8, settings.large.div_ceil(5));
     for line in surcharges::run(&mut compared, seed, count, large)? {

@@ -8,7 +8,7 @@ use crate::checks::expect;
 use crate::nights::Random;
 use crate::rules::Answer;
 use crate::sheets::Sheet;
-use crate::{matching, refusals, torn, K};
+use crate::{matching, refusals, seconded, torn, K};
 
 /// Hands over a sheet and room for a slip, and compares the slip's room in full.
 pub fn sheet(random: &mut Random, bytes: &[u8], room: usize) -> Result<u64, String> {
@@ -68,6 +68,10 @@ pub fn barred(
         let code = check_barred(n, costs, &lists, &longer)?;
         expect("the answer is accepted", &code, &0)?;
         met.note("check with bars", code);
+        let rooms = seconded::rooms(random, n, n);
+        let code = seconded::barred(random, n, costs, &lists, &longer, rooms)?;
+        expect("a second is told of the answer", &code, &0)?;
+        met.note("second with bars", code);
     }
     on_sheet(random, met, &Sheet::barred(n, costs, bars), settled.as_ref().map_err(|&rows| rows))
 }
@@ -87,6 +91,10 @@ pub fn oblong(
     let code = check_oblong(m, n, costs, &lists)?;
     expect("the answer is accepted", &code, &0)?;
     met.note("check of fewer rows", code);
+    let rooms = seconded::rooms(random, m, n);
+    let code = seconded::oblong(random, m, n, costs, &lists, rooms)?;
+    expect("a second is told of the answer", &code, &0)?;
+    met.note("second of fewer rows", code);
     on_sheet(random, met, &Sheet::oblong(m, n, costs), Ok(answer))
 }
 

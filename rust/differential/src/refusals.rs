@@ -48,14 +48,28 @@ fn bars_clear(n: usize, bars: &[u64]) -> Result<(), Refused> {
     refuse_first(22, bars[..n].iter().map(|bits| (n..64).any(|j| bits >> j & 1 == 1)))
 }
 
+/// 4, by the lengths of the work rooms.
+fn rooms_long(n: usize, rooms: [usize; 2]) -> Result<(), Refused> {
+    refuse(rooms[0] < 4 * n, 4, 1)?;
+    refuse(rooms[1] < n, 4, 2)
+}
+
+/// What a second pairing of m rows is lent: the lengths of list 6, its columns, and of the work rooms. 3, then 4.
+pub type Rooms = [usize; 3];
+
+fn second_long(m: usize, n: usize, rooms: Option<Rooms>) -> Result<(), Refused> {
+    let Some([second, indices, numbers]) = rooms else { return Ok(()) };
+    refuse(second < m, 3, 6)?;
+    rooms_long(n, [indices, numbers])
+}
+
 /// The solver: 1, 2, 3, 4, 5. `lists` are the lengths of the outputs, `rooms` those of the work rooms.
 pub fn solver(n: usize, costs: &[i32], lists: [usize; 4], rooms: [usize; 2]) -> Result<(), Refused> {
     side_and_costs(LARGEST_SIDE, n, costs)?;
     for (number, length) in (1..).zip(lists) {
         refuse(length < n, 3, number)?;
     }
-    refuse(rooms[0] < 4 * n, 4, 1)?;
-    refuse(rooms[1] < n, 4, 2)?;
+    rooms_long(n, rooms)?;
     costs_within(K, costs)
 }
 
@@ -68,7 +82,20 @@ pub fn checker(
     row_prices: &[i64],
     column_prices: &[i64],
 ) -> Result<i64, Refused> {
-    checked(n, costs, columns, rows, row_prices, column_prices, None)
+    checked(n, costs, columns, rows, row_prices, column_prices, None, None)
+}
+
+/// A second pairing: the checker's, with 3 of list 6 and 4 before 5. Accepts with the total.
+pub fn second(
+    n: usize,
+    costs: &[i32],
+    columns: &[u32],
+    rows: &[u32],
+    row_prices: &[i64],
+    column_prices: &[i64],
+    rooms: Rooms,
+) -> Result<i64, Refused> {
+    checked(n, costs, columns, rows, row_prices, column_prices, None, Some(rooms))
 }
 
 /// The checker with bars, for sides to 64: 1, 2, 3, 5, 22, 6, 7, 26, 8, 9, 10; list 5 is the bars, and 9 leaves barred
@@ -82,9 +109,25 @@ pub fn barred_checker(
     column_prices: &[i64],
     bars: &[u64],
 ) -> Result<i64, Refused> {
-    checked(n, costs, columns, rows, row_prices, column_prices, Some(bars))
+    checked(n, costs, columns, rows, row_prices, column_prices, Some(bars), None)
 }
 
+/// A second pairing without a barred pair: the tests of the checker with bars, with 3 of list 6 and 4 before 5.
+#[allow(clippy::too_many_arguments)]
+pub fn second_barred(
+    n: usize,
+    costs: &[i32],
+    columns: &[u32],
+    rows: &[u32],
+    row_prices: &[i64],
+    column_prices: &[i64],
+    bars: &[u64],
+    rooms: Rooms,
+) -> Result<i64, Refused> {
+    checked(n, costs, columns, rows, row_prices, column_prices, Some(bars), Some(rooms))
+}
+
+#[allow(clippy::too_many_arguments)]
 fn checked(
     n: usize,
     costs: &[i32],
@@ -93,6 +136,7 @@ fn checked(
     row_prices: &[i64],
     column_prices: &[i64],
     bars: Option<&[u64]>,
+    rooms: Option<Rooms>,
 ) -> Result<i64, Refused> {
     let (largest, most) =
         if bars.is_some() { (LARGEST_SHEET_SIDE, LARGEST_BARRED_COST) } else { (LARGEST_SIDE, K) };
@@ -101,6 +145,7 @@ fn checked(
     for (number, length) in (1..).zip(lists.into_iter().chain(bars.map(<[u64]>::len))) {
         refuse(length < n, 3, number)?;
     }
+    second_long(n, n, rooms)?;
     costs_within(most, costs)?;
     if let Some(bars) = bars {
         bars_clear(n, bars)?;
@@ -132,12 +177,39 @@ pub fn oblong_checker(
     row_prices: &[i64],
     column_prices: &[i64],
 ) -> Result<i64, Refused> {
+    oblong_checked(m, n, costs, columns, row_prices, column_prices, None)
+}
+
+/// A second pairing of fewer rows than columns: the tests of their checker, with 3 of list 6, which has m entries at
+/// least, and 4 before 5.
+pub fn second_oblong(
+    m: usize,
+    n: usize,
+    costs: &[i32],
+    columns: &[u32],
+    row_prices: &[i64],
+    column_prices: &[i64],
+    rooms: Rooms,
+) -> Result<i64, Refused> {
+    oblong_checked(m, n, costs, columns, row_prices, column_prices, Some(rooms))
+}
+
+fn oblong_checked(
+    m: usize,
+    n: usize,
+    costs: &[i32],
+    columns: &[u32],
+    row_prices: &[i64],
+    column_prices: &[i64],
+    rooms: Option<Rooms>,
+) -> Result<i64, Refused> {
     refuse(n > LARGEST_SHEET_SIDE, 1, 0)?;
     refuse(m > n, 23, m)?;
     refuse(costs.len() != m * n, 2, 0)?;
     refuse(columns.len() < m, 3, 1)?;
     refuse(row_prices.len() < m, 3, 3)?;
     refuse(column_prices.len() < n, 3, 4)?;
+    second_long(m, n, rooms)?;
     costs_within(K, costs)?;
     let (columns, u, v) = (&columns[..m], &row_prices[..m], &column_prices[..n]);
     let slack = |i: usize, j: usize| i128::from(costs[i * n + j]) - i128::from(u[i]) - i128::from(v[j]);

@@ -14,11 +14,13 @@ mod layout;
 pub mod page;
 mod sheet;
 mod slip;
+mod swap;
 mod table;
 mod unfit;
 
 pub use sheet::Sheet;
 pub use slip::Slip;
+pub use swap::{swaps, swaps_told, Swap};
 pub use unfit::Unfit;
 
 /// The most columns on a sheet.

@@ -103,6 +103,8 @@ pub enum Unfit {
     Sheet(&'static str),
     /// The bytes are not those of a slip: what is wrong with them.
     Slip(&'static str),
+    /// The lines are not those of a paired night: what is wrong with them.
+    Lines(&'static str),
 }
 
 impl fmt::Display for Unfit {
@@ -136,6 +138,7 @@ impl fmt::Display for Unfit {
             }
             Unfit::Sheet(what) => write!(f, "not a sheet: {what}"),
             Unfit::Slip(what) => write!(f, "not a slip: {what}"),
+            Unfit::Lines(what) => write!(f, "not the lines of a paired night: {what}"),
         }
     }
 }

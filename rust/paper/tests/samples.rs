@@ -64,6 +64,27 @@ fn the_lines_of_a_slip() {
     assert_eq!(String::from_utf8_lossy(&output.stdout), lines);
 }
 
+/// N8's lines, with the second pairing that it has; a night of fewer rows; and lines that tell nothing.
+#[test]
+fn the_swaps_of_a_night() {
+    let n8 = "accepted 3 total 1\n0 2 0\n1 0 0\n2 1 1\nalso 1 0 2\n";
+    let mut child = program("swaps").spawn().expect("it runs");
+    child.stdin.take().expect("its input").write_all(n8.as_bytes()).expect("it reads");
+    let output = child.wait_with_output().expect("it ends");
+    assert!(output.status.success());
+    let lines = "row 0 has column 2 and could have column 1, which row 2 has\n\
+                 row 2 has column 1 and could have column 2, which row 0 has\n";
+    assert_eq!(String::from_utf8_lossy(&output.stdout), lines);
+
+    use paper::{swaps_told, Swap, Unfit};
+    let spare = "accepted 3 total 4\n0 1 3\n1 2 1\nspare 0\nalso 0 2\n";
+    assert_eq!(swaps_told(spare), Ok(vec![Swap { row: 0, column: 1, other: 0, with: None }]));
+    assert_eq!(swaps_told("accepted 0 total 0\nonly\n"), Ok(Vec::new()));
+    for lines in ["", "refused 20 place 0\n", "accepted 1 total 7\n0 0 7\n", "accepted 1 total 7\n0 0 7\nalso\n"] {
+        assert!(matches!(swaps_told(lines), Err(Unfit::Lines(_))), "{lines}");
+    }
+}
+
 #[test]
 fn a_closed_pipe_is_no_panic() {
     let mut child = program("slip").spawn().expect("it runs");

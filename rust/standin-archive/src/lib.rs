@@ -4,6 +4,8 @@
 use std::slice::{from_raw_parts, from_raw_parts_mut};
 use std::sync::Mutex;
 
+use differential::refusals::Refused;
+use differential::seconds::{self, Shown};
 use differential::sheets::Sheet;
 use differential::{matching, refusals, rules, scores};
 
@@ -25,6 +27,14 @@ pub struct Checked {
     refusal: u64,
     total: i64,
     slack: i64,
+}
+
+#[repr(C)]
+pub struct Seconded {
+    refusal: u64,
+    total: i64,
+    slack: i64,
+    also: u64,
 }
 
 /// The night that was paired last, and its answer.
@@ -57,7 +67,7 @@ fn paired(n: usize, costs: &[i32]) -> rules::Answer {
     }
 }
 
-fn answer(result: Result<i64, refusals::Refused>) -> Total {
+fn answer(result: Result<i64, Refused>) -> Total {
     match result {
         Ok(total) => Total { refusal: 0, total },
         Err(refused) => {
@@ -242,6 +252,166 @@ pub unsafe extern "C" fn bristlefrost_check_oblong(
     let slack = refusals::slack(&result, n, costs, cols, row_prices, col_prices);
     let Total { refusal, total } = answer(result);
     Checked { refusal, total, slack }
+}
+
+/// The first entries of the lists are the pairing, where it is accepted.
+fn seconded(
+    mut tested: Result<i64, Refused>,
+    mut night: Shown,
+    second: &mut [u32],
+    indices: &mut [u32],
+    numbers: &mut [i64],
+) -> Seconded {
+    let Shown { m, n, costs, columns, row_prices, column_prices, .. } = night;
+    if cfg!(feature = "room-before-list") && tested == Err((3, 6)) && indices.len() < 4 * n {
+        tested = Err((4, 1));
+    }
+    let slack = refusals::slack(&tested, n, costs, columns, row_prices, column_prices);
+    let Total { refusal, total } = answer(tested);
+    if refusal != 0 {
+        return Seconded { refusal, total, slack, also: 0 };
+    }
+    night.columns = &columns[..m];
+    let mut found = walked(night);
+    if cfg!(feature = "only-by-twos") {
+        // A second that moves more than two rows is overlooked.
+        let moved = |other: &Vec<u32>| (0..m).filter(|&i| other[i] != columns[i]).count();
+        found = found.filter(|other| moved(other) <= 2);
+    }
+    if cfg!(feature = "second-is-the-first") && found.is_some() {
+        found = Some(night.columns.to_vec());
+    }
+    if let Some(other) = &found {
+        second[..m].copy_from_slice(other);
+    } else if cfg!(feature = "list-written-for-only") {
+        second[..m].copy_from_slice(night.columns);
+    }
+    indices[..4 * n].fill(0);
+    numbers[..n].fill(0);
+    Seconded { refusal, total, slack, also: u64::from(found.is_some()) }
+}
+
+/// The walk.
+fn walked(night: Shown) -> Option<Vec<u32>> {
+    let Shown { m, n, costs, columns, column_prices, .. } = night;
+    if cfg!(feature = "barred-place-walked") {
+        return seconds::second(&Shown { bars: None, ..night });
+    }
+    if cfg!(feature = "spare-at-any-price") && m > 0 {
+        // The spare columns are lowered to the dearest used one, and their costs with them.
+        let dearest = columns.iter().map(|&j| column_prices[j as usize]).max().unwrap_or(0);
+        let over = |j: usize| if columns.contains(&(j as u32)) { 0 } else { column_prices[j] - dearest };
+        let lowered: Vec<i64> = (0..n).map(|j| column_prices[j] - over(j)).collect();
+        let costs: Vec<i32> = (0..m * n).map(|place| costs[place] - over(place % n) as i32).collect();
+        return seconds::second(&Shown { costs: &costs, column_prices: &lowered, ..night });
+    }
+    seconds::second(&night)
+}
+
+/// # Safety
+/// As include/bristlefrost.h asks.
+#[no_mangle]
+pub unsafe extern "C" fn bristlefrost_second(
+    n: usize,
+    costs: *const i32,
+    costs_len: usize,
+    cols: *const u32,
+    cols_len: usize,
+    rows: *const u32,
+    rows_len: usize,
+    row_prices: *const i64,
+    row_prices_len: usize,
+    col_prices: *const i64,
+    col_prices_len: usize,
+    second: *mut u32,
+    second_len: usize,
+    indices: *mut u32,
+    indices_len: usize,
+    numbers: *mut i64,
+    numbers_len: usize,
+) -> Seconded {
+    let costs = from_raw_parts(costs, costs_len);
+    let (columns, rows) = (from_raw_parts(cols, cols_len), from_raw_parts(rows, rows_len));
+    let row_prices = from_raw_parts(row_prices, row_prices_len);
+    let column_prices = from_raw_parts(col_prices, col_prices_len);
+    let second = from_raw_parts_mut(second, second_len);
+    let indices = from_raw_parts_mut(indices, indices_len);
+    let numbers = from_raw_parts_mut(numbers, numbers_len);
+    let rooms = [second_len, indices_len, numbers_len];
+    let tested = refusals::second(n, costs, columns, rows, row_prices, column_prices, rooms);
+    let night = Shown { m: n, n, costs, bars: None, columns, row_prices, column_prices };
+    seconded(tested, night, second, indices, numbers)
+}
+
+/// # Safety
+/// As include/bristlefrost.h asks.
+#[no_mangle]
+pub unsafe extern "C" fn bristlefrost_second_barred(
+    n: usize,
+    costs: *const i32,
+    costs_len: usize,
+    cols: *const u32,
+    cols_len: usize,
+    rows: *const u32,
+    rows_len: usize,
+    row_prices: *const i64,
+    row_prices_len: usize,
+    col_prices: *const i64,
+    col_prices_len: usize,
+    bars: *const u64,
+    bars_len: usize,
+    second: *mut u32,
+    second_len: usize,
+    indices: *mut u32,
+    indices_len: usize,
+    numbers: *mut i64,
+    numbers_len: usize,
+) -> Seconded {
+    let costs = from_raw_parts(costs, costs_len);
+    let (columns, rows) = (from_raw_parts(cols, cols_len), from_raw_parts(rows, rows_len));
+    let row_prices = from_raw_parts(row_prices, row_prices_len);
+    let column_prices = from_raw_parts(col_prices, col_prices_len);
+    let bars = from_raw_parts(bars, bars_len);
+    let second = from_raw_parts_mut(second, second_len);
+    let indices = from_raw_parts_mut(indices, indices_len);
+    let numbers = from_raw_parts_mut(numbers, numbers_len);
+    let rooms = [second_len, indices_len, numbers_len];
+    let tested = refusals::second_barred(n, costs, columns, rows, row_prices, column_prices, bars, rooms);
+    let night = Shown { m: n, n, costs, bars: Some(bars), columns, row_prices, column_prices };
+    seconded(tested, night, second, indices, numbers)
+}
+
+/// # Safety
+/// As include/bristlefrost.h asks.
+#[no_mangle]
+pub unsafe extern "C" fn bristlefrost_second_oblong(
+    m: usize,
+    n: usize,
+    costs: *const i32,
+    costs_len: usize,
+    cols: *const u32,
+    cols_len: usize,
+    row_prices: *const i64,
+    row_prices_len: usize,
+    col_prices: *const i64,
+    col_prices_len: usize,
+    second: *mut u32,
+    second_len: usize,
+    indices: *mut u32,
+    indices_len: usize,
+    numbers: *mut i64,
+    numbers_len: usize,
+) -> Seconded {
+    let (costs, columns) = (from_raw_parts(costs, costs_len), from_raw_parts(cols, cols_len));
+    let row_prices = from_raw_parts(row_prices, row_prices_len);
+    let column_prices = from_raw_parts(col_prices, col_prices_len);
+    let second = from_raw_parts_mut(second, second_len);
+    let indices = from_raw_parts_mut(indices, indices_len);
+    let numbers = from_raw_parts_mut(numbers, numbers_len);
+    let rooms = [second_len, indices_len, numbers_len];
+    let tested = refusals::second_oblong(m, n, costs, columns, row_prices, column_prices, rooms);
+    let night = Shown { m, n, costs, bars: None, columns, row_prices, column_prices };
+    seconded(tested, night, second, indices, numbers)
 }
 
 /// # Safety

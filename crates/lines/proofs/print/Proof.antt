@@ -1,12 +1,12 @@
 -- `print` writes the lines of what is settled of the sheet, at the front of the room. Assumes nothing.
 use mathlib.Core.Path.{_≡_, refl, ap, ap₂, _∙_}
-use mathlib.Core.List.{List, _++_}
-use Prim.Native.Nat.{ℕ, _*_, _≤_}
+use mathlib.Core.List.{List}
+use Prim.Native.Nat.{ℕ, _≤_}
 use native.Mathlib.Nat.{zero-add}
 use native.Mathlib.Omega.{arith}
 use borrow.Author.Needs.{needs}
 use lib.IntN.{ℤ}
-use lib.ListN.{length, take}
+use lib.ListN.{length}
 use mir.Syntax.{w64}
 use Rattle.ints.proofs.Bits.{read-back}
 use Rattle.layout.proofs.Stores.{sets-front}
@@ -14,11 +14,11 @@ use Rattle.matrix.specs.Limits.{sheetSide}
 use Rattle.sheet.specs.Reading.{Read, read}
 use Rattle.sheet.specs.Settle.{settledAs, settled}
 use Rattle.sheet.proofs.Determined.{settled-values-determine}
-use Rattle.sheet.proofs.Pairing.{read-right}
 use Rattle.lines.specs.Put.{Put}
-use Rattle.lines.specs.Lines.{acceptedLine, rowLines, spareLines, linesAs, output, Printed, printed, refusedLine}
+use Rattle.lines.specs.Lines.{linesAs, output, Printed, printed, refusedLine}
+use Rattle.lines.specs.Asked.{stateLines}
 use Rattle.lines.proofs.Put.{put-as}
-use Rattle.lines.proofs.Night.{refused-lines, blocked-lines, Ready, night-lines}
+use Rattle.lines.proofs.Night.{refused-lines, blocked-lines, Written, night-lines}
 use Rattle.lines.proofs.print.Statement.{statement}
 use Rattle.lines.proofs.print.Tie as tie
 
@@ -42,12 +42,12 @@ settled-as : (c : tie.After-settle) → c .settle .result ≡ settledAs (reading
 unfolding settled
 settled-as c = settled-values-determine _ _ (c .settle .ensures)
 
-ready : (c : tie.After-reply2) → Ready 1174 (c .before .before .settle .result) (c .reply2 .given .0 .1 .0) (c .reply2 .given .0 .1 .1 .0) (c .reply2 .given .0 .1 .1 .1 .0) (c .before .before .before .before .before .args .out .now) (linesAs (reading (c .before .before .before .before .before .args .sheet .now)))
+ready : (c : tie.After-reply2) → Written 1174 (c .before .before .settle .result) (c .reply2 .given .0 .1 .0) (c .reply2 .given .0 .1 .1 .0) (c .reply2 .given .0 .1 .1 .1 .0) (c .before .before .before .before .before .args .out .now) (linesAs (reading (c .before .before .before .before .before .args .sheet .now)))
 ready c =
     let s = c .before .before in
     let u = s .before .before .before .args in
     let v = c .reply2 .given in
-    night-lines 1174 (s .settle .result) (u .sheet .now) (reading (u .sheet .now)) (read-right 1174 (u .sheet .now)) (settled-as s) (v .0 .0) (v .0 .1 .0) (v .0 .1 .1 .0) (v .0 .1 .1 .1 .0) (v .1) (u .out .now) (omega (arith, s .before .room .given .0))
+    night-lines 1174 (s .settle .result) (u .sheet .now) (reading (u .sheet .now)) refl (settled-as s) (v .0 .0) (v .0 .1 .0) (v .0 .1 .1 .0) (v .0 .1 .1 .1 .0) (v .1) (u .out .now) (omega (arith, s .before .room .given .0))
 
 settle-requires : tie.Need-settle-requires
 settle-requires c κs = search needs
@@ -71,7 +71,7 @@ enum-known-reply-2 : tie.Need-enum-known-reply-2
 enum-known-reply-2 c = search needs
 
 put-night-requires : tie.Need-put-night-requires
-put-night-requires c κs = (ready (c .before .before) .few, ready (c .before .before) .rows)
+put-night-requires c κs = ready (c .before .before) .0
 
 returns : tie.Need-returns
 returns c =
@@ -101,8 +101,8 @@ returns-3 c =
     let n = v .0 .1 .1 .0 in
     let state = s .settle .result .state in
     let total = read-back w64 (v .0 .1 .1 .1 .0) (k .known-told2 .given .1 .1 .1 .0 .1) in
-    let lines = ap (λ (t : ℤ). acceptedLine n t ++ (rowLines n (take (n * n) (state .costs)) (take n (state .cols)) m ++ spareLines m (take n (state .cols)) n)) total ∙ r .same ∙ output-as (u .sheet .now) in
-    printed-as (u .sheet .now) (u .out .now) (put-as lines (c .put-night .ensures .0)) (omega (arith, c .put-night .ensures .1, r .few, r .rows .fewer, s .before .room .given .0))
+    let lines = ap (λ (t : ℤ). stateLines m n t state) total ∙ r .1 ∙ output-as (u .sheet .now) in
+    printed-as (u .sheet .now) (u .out .now) (put-as lines (c .put-night .ensures .0)) (omega (arith, c .put-night .ensures .1, r .0 .searchable .few, r .0 .searchable .fewer, s .before .room .given .0))
 
 pub print-spec : {M : Type 1} → statement M
 print-spec =

@@ -1,8 +1,9 @@
-//! Slips for people: written from a sheet, and held against one; and a sheet of scores.
+//! Slips for people: written from a sheet, held against one, and told of another pairing; and a sheet of scores.
 //!
 //! ```text
 //! slip write < SHEET > SLIP    pairs the night of a sheet
 //! slip audit SHEET SLIP        accepts the slip where it shows the night's least total, without pairing the night
+//! slip swaps SHEET SLIP        whether another pairing has the slip's total, and which rows could be swapped
 //! slip score FIRSTS SECONDS    a sheet of the scores of two lists of references, a line each; the first gives the rows
 //! ```
 
@@ -32,6 +33,18 @@ fn audit(sheet: &str, slip: &str) -> Result<(), Box<dyn Error>> {
     say(format!("accepted {} total {}\n", night.side(), slip.total).as_bytes())
 }
 
+/// The program's last line, `only` or `also` with the columns, and then a line for each row that has another one.
+fn swaps(sheet: &str, slip: &str) -> Result<(), Box<dyn Error>> {
+    let night = Sheet::read(&fs::read(sheet)?)?;
+    let slip = Slip::read(&fs::read(slip)?)?;
+    let second = bristlefrost::another(&night, &slip)?;
+    let columns: Vec<u32> = slip.columns.iter().map(|&column| column.into()).collect();
+    let mut lines = String::from(if second.also.is_some() { "also" } else { "only" });
+    second.also.iter().flatten().for_each(|column| lines += &format!(" {column}"));
+    second.swaps(&columns).iter().for_each(|swap| lines += &format!("\n{swap}"));
+    say(format!("{lines}\n").as_bytes())
+}
+
 fn score(firsts: &str, seconds: &str) -> Result<(), Box<dyn Error>> {
     let list = |path: &str| -> Result<Vec<u8>, Box<dyn Error>> {
         Ok(references(&fs::read_to_string(path)?).map_err(|unfit| format!("{path}: {unfit}"))?)
@@ -44,8 +57,12 @@ fn main() -> ExitCode {
     let done = match arguments.iter().map(String::as_str).collect::<Vec<_>>()[..] {
         ["write"] => write(),
         ["audit", sheet, slip] => audit(sheet, slip),
+        ["swaps", sheet, slip] => swaps(sheet, slip),
         ["score", firsts, seconds] => score(firsts, seconds),
-        _ => Err("slip write < SHEET > SLIP, slip audit SHEET SLIP, or slip score FIRSTS SECONDS > SHEET".into()),
+        _ => {
+            let known = "slip write < SHEET > SLIP, slip audit SHEET SLIP, slip swaps SHEET SLIP";
+            Err(format!("{known}, or slip score FIRSTS SECONDS > SHEET").into())
+        }
     };
     match done {
         Ok(()) => ExitCode::SUCCESS,

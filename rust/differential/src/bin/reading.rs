@@ -1,119 +1,29 @@
-//! An audit, read plainly from the written scope and its tickets: whether a slip shows the least total of its sheet, for
-//! editions 1 to 3. Each test is made over the whole input before the next one.
+//! An audit, read plainly, and whether another pairing has the slip's total.
 //!
-//!     reading SHEET SLIP ..    a line for each sheet and the slip behind it: `accepted N total T` or `refused X place P`
+//!     reading SHEET SLIP ..         a line for each sheet and the slip behind it: `accepted N total T`, or `refused X place P`
+//!     reading also SHEET SLIP ..    the same, but for an accepted slip `only`, or `also` and the columns of a second pairing
 
 use std::fs;
 use std::process::ExitCode;
 
-/// The largest cost.
-const K: i128 = 1_000_000_000;
+use differential::audits::{audit, Held};
+use differential::seconds::second;
 
-/// What is accepted, side and total; or what is refused, number and place.
-type Audited = Result<(usize, i128), (u32, usize)>;
-
-fn refuse(wrong: bool, number: u32, place: usize) -> Result<(), (u32, usize)> {
-    if wrong {
-        return Err((number, place));
+/// The line of an accepted slip.
+fn told(held: &Held, also: bool) -> String {
+    if !also {
+        return format!("accepted {} total {}", held.n, held.total);
     }
-    Ok(())
-}
-
-/// Refuses at the first place where something is wrong.
-fn refuse_first(number: u32, wrong: impl IntoIterator<Item = bool>) -> Result<(), (u32, usize)> {
-    match wrong.into_iter().position(|wrong| wrong) {
-        Some(place) => Err((number, place)),
-        None => Ok(()),
+    match second(&held.shown()) {
+        None => String::from("only"),
+        Some(columns) => columns.iter().fold(String::from("also"), |line, column| format!("{line} {column}")),
     }
-}
-
-/// The number that bytes stand for, the lowest first.
-fn unsigned(bytes: &[u8]) -> i128 {
-    bytes.iter().rev().fold(0, |number, &byte| number * 256 + i128::from(byte))
-}
-
-/// The same, where the upper half of the numbers is negative.
-fn signed(bytes: &[u8]) -> i128 {
-    let (number, all) = (unsigned(bytes), 1 << (8 * bytes.len()));
-    if number < all / 2 {
-        number
-    } else {
-        number - all
-    }
-}
-
-fn audit(sheet: &[u8], slip: &[u8]) -> Audited {
-    // The sheet.
-    refuse(sheet.len() > 65_536, 17, 0)?;
-    refuse(!sheet.ends_with(b"MTCH") || sheet.len() < 12, 11, 0)?;
-    let (before, trailer) = sheet.split_at(sheet.len() - 12);
-    let (side, edition) = (unsigned(&trailer[4..6]), unsigned(&trailer[6..8]));
-    refuse(!(1..=3).contains(&edition), 12, 0)?;
-    refuse(side > 64, 13, 0)?;
-    let columns = side as usize;
-    let mut rows = columns;
-    if edition == 3 {
-        refuse(before.len() < 2, 23, 0)?;
-        rows = unsigned(&before[before.len() - 2..]) as usize;
-        refuse(rows > columns, 23, rows)?;
-    }
-    let places = rows * columns;
-    let behind = match edition {
-        1 => 0,
-        2 => 8 * columns,
-        _ => 2,
-    };
-    let distance = 4 * places + behind;
-    refuse(unsigned(&trailer[..4]) != distance as i128, 14, 0)?;
-    refuse(distance > before.len(), 15, 0)?;
-    let (note, rest) = before.split_at(before.len() - distance);
-    refuse_first(21, note.iter().enumerate().map(|(k, byte)| k == 4096 || !(b' '..=b'~').contains(byte)))?;
-    let (costs, rest) = rest.split_at(4 * places);
-    let costs: Vec<i128> = costs.chunks(4).map(signed).collect();
-    let most = if edition == 2 { 1_000_000 } else { K };
-    refuse_first(5, costs.iter().map(|cost| cost.abs() > most))?;
-    let bars: Vec<i128> = if edition == 2 { rest.chunks(8).map(unsigned).collect() } else { vec![0; rows] };
-    refuse_first(22, bars.iter().map(|bar| *bar >= 1 << columns))?;
-    let barred = |i: usize, j: usize| bars[i] >> j & 1 == 1;
-
-    // The slip.
-    let body = 10 * rows + 8 * columns + 8 + if edition == 3 { 2 } else { 0 };
-    let mut end = Vec::new();
-    if edition == 3 {
-        end.extend((rows as u16).to_le_bytes());
-    }
-    end.extend((body as u32).to_le_bytes());
-    end.extend((columns as u16).to_le_bytes());
-    end.extend((edition as u16).to_le_bytes());
-    end.extend(b"SLIP");
-    refuse(slip.len() != body + 12 || !slip.ends_with(&end), 25, 0)?;
-    let (chosen, rest) = slip.split_at(2 * rows);
-    let (u, rest) = rest.split_at(8 * rows);
-    let (v, rest) = rest.split_at(8 * columns);
-    let chosen: Vec<usize> = chosen.chunks(2).map(|two| unsigned(two) as usize).collect();
-    let (u, v): (Vec<i128>, Vec<i128>) = (u.chunks(8).map(signed).collect(), v.chunks(8).map(signed).collect());
-    let slack = |i: usize, j: usize| costs[i * columns + j] - u[i] - v[j];
-
-    refuse_first(6, chosen.iter().map(|&j| j >= columns))?;
-    refuse_first(7, (0..rows).map(|i| chosen[..i].contains(&chosen[i])))?;
-    refuse_first(26, (0..rows).map(|i| barred(i, chosen[i])))?;
-    refuse_first(8, u.iter().chain(&v).map(|price| price.abs() > 10 * K))?;
-    let over = |place: usize| {
-        let (i, j) = (place / columns, place % columns);
-        !barred(i, j) && slack(i, j) < 0
-    };
-    refuse_first(9, (0..places).map(over))?;
-    refuse_first(10, (0..rows).map(|i| slack(i, chosen[i]) != 0))?;
-    let dearest = chosen.iter().map(|&j| v[j]).max();
-    let low = |j: usize| !chosen.contains(&j) && dearest.is_some_and(|dearest| v[j] < dearest);
-    refuse_first(27, (0..columns).map(low))?;
-    let total = (0..rows).map(|i| costs[i * columns + chosen[i]]).sum();
-    refuse(signed(&rest[..8]) != total, 25, 0)?;
-    Ok((columns, total))
 }
 
 fn main() -> ExitCode {
-    let names: Vec<String> = std::env::args().skip(1).collect();
+    let mut names: Vec<String> = std::env::args().skip(1).collect();
+    let also = names.first().is_some_and(|name| name == "also");
+    names.drain(..usize::from(also));
     for pair in names.chunks(2) {
         let [sheet, slip] = pair else {
             eprintln!("reading: a sheet without a slip");
@@ -122,7 +32,7 @@ fn main() -> ExitCode {
         let bytes = |name: &str| fs::read(name).map_err(|failure| format!("{name}: {failure}"));
         match (bytes(sheet), bytes(slip)) {
             (Ok(sheet), Ok(slip)) => match audit(&sheet, &slip) {
-                Ok((side, total)) => println!("accepted {side} total {total}"),
+                Ok(held) => println!("{}", told(&held, also)),
                 Err((number, place)) => println!("refused {number} place {place}"),
             },
             (Err(failure), _) | (_, Err(failure)) => {
