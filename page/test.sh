@@ -1,8 +1,8 @@
 #!/usr/bin/env bash
 # The tests of the page and its check. A part that cannot be run here says so in a line of its own and does not fail.
 #
-# AUDIT names a command that takes a sheet and a slip and writes the program's line: what the check says is held against it
-# too. BROWSER names a Chromium, where it is not on the PATH under a usual name.
+# AUDIT names a command that takes a sheet and a slip and writes the program's line, where it is not the auditor that the proofs
+# allow: what the check says is held against it too. BROWSER names a Chromium, where it is not on the PATH under a usual name.
 set -euo pipefail
 cd "$(dirname "$0")"
 not_run() { echo "page: not run: $1, since $2"; }
@@ -26,7 +26,8 @@ if command -v cargo >/dev/null; then
 else
     not_run "the check against a plain reading" "there is no cargo on the PATH"
 fi
-if [ -n "${AUDIT:-}" ]; then with+=(--audit "$AUDIT"); else not_run "the check against the program's audit" "AUDIT names no command"; fi
+if [ -z "${AUDIT:-}" ] && [ -x ../target/bin/auditor ]; then AUDIT=../target/bin/auditor; fi
+if [ -n "${AUDIT:-}" ]; then with+=(--audit "$AUDIT"); else not_run "the check against the program's audit" "there is no ../target/bin/auditor"; fi
 node test.mjs "${with[@]}"
 
 for browser in "${BROWSER:-}" chromium chromium-browser google-chrome; do

@@ -28,4 +28,4 @@ for feature in $(sed -n 's/^\([a-z-]*\) = \[\]$/\1/p' standin-archive/Cargo.toml
     echo "found: $feature"
     found=$((found + 1))
 done
-[ "$found" -ge 42 ]
+[ "$found" -ge 47 ]

@@ -1,6 +1,7 @@
 -- What a C caller gets, from the values of what the entries answer: "0, or number + 256*place".
 use mathlib.Core.Bool.{cond}
-use Prim.Native.Nat.{_+_, _*_, _-_, _^_, _<_}
+use mathlib.Core.List.{List}
+use Prim.Native.Nat.{ℕ, _+_, _*_, _-_, _^_, _<_}
 use lib.Dec.{ltb}
 use Rattle.matrix.specs.Answers.{Values, valuesOf}
 use Rattle.matrix.specs.Refusals.{numberOf}
@@ -9,6 +10,8 @@ use Rattle.matrix.specs.declared.Answer.the-variants.{Total, Refused}
 use Rattle.lapjv.specs.Solve.{Lent}
 use Rattle.lapjv.specs.Values.{SolvedValues, Told}
 use Rattle.repair.specs.Repair.{Outcome}
+use Rattle.audit.specs.Values.{AuditedValues}
+use Rattle.face.specs.declared.Audit.{Audit}
 use Rattle.face.specs.declared.Checked.{Checked}
 use Rattle.face.specs.declared.Solution.{Solution}
 use Rattle.face.specs.declared.Totalled.{Totalled}
@@ -16,6 +19,14 @@ use Rattle.face.specs.declared.Totalled.{Totalled}
 -- A total, or a refusal.
 abbrev pub totalled : Values → Totalled
 totalled v = record { refusal = v .number + 256 * v .place; total = v .total }
+
+-- What a C caller gets of the plain engine and finds in the lent list.
+pub record HandedColumns : Type 0 where
+  pub totalled : Totalled
+  pub cols : List ℕ
+
+abbrev pub handedColumns : Answer × List ℕ → HandedColumns
+handedColumns (answer, cols) = record { totalled = totalled (valuesOf answer); cols = cols }
 
 -- A total, or a refusal with its slack.
 abbrev pub checked : Values → Checked
@@ -29,6 +40,10 @@ checkedAny v = record { refusal = v .number + 256 * cond (ltb (v .place) (2 ^ 56
 abbrev pub NumberedIn : Answer → Type 0
 NumberedIn (Total total) = Unit {0}
 NumberedIn (Refused refusal) = numberOf refusal < 256
+
+-- Side and total of a slip that holds, or a refusal.
+abbrev pub auditTold : AuditedValues → Audit
+auditTold v = record { refusal = v .number + 256 * v .place; side = v .side; total = v .total }
 
 -- A total with the six counts, or a refusal.
 abbrev pub solution : SolvedValues → Solution

@@ -3,6 +3,10 @@ ghost use mathlib.Core.Path.{_≡_};
 ghost use Rattle.matrix.specs.Cost.{cost};
 ghost use Rattle.matrix.specs.Answers.{valuesOf};
 ghost use Rattle.matrix.specs.Asked.{TellableIn};
+ghost use Rattle.plain.specs.Engine.{plain};
+ghost use Rattle.audit.specs.Asked.{TellableAudited};
+ghost use Rattle.audit.specs.Audit.{audit};
+ghost use Rattle.audit.specs.Values.{auditedValues};
 ghost use Rattle.score.specs.Score.{score};
 ghost use Rattle.score.specs.ScoreSheet.{Filled, scoreSheet};
 ghost use Rattle.checker.specs.Check.{check, checkBarred, checkOblong};
@@ -15,7 +19,8 @@ ghost use Rattle.pieces.specs.Kept.{kept};
 ghost use Rattle.pieces.specs.Calls.{taken, piece, ending, delivered, end, reset};
 ghost use Rattle.swaps.specs.Entries.{secondValues, secondSquare, secondBarred, secondOblong};
 ghost use Rattle.face.specs.Seconds.{flag, secondedAny, NumberedSecond, three, HandedSecond, handedSecond, handedSecondAny};
-ghost use Rattle.face.specs.Face.{totalled, checked, checkedAny, NumberedIn, solution, Handed, handed, HandedBack, handedBack};
+ghost use Rattle.face.specs.Face.{totalled, HandedColumns, handedColumns, auditTold, checked, checkedAny, NumberedIn, solution, Handed, handed, HandedBack, handedBack};
+use audit::Audited;
 use lapjv::Solved;
 use matrix::Answer;
 use swaps::Seconded;
@@ -33,6 +38,14 @@ pub struct Checked {
     pub refusal: u64,
     pub total: i64,
     pub slack: i64,
+}
+
+// What an audit answers: side and total of a slip that holds, or a refusal and zeros.
+#[repr(C)]
+pub struct Audit {
+    pub refusal: u64,
+    pub side: u64,
+    pub total: i64,
 }
 
 // A total and the six counts, or a refusal and zeros.
@@ -77,6 +90,14 @@ pub extern "C" fn bristlefrost_cost(n: usize, costs: &[i32], listed: &[u32]) -> 
     ensures { λ r. ⌜ r ≡ totalled (valuesOf (cost n (now (costs .entry)) (now (listed .entry)))) ⌝ }
 {
     told(matrix::cost(n, costs, listed))
+}
+
+// The plain engine, for sides to 8.
+#[no_mangle]
+pub extern "C" fn bristlefrost_plain(n: usize, costs: &[i32], cols: &mut [u32]) -> Totalled
+    ensures { λ r. ⌜ _≡_ {A = HandedColumns} (record { totalled = r; cols = now (cols .exit) }) (handedColumns (plain n (now (costs .entry)) (now (cols .entry)))) ⌝ }
+{
+    told(plain::plain(n, costs, cols))
 }
 
 // What a C caller gets of the answer of the checker or of a repair.
@@ -383,6 +404,33 @@ pub extern "C" fn bristlefrost_score(first: &[u8], second: &[u8]) -> Totalled
     ensures { λ r. ⌜ r ≡ totalled (valuesOf (score (now (first .entry)) (now (second .entry)))) ⌝ }
 {
     told(score::score(first, second))
+}
+
+// What a C caller gets of an audit.
+fn told_audited(answer: Audited) -> Audit
+    requires { ⌜ TellableAudited answer ⌝ }
+    ensures { λ r. ⌜ r ≡ auditTold (auditedValues answer) ⌝ }
+{
+    match answer {
+        Audited::Holds(side, total) => Audit {
+            refusal: 0,
+            side: side as u64,
+            total,
+        },
+        Audited::Refused(refusal) => Audit {
+            refusal: matrix::refusals::code(refusal),
+            side: 0,
+            total: 0,
+        },
+    }
+}
+
+// A slip held against its sheet.
+#[no_mangle]
+pub extern "C" fn bristlefrost_audit(sheet: &[u8], slip: &[u8]) -> Audit
+    ensures { λ r. ⌜ r ≡ auditTold (auditedValues (audit (now (sheet .entry)) (now (slip .entry)))) ⌝ }
+{
+    told_audited(audit::audit(sheet, slip))
 }
 
 // Two lists of references, and the room of the sheet of their scores: 0, or number + 256*place.

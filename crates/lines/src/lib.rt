@@ -154,7 +154,7 @@ fn put_spares(out: &mut [u8], place: usize, m: usize, n: usize, cols: &[u32]) ->
 }
 
 // The line of a sheet that is accepted.
-fn put_accepted(out: &mut [u8], side: usize, total: i64) -> usize
+pub fn put_accepted(out: &mut [u8], side: usize, total: i64) -> usize
     requires { ⌜ 80 ≤ length (now out) ⌝ }
     ensures { λ r. ⌜ Put (now (out .entry)) 0 (acceptedLine side total) (now (out .exit)) r × (r ≤ 80) ⌝ }
 {
@@ -166,7 +166,7 @@ fn put_accepted(out: &mut [u8], side: usize, total: i64) -> usize
 }
 
 // The line of a refusal.
-fn put_refused(out: &mut [u8], refusal: Refusal) -> usize
+pub fn put_refused(out: &mut [u8], refusal: Refusal) -> usize
     requires { ⌜ 80 ≤ length (now out) ⌝ }
     ensures { λ r. ⌜ Put (now (out .entry)) 0 (refusedLine refusal) (now (out .exit)) r × (r ≤ 80) ⌝ }
 {

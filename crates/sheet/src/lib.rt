@@ -23,7 +23,7 @@ ghost use Rattle.sheet.specs.Asked.{Inside};
 ghost use Rattle.sheet.specs.Steps.{readInto, barsInto, filledIn, unlessBarred, solvedIn, settledIn};
 ghost use Rattle.sheet.specs.declared.Reply.the-variants.{Accepted, Blocked};
 
-mod reading;
+pub mod reading;
 
 use lapjv::Solved;
 use matrix::Refusal;

@@ -1,7 +1,9 @@
 pub mod Front
 pub mod Accepted
+pub mod SecondOpinion
 pub mod Repaired
 pub mod Slips
+pub mod Audits
 pub mod NoPairing
 pub mod Scores
 pub mod Starred

@@ -76,16 +76,16 @@ module _ (sheet room : List ℕ) (laid : Laid) (e : read (length room) sheet ≡
   abbrev rowPrices : List ℤ
   rowPrices = take m (a .rowPrices)
 
-  cols-size : length cols ≡ m
+  pub cols-size : length cols ≡ m
   cols-size = length-take-le m (a .cols) (omega (arith, right .cols-size, fits .fewer))
 
-  row-prices-size : length rowPrices ≡ m
+  pub row-prices-size : length rowPrices ≡ m
   row-prices-size = length-take-le m (a .rowPrices) (omega (arith, right .row-prices-size, fits .fewer))
 
-  row-price : (i : ℕ) → i < m → signedAt rowPrices i ≡ signedAt (a .rowPrices) i
+  pub row-price : (i : ℕ) → i < m → signedAt rowPrices i ≡ signedAt (a .rowPrices) i
   row-price i l = getD-take m (a .rowPrices) i (pos 0) l
 
-  near : (i : ℕ) → i < m → Within (10 * K) (signedAt rowPrices i)
+  pub near : (i : ℕ) → i < m → Within (10 * K) (signedAt rowPrices i)
   near i l = rw (row-price i l) (right-within-ten n (solvedCosts laid) K a right .0 i (omega (arith, fits .fewer)))
 
   held : Held m n cols rowPrices (a .columnPrices) (a .total)
@@ -107,23 +107,23 @@ module _ (sheet room : List ℕ) (laid : Laid) (e : read (length room) sheet ≡
   abbrev slip : List ℕ
   slip = take (slipLength edition m n) (pair sheet room .slip)
 
-  slip-is : slip ≡ slipOf edition m n cols rowPrices (a .columnPrices) (a .total)
+  pub slip-is : slip ≡ slipOf edition m n cols rowPrices (a .columnPrices) (a .total)
   unfolding pair
   slip-is =
       ap (λ (o : Delivery). take (slipLength edition m n) (o .slip)) (ap (pairedAs room) e ∙ ap (λ (t : Bool). cond t (blockedAs room laid) (slipAs room laid)) (le-ltb (barredRow laid) n free))
       ∙ take-at (slipOf edition m n cols rowPrices (a .columnPrices) (a .total)) (drop (slipLength edition m n) room) (slipLength edition m n)
       (length-slipOf edition m n cols rowPrices (a .columnPrices) (a .total) cols-size row-prices-size (right .column-prices-size))
 
-  columns-are : slipColumns m slip ≡ cols
+  pub columns-are : slipColumns m slip ≡ cols
   columns-are = ap (slipColumns m) slip-is ∙ slip-columns m n cols rowPrices (a .columnPrices) (a .total) held end
 
-  row-prices-are : slipRowPrices m slip ≡ rowPrices
+  pub row-prices-are : slipRowPrices m slip ≡ rowPrices
   row-prices-are = ap (slipRowPrices m) slip-is ∙ slip-row-prices m n cols rowPrices (a .columnPrices) (a .total) held end
 
-  column-prices-are : slipColumnPrices m n slip ≡ a .columnPrices
+  pub column-prices-are : slipColumnPrices m n slip ≡ a .columnPrices
   column-prices-are = ap (slipColumnPrices m n) slip-is ∙ slip-column-prices m n cols rowPrices (a .columnPrices) (a .total) held end
 
-  total-is : slipTotal m n slip ≡ a .total
+  pub total-is : slipTotal m n slip ≡ a .total
   total-is = ap (slipTotal m n) slip-is ∙ slip-total m n cols rowPrices (a .columnPrices) (a .total) held end
 
   -- No pairing of the sheet's night has a smaller total than the slip's.

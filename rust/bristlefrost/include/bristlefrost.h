@@ -8,14 +8,16 @@
  * structs below are returned by value.
  *
  * What the caller keeps, since C cannot test it:
- *   - no pointer is null, and each is aligned for its type, even where its length is 0;
+ *   - no pointer is null, and each is aligned for its type, even where its length is 0: with a length of 0, pass any
+ *     valid pointer, which is then neither read nor written;
  *   - each pointer is valid for its length in elements: for reading, and for writing where it is not const;
  *   - no list that is written overlaps any other list of the same call;
  *   - no other thread touches a list during the call (lists that are only read may be read by others).
  * Nothing is kept after the call returns. Nothing else is asked: any side, length and number is answered.
  *
  * A refusal is 0 where the input was accepted, else number + 256*place:
- *    1  side over 4,096; with bars or fewer rows over 64            place 0
+ *    1  side over 4,096; with bars or fewer rows over 64;           place 0
+ *       plain: over 8
  *    2  not exactly n*n costs, with fewer rows m*n                  0
  *    3  an output or list shorter than n (cost: longer than n)      the first such, by its number
  *    4  work room too short                                         1 indices, 2 numbers
@@ -24,7 +26,7 @@
  *    6  a listed column is not below n                              the first row
  *       repair: before that, the row number is not below n          n
  *    7  the column of a row does not name that row back             the first row
- *       with fewer rows: it is used twice                           the later row
+ *       with fewer rows and in an audit: it is used twice           the later row
  *    8  a price outside -10,000,000,000..10,000,000,000             the first: row i is i, column j is n+j,
  *                                                                   with fewer rows m+j
  *    9  row price + column price over the cost                      the first i*n+j
@@ -49,6 +51,8 @@
  *   23  more rows than columns                                      the number of rows
  *       a sheet of edition 3 under 14 bytes                         0
  *   24  a price outside -7,000,000,000..7,000,000,000               as for 8
+ *   25  a slip not of the length, trailer, edition, side or number  0
+ *       of rows that its sheet wants, or of another total
  *   26  a row's column is barred to it                              the first row
  *   27  a spare column's price below that of a used one             the first such spare column
  *   28  a piece or an end after the end of a sheet in pieces        0
@@ -66,6 +70,28 @@
 #ifdef __cplusplus
 extern "C" {
 #endif
+
+#define BRISTLEFROST_VERSION "0.1.0"
+
+/* The limits. A cost lies within -LARGEST_COST..LARGEST_COST, on a sheet with bars within -LARGEST_BARRED_COST..
+ * LARGEST_BARRED_COST; a price within -LARGEST_PRICE..LARGEST_PRICE, where a night is repaired within
+ * -LARGEST_REPAIRED_PRICE..LARGEST_REPAIRED_PRICE. Lengths are in bytes. */
+#define BRISTLEFROST_LARGEST_SIDE 4096
+#define BRISTLEFROST_LARGEST_SHEET_SIDE 64 /* with bars or fewer rows too */
+#define BRISTLEFROST_LARGEST_COST INT32_C(1000000000)
+#define BRISTLEFROST_LARGEST_BARRED_COST INT32_C(1000000)
+#define BRISTLEFROST_LARGEST_PRICE INT64_C(10000000000)
+#define BRISTLEFROST_LARGEST_REPAIRED_PRICE INT64_C(7000000000)
+#define BRISTLEFROST_LONGEST_SHEET 65536
+#define BRISTLEFROST_LONGEST_NOTE 4096
+#define BRISTLEFROST_LONGEST_SLIP 1174 /* room enough for any sheet's */
+#define BRISTLEFROST_REFERENCE 12
+
+/* The bytes of stack that a call takes at most, as measured: bristlefrost_sheet and bristlefrost_end the first, whatever
+ * the side, and every function whose room is lent (solve, check, check_barred, check_oblong, cost, repair, score,
+ * score_sheet, piece, reset) the second. A thread with a smaller stack leaves sheets to another one, or calls solve. */
+#define BRISTLEFROST_SHEET_STACK 163840
+#define BRISTLEFROST_STACK 8192
 
 /* The refusals' numbers: refusal % 256. The place is refusal / 256. */
 enum {
@@ -93,6 +119,7 @@ enum {
     BRISTLEFROST_BARS_PAST_SIDE = 22,
     BRISTLEFROST_ROWS_OVER = 23,
     BRISTLEFROST_PRICE_FAR = 24,
+    BRISTLEFROST_SLIP_WRONG = 25,
     BRISTLEFROST_BARRED_PAIR = 26,
     BRISTLEFROST_SPARE_BELOW = 27,
     BRISTLEFROST_SHEET_ENDED = 28
@@ -125,7 +152,14 @@ typedef struct {
     uint64_t also; /* 1 where there is a second, 0 where there is only one */
 } bristlefrost_seconded;
 
-/* The answer of cost and score. */
+/* What an audit answers: the number of columns and the total of an accepted slip, both 0 with a refusal. */
+typedef struct {
+    uint64_t refusal;
+    uint64_t side;
+    int64_t total;
+} bristlefrost_audited;
+
+/* The answer of cost, score and plain. */
 typedef struct {
     uint64_t refusal;
     int64_t total;
@@ -264,6 +298,23 @@ bristlefrost_checked bristlefrost_repair(
 uint64_t bristlefrost_sheet(
     const uint8_t *sheet, size_t sheet_len,
     uint8_t *slip, size_t slip_len);
+
+/* A second opinion: tries every pairing of a night, n at most 8, and answers the least total. cols, at least n entries,
+ * gets in its first n the first pairing of that total in dictionary order. It shares with solve nothing but the tests of
+ * its input. Refusals 1 2 3 5; 3 is of list 1. */
+bristlefrost_total bristlefrost_plain(
+    size_t n,
+    const int32_t *costs, size_t costs_len,
+    uint32_t *cols, size_t cols_len);
+
+/* Holds a slip against its sheet, whoever wrote it. Accepted means that the slip's total is the least of the sheet's
+ * night. It tests the sheet as bristlefrost_sheet does, then the slip's form, then what it says as the checker of its
+ * edition does, with the plain engine beside it up to side 8; last comes the total. It proves a slip, it does not sign
+ * one: in edition 3 a spare column's price may be higher, and a row may have a spare column of the same cost and price
+ * instead. Refusals 17 11 12 13 23 14 15 21 5 22 25 6 7 26 8 9 10 27 25. */
+bristlefrost_audited bristlefrost_audit(
+    const uint8_t *sheet, size_t sheet_len,
+    const uint8_t *slip, size_t slip_len);
 
 /* The score of two references of 12 characters from 0-9 and A-Z, in bytes: over the 12 places 0 where they are equal,
  * 2 for a look-alike (0/O, 1/I, 2/Z, 5/S, 8/B), 9 for any other difference. Refusals 18 19. */

@@ -1,10 +1,8 @@
-//! A night on paper: a sheet in, a slip out, the slip held against its sheet, and another of the same total.
-
-use std::fmt;
+//! A night on paper: a sheet in, a slip out, and another pairing of the same total.
 
 use paper::{Sheet, Slip};
 
-use crate::{check, check_barred, check_oblong, second, second_barred, second_oblong, sheet, Refusal, Second};
+use crate::{second, second_barred, second_oblong, sheet, Refusal, Second};
 
 /// Pairs the night of a sheet.
 ///
@@ -34,82 +32,6 @@ use crate::{check, check_barred, check_oblong, second, second_barred, second_obl
 pub fn pair(night: &Sheet) -> Result<Slip, Refusal> {
     let slip = sheet(&night.bytes())?;
     Ok(Slip::read(&slip).expect("the archive writes slips"))
-}
-
-/// Why a slip does not show the least total of its sheet.
-#[derive(Clone, Debug, PartialEq, Eq)]
-pub enum Doubt {
-    /// The slip is of another edition than the sheet.
-    Edition,
-    /// The slip's lists are not as long as the sheet's side.
-    Side,
-    /// The checker refuses the pairing or its prices.
-    Refused(Refusal),
-    /// The slip states another total than its pairing has, which is this.
-    Total(i64),
-}
-
-impl fmt::Display for Doubt {
-    fn fmt(&self, out: &mut fmt::Formatter<'_>) -> fmt::Result {
-        match self {
-            Doubt::Edition => write!(out, "the slip is of another edition than the sheet"),
-            Doubt::Side => write!(out, "the slip is of another side than the sheet"),
-            Doubt::Refused(refusal) => write!(out, "{refusal}"),
-            Doubt::Total(total) => write!(out, "the pairing's total is {total}, not the slip's"),
-        }
-    }
-}
-
-impl std::error::Error for Doubt {}
-
-/// Holds a slip against its sheet, whoever wrote it: that its columns pair the night without a barred pair, that no such
-/// pairing has a lower total, and that its total is the one stated. The solver is not run.
-///
-/// ```
-/// use bristlefrost::{audit, pair, Doubt, Refusal, Sheet, Slip};
-///
-/// let night = Sheet::new(2, &[1, 5, 6, 2])?;
-/// let slip = pair(&night)?;
-/// assert_eq!(audit(&night, &slip), Ok(()));
-///
-/// let dearer = Slip { total: 4, ..slip.clone() };
-/// assert_eq!(audit(&night, &dearer), Err(Doubt::Total(3)));
-/// let shared = Slip { columns: vec![0, 0], ..slip.clone() };
-/// assert_eq!(audit(&night, &shared), Err(Doubt::Refused(Refusal::RowNotNamed { row: 1 })));
-/// let crossed = Slip { columns: vec![1, 0], ..slip };
-/// let doubt = audit(&night, &crossed).unwrap_err();
-/// assert_eq!(doubt, Doubt::Refused(Refusal::PricesNotCost { row: 0, slack: 8 }));
-/// assert!(doubt.to_string().ends_with("; row 0: 8 below its cost"));
-///
-/// let barred = night.bar(0, 0)?;
-/// let crossed = pair(&barred)?;
-/// assert_eq!(audit(&barred, &crossed), Ok(()));
-/// assert_eq!(audit(&Sheet::new(2, &[1, 5, 6, 2])?, &crossed), Err(Doubt::Edition));
-/// let made = Slip { columns: vec![0, 1], ..crossed };
-/// assert_eq!(audit(&barred, &made), Err(Doubt::Refused(Refusal::BarredPair { row: 0 })));
-/// # Ok::<(), Box<dyn std::error::Error>>(())
-/// ```
-pub fn audit(night: &Sheet, slip: &Slip) -> Result<(), Doubt> {
-    if slip.edition != night.edition() {
-        return Err(Doubt::Edition);
-    }
-    let (m, n) = (night.rows(), night.side());
-    if [slip.columns.len(), slip.row_prices.len(), slip.column_prices.len()] != [m, m, n] {
-        return Err(Doubt::Side);
-    }
-    let columns: Vec<u32> = slip.columns.iter().map(|&column| column.into()).collect();
-    let rows = rows_by_column(n, &columns);
-    let (costs, u, v) = (night.costs(), &slip.row_prices, &slip.column_prices);
-    let checked = match (night.edition(), night.bars()) {
-        (_, Some(bars)) => check_barred(n, costs, &columns, &rows, u, v, bars),
-        (3, _) => check_oblong(m, n, costs, &columns, u, v),
-        _ => check(n, costs, &columns, &rows, u, v),
-    };
-    match checked {
-        Err(refusal) => Err(Doubt::Refused(refusal)),
-        Ok(total) if total != slip.total => Err(Doubt::Total(total)),
-        Ok(_) => Ok(()),
-    }
 }
 
 /// Whether another pairing of a sheet's night has the total of a slip's, which must be least by the slip's prices.

@@ -37,6 +37,13 @@ pub struct Seconded {
     pub also: u64,
 }
 
+#[repr(C)]
+pub struct Audited {
+    pub refusal: u64,
+    pub side: u64,
+    pub total: i64,
+}
+
 extern "C" {
     fn bristlefrost_solve(
         n: usize,
@@ -199,6 +206,11 @@ extern "C" {
     ) -> Checked;
 
     fn bristlefrost_sheet(sheet: *const u8, sheet_len: usize, slip: *mut u8, slip_len: usize) -> u64;
+
+    fn bristlefrost_plain(n: usize, costs: *const i32, costs_len: usize, cols: *mut u32, cols_len: usize)
+        -> Total;
+
+    fn bristlefrost_audit(sheet: *const u8, sheet_len: usize, slip: *const u8, slip_len: usize) -> Audited;
 
     fn bristlefrost_piece(bytes: *mut u8, state: *mut u64, sent: *const u8, sent_len: usize) -> u64;
 
@@ -444,6 +456,16 @@ pub fn repair(n: usize, costs: &[i32], row: usize, lent: Lent<'_>) -> Checked {
 pub fn sheet(sheet: &[u8], slip: &mut [u8]) -> u64 {
     // Safety: every pointer and length come from one slice, and the mutable one is exclusive.
     unsafe { bristlefrost_sheet(sheet.as_ptr(), sheet.len(), slip.as_mut_ptr(), slip.len()) }
+}
+
+pub fn plain(n: usize, costs: &[i32], columns: &mut [u32]) -> Total {
+    // Safety: every pointer and length come from one slice, and the mutable one is exclusive.
+    unsafe { bristlefrost_plain(n, costs.as_ptr(), costs.len(), columns.as_mut_ptr(), columns.len()) }
+}
+
+pub fn audit(sheet: &[u8], slip: &[u8]) -> Audited {
+    // Safety: every pointer and length come from one slice, and nothing is written.
+    unsafe { bristlefrost_audit(sheet.as_ptr(), sheet.len(), slip.as_ptr(), slip.len()) }
 }
 
 pub fn score(first: &[u8], second: &[u8]) -> Total {

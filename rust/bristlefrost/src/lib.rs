@@ -28,26 +28,46 @@
 //! ```
 //!
 //! Where the costs of one row change, a [`KeptNight`] is repaired with one search instead of paired anew. Where two
-//! pairings have the same total, [`second`] tells it, and which rows could be swapped.
+//! pairings have the same total, [`second`] tells it, and which rows could be swapped. [`plain`] tries every pairing of a
+//! small night: slow, and so short that its source can be read in an hour.
 //!
 //! The same on paper: a [`Sheet`] is built from costs or from a table of numbers, [`pair`] answers its [`Slip`], and
-//! [`audit`] holds a slip against its sheet on another machine. [`sheet`] does it on bytes, and [`Pieces`] on bytes that
+//! [`audit`] holds a slip's bytes against its sheet's on another machine. [`sheet`] does it on bytes, and [`Pieces`] on bytes that
 //! arrive in pieces. On a sheet pairs can be barred: the total is then the least of the pairings without a barred pair,
 //! and where there is none, [`Refusal::NoPairing`] shows rows that have too few columns. Or there are fewer rows than
 //! columns: each row gets a column of its own, and the others are spare.
+//!
+//! # Limits
+//!
+//! | | functions on lists | sheets |
+//! |---|---|---|
+//! | side | 4,096 ([`LARGEST_SIDE`]) | 64 ([`LARGEST_SHEET_SIDE`]) |
+//! | costs | within 1,000,000,000 of zero ([`LARGEST_COST`]) | the same; with bars within 1,000,000 ([`LARGEST_BARRED_COST`]) |
+//! | rows | as many as columns; [`check_oblong`] to 64 columns, and at most as many rows | as many as columns, or fewer where no pair is barred |
+//! | bars | [`check_barred`], to side 64 | any pairs, where there are as many rows as columns |
+//! | bytes | | a sheet 65,536 ([`LONGEST_SHEET`]), its note 4,096, a slip 1,174 ([`LONGEST_SLIP`]) |
+//! | stack | 8 KiB | 160 KiB, whatever the side |
+//!
+//! Anything else is a [`Refusal`], by its number and place, and never a panic. What cannot be read or made here is
+//! [`Unfit`], and [`Error`] is either of the two.
 
 #![warn(missing_docs)]
 
 mod desk;
+mod error;
 #[doc(hidden)]
 pub mod face;
 mod kept;
+mod night;
+mod opinion;
 mod pieces;
 mod refusal;
 mod second;
 
-pub use desk::{another, audit, pair, Doubt};
+pub use desk::{another, pair};
+pub use error::Error;
 pub use kept::{Change, KeptNight};
+pub use opinion::{audit, plain, plain_into, Audited, Plain};
 pub use paper::{references, swaps, Sheet, Slip, Swap, Unfit, LARGEST_BARRED_COST, LARGEST_COST};
 pub use pieces::Pieces;
 pub use refusal::{List, Refusal, Room};
@@ -366,12 +386,12 @@ pub fn cost(side: usize, costs: &[i32], listed: &[u32]) -> Result<i64, Refusal> 
 
 /// The number of bytes of a side's slip, in editions 1 and 2.
 pub const fn slip_length(side: usize) -> usize {
-    18 * side + 20
+    side.saturating_mul(18).saturating_add(20)
 }
 
 /// The number of bytes of a slip of edition 3.
 pub const fn oblong_slip_length(rows: usize, columns: usize) -> usize {
-    10 * rows + 8 * columns + 22
+    rows.saturating_mul(10).saturating_add(columns.saturating_mul(8)).saturating_add(22)
 }
 
 /// The most bytes that a slip has, in any edition.
@@ -444,7 +464,7 @@ pub fn score(first: &[u8], second: &[u8]) -> Result<i64, Refusal> {
 
 /// The number of bytes of a side's sheet without a note.
 pub const fn sheet_length(side: usize) -> usize {
-    4 * side * side + 12
+    side.saturating_mul(side).saturating_mul(4).saturating_add(12)
 }
 
 /// Scores each reference of one list with each of another, and answers the sheet's bytes: a row for each reference of

@@ -34,7 +34,7 @@ pub enum Room {
 #[derive(Clone, Copy, Debug, PartialEq, Eq)]
 #[non_exhaustive]
 pub enum Refusal {
-    /// 1: the side is over 4,096; with bars or fewer rows over 64.
+    /// 1: the side is over 4,096; with bars or fewer rows over 64; for [`plain`](crate::plain) over 8.
     SideOver,
     /// 2: there are not exactly side * side costs.
     CostsLength,
@@ -66,14 +66,14 @@ pub enum Refusal {
     PricesOverCost {
         /// The first such cost.
         place: u64,
-        /// That cost minus both prices: below 0.
+        /// That cost minus both prices: below 0. An [`audit`](crate::audit) does not tell it, and has 0.
         slack: i64,
     },
     /// 10: on a pair that sum is not the cost.
     PricesNotCost {
         /// The first such row.
         row: u64,
-        /// The cost of its pair minus both prices: above 0.
+        /// The cost of its pair minus both prices: above 0. An [`audit`](crate::audit) does not tell it, and has 0.
         slack: i64,
     },
     /// 11: the sheet has under 12 bytes, or a wrong mark.
@@ -127,6 +127,9 @@ pub enum Refusal {
         /// The first such price: a row's number, or side + a column's number.
         place: u64,
     },
+    /// 25: a slip has not the length, trailer, edition, side or number of rows that its sheet wants, or it states another
+    /// total than its pairing has.
+    SlipWrong,
     /// 26: a row has a column that is barred to it.
     BarredPair {
         /// The first such row.
@@ -184,6 +187,7 @@ impl Refusal {
             (22, _) => Refusal::BarsPastSide { row: place },
             (23, _) => Refusal::RowsOver { rows: place },
             (24, _) => Refusal::PriceFar { place },
+            (25, 0) => Refusal::SlipWrong,
             (26, _) => Refusal::BarredPair { row: place },
             (27, _) => Refusal::SpareBelow { column: place },
             (28, 0) => Refusal::SheetEnded,
@@ -229,6 +233,7 @@ impl Refusal {
             Refusal::BarsPastSide { .. } => 22,
             Refusal::RowsOver { .. } => 23,
             Refusal::PriceFar { .. } => 24,
+            Refusal::SlipWrong => 25,
             Refusal::BarredPair { .. } => 26,
             Refusal::SpareBelow { .. } => 27,
             Refusal::SheetEnded => 28,
@@ -260,7 +265,8 @@ impl Refusal {
         }
     }
 
-    /// The cost of the place named minus both its prices: below 0 with a 9, above 0 with a 10, and 0 with all others.
+    /// The cost of the place named minus both its prices: below 0 with a 9, above 0 with a 10, and 0 with all others and
+    /// in an [`audit`](crate::audit).
     pub fn slack(&self) -> i64 {
         match *self {
             Refusal::PricesOverCost { slack, .. } | Refusal::PricesNotCost { slack, .. } => slack,
@@ -272,7 +278,9 @@ impl Refusal {
 impl fmt::Display for Refusal {
     fn fmt(&self, out: &mut fmt::Formatter<'_>) -> fmt::Result {
         let meaning = match self {
-            Refusal::SideOver => "the side is over 4,096, or with bars or fewer rows over 64",
+            Refusal::SideOver => {
+                "the side is over 4,096, with bars or fewer rows over 64, or for a plain run over 8"
+            }
             Refusal::CostsLength => "there are not exactly side * side costs",
             Refusal::ListLength(_) => "a list's length does not fit the side",
             Refusal::RoomShort(_) => "a work room is too short",
@@ -280,7 +288,7 @@ impl fmt::Display for Refusal {
                 "a cost lies outside -1,000,000,000..1,000,000,000, or with bars outside -1,000,000..1,000,000"
             }
             Refusal::ColumnOutside { .. } => "a listed column or the row to repair is not below the side",
-            Refusal::RowNotNamed { .. } => "the column of a row does not name that row back",
+            Refusal::RowNotNamed { .. } => "the column of a row does not name that row back, or is used twice",
             Refusal::PriceOutside { .. } => "a price lies outside -10,000,000,000..10,000,000,000",
             Refusal::PricesOverCost { .. } => "row price + column price is over the cost",
             Refusal::PricesNotCost { .. } => "on a pair row price + column price is not the cost",
@@ -302,6 +310,9 @@ impl fmt::Display for Refusal {
                 "there are more rows than columns, or a sheet of edition 3 has under 14 bytes"
             }
             Refusal::PriceFar { .. } => "a price lies outside -7,000,000,000..7,000,000,000",
+            Refusal::SlipWrong => {
+                "the slip is not of its sheet's form, or states another total than its pairing has"
+            }
             Refusal::BarredPair { .. } => "a row has a column that is barred to it",
             Refusal::SpareBelow { .. } => "the price of a spare column is below that of a used one",
             Refusal::SheetEnded => "the sheet has ended",
@@ -309,7 +320,10 @@ impl fmt::Display for Refusal {
         };
         write!(out, "refused {} place {}: {meaning}", self.number(), self.place())?;
         match *self {
-            Refusal::PricesOverCost { place, slack } => write!(out, "; place {place}: {} over its cost", -slack),
+            _ if matches!(self.number(), 9 | 10) && self.slack() == 0 => Ok(()),
+            Refusal::PricesOverCost { place, slack } => {
+                write!(out, "; place {place}: {} over its cost", slack.unsigned_abs())
+            }
             Refusal::PricesNotCost { row, slack } => write!(out, "; row {row}: {slack} below its cost"),
             Refusal::NoPairing { rows } => {
                 write!(out, "; too few columns are allowed to rows")?;

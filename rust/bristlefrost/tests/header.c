@@ -1,6 +1,5 @@
-/* Document 01's night N8 and its second pairing, the sheet of side 1, whole and in pieces, a barred sheet, and a score,
- * through the header.
- * Status 0 where every answer is right. */
+/* Document 01's night N8 and its second pairing, by the plain engine too, the sheet of side 1, whole and in pieces, its
+ * slip held against it, a barred sheet, and a score, through the header. Status 0 where every answer is right. */
 
 #include <bristlefrost.h>
 
@@ -58,6 +57,12 @@ int main(void) {
         3, changed, 9, 1, cols, 3, rows, 3, row_prices, 3, col_prices, 3, indices, 12, numbers, 3);
     if (repaired.refusal != BRISTLEFROST_PRICE_FAR + 256 * 2) return 18;
 
+    bristlefrost_total tried = bristlefrost_plain(3, costs, 9, second, 4);
+    if (tried.refusal != 0 || tried.total != 1) return 56;
+    if (second[0] != 1 || second[1] != 0 || second[2] != 2 || second[3] != 9) return 57;
+    if (bristlefrost_plain(3, costs, 9, second, 2).refusal != BRISTLEFROST_LIST_LENGTH + 256) return 58;
+    if (bristlefrost_plain(9, costs, 9, second, 4).refusal != BRISTLEFROST_SIDE_OVER) return 59;
+
     bristlefrost_total summed = bristlefrost_cost(3, costs, 9, other, 2);
     if (summed.refusal != 0 || summed.total != 3) return 10;
     summed = bristlefrost_cost(2, costs, 4, other, 3);
@@ -68,6 +73,15 @@ int main(void) {
     if (bristlefrost_sheet(sheet, 16, slip, 38) != 0) return 12;
     if (slip[10] != 7 || slip[18] != 7 || slip[26] != 0x1A || slip[37] != 0x50) return 13;
     if (bristlefrost_sheet(sheet, 16, slip, 37) != BRISTLEFROST_SLIP_ROOM_SHORT) return 14;
+
+    bristlefrost_audited audited = bristlefrost_audit(sheet, 16, slip, 38);
+    if (audited.refusal != 0 || audited.side != 1 || audited.total != 7) return 52;
+    slip[18] = 8;
+    audited = bristlefrost_audit(sheet, 16, slip, 38);
+    if (audited.refusal != BRISTLEFROST_SLIP_WRONG || audited.side != 0 || audited.total != 0) return 53;
+    slip[18] = 7;
+    if (bristlefrost_audit(sheet, 16, slip, 37).refusal != BRISTLEFROST_SLIP_WRONG) return 54;
+    if (bristlefrost_audit(sheet + 1, 15, slip, 37).refusal != BRISTLEFROST_DISTANCE_PAST_BYTES) return 55;
 
     const uint8_t plain[12] = "0123456789AB", alike[12] = "OIZ34S67B9AB", lower[12] = "0123456789ab";
     bristlefrost_total score = bristlefrost_score(plain, 12, alike, 12);

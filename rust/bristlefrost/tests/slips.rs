@@ -4,20 +4,24 @@ use std::fs::{self, File};
 use std::path::{Path, PathBuf};
 use std::process::{Command, Output};
 
-use bristlefrost::Slip;
+use bristlefrost::{audit, Refusal, Slip};
 
 fn slip(arguments: &[&Path], sheet: &Path) -> Output {
     let sheet = File::open(sheet).expect("a sheet");
     Command::new(env!("CARGO_BIN_EXE_slip")).args(arguments).stdin(sheet).output().expect("the program runs")
 }
 
+fn sheets() -> impl Iterator<Item = PathBuf> {
+    let samples = Path::new(env!("CARGO_MANIFEST_DIR")).join("../../samples");
+    let all = fs::read_dir(samples).expect("the samples").map(|entry| entry.expect("a sample").path());
+    all.filter(|path| path.extension().is_some_and(|end| end == "sheet"))
+}
+
 #[test]
 fn slips_of_the_samples() {
-    let samples = Path::new(env!("CARGO_MANIFEST_DIR")).join("../../samples");
     let written = Path::new(env!("CARGO_TARGET_TMPDIR")).join("sample.slip");
     let (mut accepted, mut refused) = (0, 0);
-    let all = fs::read_dir(samples).expect("the samples").map(|entry| entry.expect("a sample").path());
-    for sheet in all.filter(|path| path.extension().is_some_and(|end| end == "sheet")) {
+    for sheet in sheets() {
         let lines = fs::read_to_string(sheet.with_extension("lines")).expect("a sheet's lines");
         let first = lines.lines().next().expect("a first line");
         let output = slip(&[Path::new("write")], &sheet);
@@ -31,7 +35,7 @@ fn slips_of_the_samples() {
         let audited = slip(&[Path::new("audit"), &sheet, &written], &sheet);
         assert_eq!(String::from_utf8_lossy(&audited.stdout), format!("{first}\n"));
         told_swaps(&slip(&[Path::new("swaps"), &sheet, &written], &sheet), &output.stdout);
-        wrong_slips(&sheet, &output.stdout, &written);
+        wrong_slips(&sheet, &output.stdout);
         accepted += 1;
     }
     assert!(accepted >= 10 && refused >= 12, "{accepted} accepted, {refused} refused");
@@ -55,15 +59,46 @@ fn told_swaps(output: &Output, slip_bytes: &[u8]) {
     }
 }
 
-/// A slip with any bit of its total turned is not accepted.
-fn wrong_slips(sheet: &Path, slip_bytes: &[u8], written: &PathBuf) {
-    let slip_read = Slip::read(slip_bytes).expect("a slip");
-    let total = 10 * slip_read.columns.len() + 8 * slip_read.column_prices.len();
-    for bit in 0..64 {
-        let mut wrong = slip_bytes.to_vec();
-        wrong[total + bit / 8] ^= 1 << (bit % 8);
-        fs::write(written, wrong).expect("the wrong slip is kept");
-        let audited = slip(&[Path::new("audit"), sheet, written], sheet);
-        assert!(!audited.status.success() && audited.stdout.is_empty(), "bit {bit} of {}", sheet.display());
+/// A slip with any bit turned is not accepted, but for edition 3: there a spare price may be higher, and a row may have a
+/// spare column of the same cost and price. Nor is one that is cut or longer.
+fn wrong_slips(sheet: &Path, slip: &[u8]) {
+    let sheet = fs::read(sheet).expect("a sheet");
+    let right = Slip::read(slip).expect("a slip");
+    let spares: Vec<usize> = right.spare().collect();
+    for bit in 0..8 * slip.len() {
+        let mut wrong = slip.to_vec();
+        wrong[bit / 8] ^= 1 << (bit % 8);
+        if audit(&sheet, &wrong).is_ok() {
+            let read = Slip::read(&wrong).expect("a slip");
+            assert!(right.edition == 3 && read.total == right.total && read.row_prices == right.row_prices);
+            let raised = |j: usize| read.column_prices[j] == right.column_prices[j] || spares.contains(&j);
+            assert!((0..right.column_prices.len()).all(raised), "bit {bit}");
+            let moved = |(&from, &to): (&u16, &u16)| from == to || spares.contains(&usize::from(to));
+            assert!(right.columns.iter().zip(&read.columns).all(moved), "bit {bit}");
+        }
     }
+    assert_eq!(audit(&sheet, &slip[1..]), Err(Refusal::SlipWrong));
+    assert_eq!(audit(&sheet, &slip[..slip.len() - 1]), Err(Refusal::SlipWrong));
+    assert_eq!(audit(&sheet, &[slip, &[0]].concat()), Err(Refusal::SlipWrong));
+    assert_eq!(audit(&sheet, &[&[0], slip].concat()), Err(Refusal::SlipWrong));
+}
+
+/// A sheet that is refused is refused with its own number, whatever the slip; and the program says so.
+#[test]
+fn refused_sheets_come_first() {
+    let nothing = Path::new(env!("CARGO_TARGET_TMPDIR")).join("no.slip");
+    fs::write(&nothing, b"no slip").expect("it is kept");
+    let mut refused = 0;
+    for sheet in sheets() {
+        let lines = fs::read_to_string(sheet.with_extension("lines")).expect("a sheet's lines");
+        let first = lines.lines().next().expect("a first line");
+        // 20 does not arise: a night without a pairing has no slip.
+        let own = first.starts_with("refused") && first != "refused 20 place 0";
+        let audited = slip(&[Path::new("audit"), &sheet, &nothing], &sheet);
+        let told = format!("slip: {}", if own { first } else { "refused 25 place 0" });
+        assert!(String::from_utf8_lossy(&audited.stderr).starts_with(&told), "{}", sheet.display());
+        assert!(!audited.status.success() && audited.stdout.is_empty());
+        refused += usize::from(own);
+    }
+    assert!(refused >= 11, "{refused} refused");
 }

@@ -9,7 +9,7 @@ use crate::checks::{self, expect};
 use crate::nights::Random;
 use crate::rules::{self, Answer};
 use crate::sheets::{self, Sheet};
-use crate::{paper, refusals, scores, seconded, K};
+use crate::{opinions, paper, refusals, scores, seconded, K};
 
 /// How often each entry answered each number; 0 is acceptance.
 #[derive(Default)]
@@ -21,7 +21,7 @@ impl Met {
     }
 
     /// The numbers that each entry can answer, in its order.
-    const ALL: [(&'static str, &'static [u64]); 14] = [
+    const ALL: [(&'static str, &'static [u64]); 16] = [
         ("solve", &[0, 1, 2, 3, 4, 5]),
         ("check", &[0, 1, 2, 3, 5, 6, 7, 8, 9, 10]),
         ("check with bars", &[0, 1, 2, 3, 5, 22, 6, 7, 26, 8, 9, 10]),
@@ -31,6 +31,8 @@ impl Met {
         ("second of fewer rows", &[0, 1, 23, 2, 3, 4, 5, 6, 7, 8, 9, 10, 27]),
         ("cost", &[0, 1, 2, 3, 5, 6]),
         ("repair", &[0, 1, 2, 3, 4, 5, 6, 7, 8, 24, 9, 10]),
+        ("plain", &[0, 1, 2, 3, 5]),
+        ("audit", &[0, 17, 11, 12, 13, 23, 14, 15, 21, 5, 22, 25, 6, 7, 26, 8, 9, 10, 27]),
         ("sheet", &[0, 17, 11, 12, 13, 23, 14, 15, 21, 16, 5, 22, 20]),
         ("score", &[0, 18, 19]),
         ("scores", &[0, 18, 13, 16, 19]),
@@ -310,6 +312,7 @@ pub fn night(random: &mut Random, met: &mut Met, n: usize, costs: &[i32], answer
     let code = seconded::square(random, n, costs, &lists, rooms)?;
     expect("a second is told of the solver's answer", &code, &0)?;
     met.note("second", code);
+    opinions::night(random, met, n, costs, answer)?;
 
     met.note("cost", cost(n, costs, &lists.columns[..n])?);
     let listed: Vec<u32> = (0..random.below(n + 1)).map(|_| random.below(n) as u32).collect();

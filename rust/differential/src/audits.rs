@@ -7,7 +7,7 @@ use crate::seconds::Shown;
 /// The largest cost.
 const K: i128 = crate::K as i128;
 
-/// What an accepted slip and its sheet say.
+/// What a sheet says, and a slip that pairs its night at the least total.
 #[derive(Clone, Debug, PartialEq, Eq)]
 pub struct Held {
     pub edition: u16,
@@ -19,7 +19,10 @@ pub struct Held {
     pub columns: Vec<u32>,
     pub row_prices: Vec<i64>,
     pub column_prices: Vec<i64>,
+    /// The total of the pairing.
     pub total: i64,
+    /// The total that the slip states.
+    pub stated: i64,
 }
 
 impl Held {
@@ -51,9 +54,16 @@ fn signed(bytes: &[u8]) -> i128 {
     }
 }
 
-/// The sheet's 17, 11, 12, 13, 23, 14, 15, 21, 5, 22; 25 for a slip of another form than the sheet wants; 6, 7, 26, 8, 9,
-/// 10, 27; and 25 for the total.
+/// What [`held`] tests, and then 25 for the total.
 pub fn audit(sheet: &[u8], slip: &[u8]) -> Result<Held, Refused> {
+    let held = held(sheet, slip)?;
+    refuse(held.stated != held.total, 25, 0)?;
+    Ok(held)
+}
+
+/// The sheet's 17, 11, 12, 13, 23, 14, 15, 21, 5, 22; 25 for a slip of another form than the sheet wants; 6, 7, 26, 8, 9,
+/// 10, 27.
+pub fn held(sheet: &[u8], slip: &[u8]) -> Result<Held, Refused> {
     // The sheet.
     refuse(sheet.len() > 65_536, 17, 0)?;
     refuse(!sheet.ends_with(b"MTCH") || sheet.len() < 12, 11, 0)?;
@@ -119,7 +129,6 @@ pub fn audit(sheet: &[u8], slip: &[u8]) -> Result<Held, Refused> {
     let low = |j: usize| !chosen.contains(&j) && dearest.is_some_and(|dearest| v[j] < dearest);
     refuse_first(27, (0..columns).map(low))?;
     let total: i128 = (0..rows).map(|i| costs[i * columns + chosen[i]]).sum();
-    refuse(signed(&rest[..8]) != total, 25, 0)?;
     let wide = |numbers: &[i128]| numbers.iter().map(|&number| number as i64).collect();
     Ok(Held {
         edition: edition as u16,
@@ -131,5 +140,6 @@ pub fn audit(sheet: &[u8], slip: &[u8]) -> Result<Held, Refused> {
         row_prices: wide(&u),
         column_prices: wide(&v),
         total: total as i64,
+        stated: signed(&rest[..8]) as i64,
     })
 }

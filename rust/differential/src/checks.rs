@@ -169,7 +169,7 @@ pub fn cost(n: usize, costs: &[i32], listed: &[u32]) -> Result<i64, String> {
 
 /// Takes the columns so far through all pairings of m rows over allowed pairs that begin with them, in dictionary order,
 /// each with its total.
-fn pairings(
+pub fn pairings(
     m: usize,
     n: usize,
     costs: &[i32],
@@ -203,6 +203,17 @@ pub fn least_ways(m: usize, n: usize, costs: &[i32], bars: Option<&[u64]>) -> Op
         }
     });
     least
+}
+
+/// The least total over all permutations, and the first of them in dictionary order that has it.
+pub fn first_least(n: usize, costs: &[i32]) -> (i64, Vec<usize>) {
+    let mut first = None;
+    pairings(n, n, costs, &|_, _| true, &mut Vec::new(), 0, &mut |columns, total| {
+        if first.as_ref().is_none_or(|&(least, _)| total < least) {
+            first = Some((total, columns.to_vec()));
+        }
+    });
+    first.expect("there is a permutation")
 }
 
 /// All permutations of the least total, in dictionary order.

@@ -6,7 +6,7 @@ use bristlefrost::Lists;
 use crate::archive::{self, Met};
 use crate::nights::{Random, FAMILIES};
 use crate::refusals::{Rooms, LARGEST_SIDE};
-use crate::{barred, matching, oblong, rules, seconded, K};
+use crate::{barred, matching, oblong, opinions, rules, seconded, K};
 
 /// Sides that stand at or beyond a limit.
 const SIDES: [usize; 7] =
@@ -221,6 +221,20 @@ fn cost(random: &mut Random, times: usize) -> Result<u64, String> {
         .map_err(|failure| format!("{failure}\nside {}, costs {:?}, listed {listed:?}", night.n, night.costs))
 }
 
+/// The plain engine, for sides to 6.
+fn plain(random: &mut Random, times: usize) -> Result<u64, String> {
+    let mut night = Night::new(random);
+    let mut length = night.n + random.below(3);
+    for _ in 0..times {
+        match random.below(3) {
+            0 => length = length.saturating_sub(1 + random.below(3)),
+            _ => night.damage(random),
+        }
+    }
+    opinions::plain(random, night.n, &night.costs, length)
+        .map_err(|failure| format!("{failure}\nside {}, costs {:?}, length {length}", night.n, night.costs))
+}
+
 /// A price outside -7K..7K, or at its ends.
 fn pushed_price(random: &mut Random) -> i64 {
     random.pick(&[7 * K, -7 * K, 7 * K + 1, -7 * K - 1, 8 * K])
@@ -256,15 +270,16 @@ fn repair(random: &mut Random, times: usize) -> Result<u64, String> {
         .map_err(|failure| format!("{failure}\nside {}, costs {:?}, row {row}, {before:?}", night.n, night.costs))
 }
 
-/// One damaged input for the solver, a checker and a second pairing, a repair or `cost`.
+/// One damaged input for the solver, a checker and a second pairing, a repair, the plain engine or `cost`.
 pub fn one(random: &mut Random, met: &mut Met) -> Result<(), String> {
     let times = random.below(4);
-    let answered = match random.below(6) {
+    let answered = match random.below(7) {
         0 => vec![("solve", solve(random, times)?)],
         1 => check(random, times)?.to_vec(),
         2 => vec![("repair", repair(random, times)?)],
         3 => check_barred(random, times)?.to_vec(),
         4 => check_oblong(random, times)?.to_vec(),
+        5 => vec![("plain", plain(random, times)?)],
         _ => vec![("cost", cost(random, times)?)],
     };
     answered.into_iter().for_each(|(entry, code)| met.note(entry, code));

@@ -17,6 +17,8 @@ pub mod listed;
 pub mod matching;
 pub mod nights;
 pub mod oblong;
+#[cfg(feature = "archive")]
+pub mod opinions;
 pub mod oracle;
 #[cfg(feature = "archive")]
 pub mod paper;

@@ -10,7 +10,7 @@
 //! as many with fewer rows than columns, of sides to 64. Each night is asked for a second pairing of its total, and so
 //! are N / 4 nights more with many ties, of all editions, and nights made to be hard for it. The archive is also given
 //! N damaged nights and lists, those at the limits, every small damage to a sheet of each edition, every bar turned, B
-//! random sheets (20,000), most of them damaged, two sheets cut in every way in two and three and B / 4 such random
+//! random sheets (20,000), most of them damaged, every small damage to slips and B / 2 random slips, two sheets cut in every way in two and three and B / 4 such random
 //! sheets in random pieces, and references with N lists of them. Last come nights with amounts on columns and on rows:
 //! small ones in full, N / 8 of sides to 64, and L / 5, rounded up, of each of the sides 100, 256 and 1,024; and nights
 //! that change row by row and are repaired: every change of one row of small ones, N / 40 chains of sides to 64, and L
@@ -22,7 +22,7 @@ use differential::compared::Compared;
 use differential::nights::{self, Every, Random, FAMILIES};
 use differential::refusals::LARGEST_SIDE;
 #[cfg(feature = "archive")]
-use differential::{archive, cuts, damage, scored, torn};
+use differential::{archive, cuts, damage, opinions, scored, torn};
 use differential::{barred, command, oblong, oracle, repairs, surcharges, ties, K};
 
 /// What the command line sets.
@@ -65,6 +65,13 @@ fn damaged(compared: &mut Compared, settings: &Settings) -> Result<(), String> {
         torn::one(random, met)?;
     }
     println!("{} random sheets, most of them damaged, seed {seed}: {sides}", settings.sheets);
+    opinions::limits(random, met)?;
+    let (every, slips) = (opinions::every(random, met)?, settings.sheets / 2);
+    opinions::random(random, met, slips)?;
+    println!(
+        "{every} small damages to slips, and {slips} random slips, most of them damaged, seed {seed}: the archive's audit \
+         and a plain reading"
+    );
     scored::run(seed, met, settings.count)?;
     println!(
         "every pair of characters, byte and length, and {} lists of references, seed {seed}: {sides}",

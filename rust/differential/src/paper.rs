@@ -3,12 +3,12 @@
 
 use bristlefrost::{face, Refusal};
 
-use crate::archive::{behind, check_barred, check_oblong, longer, number_and_place, told, wrapped, Met};
+use crate::archive::{behind, check_barred, check_oblong, longer, wrapped, Met};
 use crate::checks::expect;
 use crate::nights::Random;
 use crate::rules::Answer;
 use crate::sheets::Sheet;
-use crate::{matching, refusals, seconded, torn, K};
+use crate::{matching, opinions, refusals, seconded, torn, K};
 
 /// Hands over a sheet and room for a slip, and compares the slip's room in full.
 pub fn sheet(random: &mut Random, bytes: &[u8], room: usize) -> Result<u64, String> {
@@ -135,18 +135,21 @@ pub fn on_sheet(
     });
     expect("the wrapper's slip", &bristlefrost::pair(&built), &right)?;
     let Ok(slip) = right else { return Ok(()) };
-    expect("the slip is accepted", &bristlefrost::audit(&built, &slip), &Ok(()))?;
-    other_slip(random, night, &built, slip)
+    let written = slip.bytes().map_err(|unfit| unfit.to_string())?;
+    expect("the wrapper's slip is read again", &bristlefrost::Slip::read(&written), &Ok(slip.clone()))?;
+    expect("the slip is accepted", &opinions::audit(random, met, &bytes, &written)?, &0)?;
+    other_slip(random, met, night, &bytes, slip)
 }
 
 /// Slips with another pairing, other prices or another edition, held against the sheet.
 fn other_slip(
     random: &mut Random,
+    met: &mut Met,
     night: &Sheet,
-    built: &bristlefrost::Sheet,
+    sheet: &[u8],
     mut slip: bristlefrost::Slip,
 ) -> Result<(), String> {
-    let Sheet { edition, m, n, costs, bars } = night;
+    let Sheet { m, n, .. } = night;
     if random.below(2) == 0 {
         slip.columns = random.permutation(*n)[..*m].iter().map(|&j| j as u16).collect();
     }
@@ -158,25 +161,9 @@ fn other_slip(
             slip.columns[random.below(*m)] = random.below(*n + 1) as u16;
         }
     }
-    let columns: Vec<u32> = slip.columns.iter().map(|&j| j.into()).collect();
-    let mut rows = vec![u32::MAX; *n];
-    for (i, &j) in columns.iter().enumerate().rev().filter(|(_, &j)| (j as usize) < *n) {
-        rows[j as usize] = i as u32;
-    }
-    let (u, v) = (&slip.row_prices, &slip.column_prices);
-    let checked = match edition {
-        1 => refusals::checker(*n, costs, &columns, &rows, u, v),
-        2 => refusals::barred_checker(*n, costs, &columns, &rows, u, v, bars),
-        _ => refusals::oblong_checker(*m, *n, costs, &columns, u, v),
-    };
-    let right = (refusals::slack(&checked, *n, costs, &columns, u, v), told(checked));
-    let found = match bristlefrost::audit(built, &slip) {
-        Err(bristlefrost::Doubt::Refused(refusal)) => (refusal.slack(), (number_and_place(refusal), 0)),
-        Err(bristlefrost::Doubt::Total(total)) => (0, (0, total)),
-        Ok(()) => (0, (0, slip.total)),
-        Err(other) => return Err(format!("another slip: {other}")),
-    };
-    expect("the audit of another slip", &found, &right)?;
+    opinions::audit(random, met, sheet, &slip.bytes().map_err(|unfit| unfit.to_string())?)?;
     slip.edition = slip.edition % 3 + 1;
-    expect("of another edition", &bristlefrost::audit(built, &slip), &Err(bristlefrost::Doubt::Edition))
+    // A slip of fewer rows than columns is one of edition 3 alone.
+    let Ok(other) = slip.bytes() else { return Ok(()) };
+    expect("of another edition", &opinions::audit(random, met, sheet, &other)?, &25)
 }

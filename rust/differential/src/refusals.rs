@@ -14,6 +14,9 @@ pub const LARGEST_SIDE: usize = 4096;
 /// The largest side on a sheet, and of the checker with bars.
 pub const LARGEST_SHEET_SIDE: usize = 64;
 
+/// The largest side of the plain engine.
+pub const LARGEST_PLAIN_SIDE: usize = 8;
+
 /// The largest cost with bars.
 pub const LARGEST_BARRED_COST: i64 = 1_000_000;
 
@@ -70,6 +73,13 @@ pub fn solver(n: usize, costs: &[i32], lists: [usize; 4], rooms: [usize; 2]) -> 
         refuse(length < n, 3, number)?;
     }
     rooms_long(n, rooms)?;
+    costs_within(K, costs)
+}
+
+/// The plain engine, for sides to 8: 1, 2, 3 of list 1, 5.
+pub fn plain(n: usize, costs: &[i32], columns: usize) -> Result<(), Refused> {
+    side_and_costs(LARGEST_PLAIN_SIDE, n, costs)?;
+    refuse(columns < n, 3, 1)?;
     costs_within(K, costs)
 }
 

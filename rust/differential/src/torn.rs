@@ -100,7 +100,7 @@ pub fn bars(random: &mut Random, met: &mut Met) -> Result<usize, String> {
 }
 
 /// One damage to a sheet.
-fn damage(random: &mut Random, sheet: &mut Vec<u8>) {
+pub fn damage(random: &mut Random, sheet: &mut Vec<u8>) {
     let end = sheet.len();
     match random.below(13) {
         0 => sheet.truncate(random.below(end + 1)),

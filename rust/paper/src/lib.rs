@@ -10,16 +10,19 @@
 
 #![warn(missing_docs)]
 
+mod files;
 mod layout;
 pub mod page;
 mod sheet;
 mod slip;
 mod swap;
 mod table;
+mod text;
 mod unfit;
 
+pub use files::read_file;
 pub use sheet::Sheet;
-pub use slip::Slip;
+pub use slip::{Beside, Slip};
 pub use swap::{swaps, swaps_told, Swap};
 pub use unfit::Unfit;
 
@@ -42,7 +45,7 @@ pub const LONGEST_NOTE: usize = 4096;
 pub const REFERENCE: usize = 12;
 
 /// A list of references from text, one behind the other: a line for each, blanks about it left out. A line that begins
-/// with '#' and an empty line are passed over.
+/// with '#' and an empty line are passed over, and so is a byte-order mark.
 ///
 /// ```
 /// assert_eq!(paper::references("# one guest\n0123456789AB\n")?, b"0123456789AB");
@@ -53,9 +56,8 @@ pub const REFERENCE: usize = 12;
 pub fn references(text: &str) -> Result<Vec<u8>, Unfit> {
     let known = |byte: u8| byte.is_ascii_digit() || byte.is_ascii_uppercase();
     let mut list = Vec::new();
-    for (line, word) in (1..).zip(text.lines()).filter(|(_, text)| !text.starts_with('#')) {
-        let word = word.trim();
-        if !word.is_empty() && (word.len() != REFERENCE || !word.bytes().all(known)) {
+    for (line, word) in text::lines(text).filter(|(_, text)| !text.starts_with('#')) {
+        if word.len() != REFERENCE || !word.bytes().all(known) {
             return Err(Unfit::Reference { line, word: word.to_string() });
         }
         list.extend(word.bytes());

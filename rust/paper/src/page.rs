@@ -2,10 +2,9 @@
 //! them and shows what it finds. Nothing is read or judged here, so that any bytes make a page, and the page says what is
 //! wrong with them.
 
-use std::fs::File;
-use std::io::{self, Read};
+use std::io;
 
-use crate::LONGEST_SHEET;
+use crate::read_file;
 
 const PAGE: &str = include_str!("../../../page/night.html");
 const CHECK: &str = include_str!("../../../page/check.mjs");
@@ -44,12 +43,5 @@ pub fn of(sheet: &[u8], slip: &[u8]) -> String {
 /// The page of the sheet and the slip in two files. Of a longer file than the longest sheet one byte more is taken, which is
 /// enough for the page to see it.
 pub fn of_files(sheet: &str, slip: &str) -> io::Result<String> {
-    let read = |name: &str| -> io::Result<Vec<u8>> {
-        let mut bytes = Vec::new();
-        let named = |failure: io::Error| io::Error::new(failure.kind(), format!("{name}: {failure}"));
-        let file = File::open(name).map_err(named)?;
-        file.take(LONGEST_SHEET as u64 + 1).read_to_end(&mut bytes).map_err(named)?;
-        Ok(bytes)
-    };
-    Ok(of(&read(sheet)?, &read(slip)?))
+    Ok(of(&read_file(sheet)?, &read_file(slip)?))
 }

@@ -3,7 +3,7 @@
 use std::fmt;
 
 use crate::layout::Shape;
-use crate::Unfit;
+use crate::{Sheet, Unfit, LARGEST_SIDE};
 
 /// A paired night as its slip says.
 #[derive(Clone, Debug, PartialEq, Eq)]
@@ -59,6 +59,60 @@ impl Slip {
         })
     }
 
+    /// The slip's bytes, to be kept and read again; unfit where the lists are not those of an edition and a side.
+    ///
+    /// ```
+    /// use paper::{Slip, Unfit};
+    ///
+    /// let slip = Slip { edition: 1, columns: vec![0], row_prices: vec![0], column_prices: vec![7], total: 7 };
+    /// assert_eq!(Slip::read(&slip.bytes()?)?, slip);
+    ///
+    /// let slip = Slip { row_prices: vec![], ..slip };
+    /// assert_eq!(slip.bytes(), Err(Unfit::Slip("its lists are not those of one side")));
+    /// # Ok::<(), Unfit>(())
+    /// ```
+    pub fn bytes(&self) -> Result<Vec<u8>, Unfit> {
+        let (rows, columns) = (self.columns.len(), self.column_prices.len());
+        if !(1..=3).contains(&self.edition) {
+            return Err(Unfit::Slip("its edition is not 1, 2 or 3"));
+        }
+        if columns > LARGEST_SIDE {
+            return Err(Unfit::Slip("its side is over 64"));
+        }
+        if self.row_prices.len() != rows || rows > columns || (self.edition != 3 && rows != columns) {
+            return Err(Unfit::Slip("its lists are not those of one side"));
+        }
+        let shape = Shape { edition: self.edition, rows, columns };
+        let mut bytes: Vec<u8> = self.columns.iter().flat_map(|column| column.to_le_bytes()).collect();
+        let prices = self.row_prices.iter().chain(&self.column_prices);
+        bytes.extend(prices.chain([&self.total]).flat_map(|number| number.to_le_bytes()));
+        bytes.extend(shape.end(shape.slip_body(), b"SLIP"));
+        Ok(bytes)
+    }
+
+    /// The slip's lines with its sheet's costs beside them: on each pair, row price and column price come to the cost.
+    /// Unfit where the slip is of another edition or side than the sheet; whether it holds is for the checker.
+    ///
+    /// ```
+    /// use paper::{Sheet, Slip, Unfit};
+    ///
+    /// let slip = Slip { edition: 1, columns: vec![0], row_prices: vec![-1], column_prices: vec![8], total: 7 };
+    /// let lines = slip.beside(&Sheet::new(1, &[7])?)?.to_string();
+    /// assert_eq!(lines, "side 1 total 7\nrow 0 price -1, column 0 price 8, cost 7\n");
+    /// assert_eq!(slip.beside(&Sheet::new(0, &[])?).unwrap_err(), Unfit::Other("side"));
+    /// # Ok::<(), Unfit>(())
+    /// ```
+    pub fn beside<'a>(&'a self, sheet: &'a Sheet) -> Result<Beside<'a>, Unfit> {
+        if self.edition != sheet.edition() {
+            return Err(Unfit::Other("edition"));
+        }
+        let (rows, columns) = (sheet.rows(), sheet.side());
+        if [self.columns.len(), self.row_prices.len(), self.column_prices.len()] != [rows, rows, columns] {
+            return Err(Unfit::Other("side"));
+        }
+        Ok(Beside { slip: self, sheet })
+    }
+
     /// The columns that no row has, in rising order.
     pub fn spare(&self) -> impl Iterator<Item = usize> + '_ {
         (0..self.column_prices.len()).filter(|&j| self.columns.iter().all(|&column| usize::from(column) != j))
@@ -76,5 +130,31 @@ impl fmt::Display for Slip {
             writeln!(f, "column {column} price {price}{spare}")?;
         }
         Ok(())
+    }
+}
+
+/// A slip and its sheet, which fit, told in lines: a line for each pair, with both prices and the cost, and one for each
+/// column that is spare.
+#[derive(Clone, Copy, Debug)]
+pub struct Beside<'a> {
+    slip: &'a Slip,
+    sheet: &'a Sheet,
+}
+
+impl fmt::Display for Beside<'_> {
+    fn fmt(&self, f: &mut fmt::Formatter<'_>) -> fmt::Result {
+        let Beside { slip, sheet } = self;
+        writeln!(f, "side {} total {}", sheet.side(), slip.total)?;
+        for (row, (&column, price)) in slip.columns.iter().zip(&slip.row_prices).enumerate() {
+            write!(f, "row {row} price {price}, column {column}")?;
+            let column = usize::from(column);
+            match slip.column_prices.get(column) {
+                None => writeln!(f, ", which is not on the sheet")?,
+                Some(price) if sheet.is_barred(row, column) => writeln!(f, " price {price}, barred")?,
+                Some(price) => writeln!(f, " price {price}, cost {}", sheet.costs()[row * sheet.side() + column])?,
+            }
+        }
+        slip.spare()
+            .try_for_each(|column| writeln!(f, "column {column} price {}, spare", slip.column_prices[column]))
     }
 }

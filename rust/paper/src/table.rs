@@ -1,68 +1,129 @@
 //! Sheets from tables of numbers.
 
-use crate::{Sheet, Unfit, LARGEST_BARRED_COST, LARGEST_COST};
+use crate::text::{lines, trim, BLANKS};
+use crate::{Sheet, Unfit, LARGEST_BARRED_COST, LARGEST_COST, LARGEST_SIDE};
 
-/// The costs in a line of a table; none where the pair is barred.
-fn row(line: usize, text: &str) -> Result<Vec<Option<i32>>, Unfit> {
-    if text.split(',').any(|cell| cell.trim().is_empty()) {
-        return Err(Unfit::EmptyCell { line });
+/// A cell of a table.
+#[derive(Clone, Copy, PartialEq)]
+enum Cell {
+    Cost(i32),
+    /// A whole number that is no 32-bit one.
+    Far,
+    Barred,
+}
+
+fn cell(line: usize, column: usize, word: &str) -> Result<Cell, Unfit> {
+    let digits = word.strip_prefix(['-', '+']).unwrap_or(word);
+    match word.parse() {
+        Ok(cost) => Ok(Cell::Cost(cost)),
+        _ if word.eq_ignore_ascii_case("barred") => Ok(Cell::Barred),
+        _ if word.is_empty() => Err(Unfit::EmptyCell { line, column }),
+        _ if !digits.is_empty() && digits.bytes().all(|byte| byte.is_ascii_digit()) => Ok(Cell::Far),
+        _ => Err(Unfit::Word { line, column, word: word.to_string() }),
     }
-    let words = text.split([' ', '\t', ',']).filter(|word| !word.is_empty());
-    let cost = |word: &str| match word {
-        "barred" => Ok(None),
-        _ => word.parse().map(Some).map_err(|_| Unfit::Word { line, word: word.to_string() }),
+}
+
+/// The cells in a line of a table: between commas where there is one, else between blanks.
+fn row(line: usize, text: &str) -> Result<Vec<Cell>, Unfit> {
+    let words: Vec<&str> = if text.contains(',') {
+        text.split(',').map(trim).collect()
+    } else {
+        text.split(BLANKS).filter(|word| !word.is_empty()).collect()
     };
-    words.map(cost).collect()
+    (1..).zip(words).map(|(column, word)| cell(line, column, word)).collect()
+}
+
+/// The rows of a table, each with its line, and its note.
+struct Table {
+    rows: Vec<(usize, Vec<Cell>)>,
+    note: String,
+}
+
+impl Table {
+    fn read(text: &str) -> Result<Table, Unfit> {
+        let (mut table, mut nobody) = (Table { rows: Vec::new(), note: String::new() }, None);
+        for (line, text) in lines(text) {
+            if text.starts_with('#') {
+                let unfit = |letter: char| !(' '..='~').contains(&letter);
+                if let Some(place) = text.chars().position(unfit) {
+                    return Err(Unfit::TableNote { line, place: place + 1 });
+                }
+                table.note += if table.note.is_empty() { "" } else { " " };
+                table.note += text;
+            } else if text.eq_ignore_ascii_case("nobody") {
+                nobody = Some(line);
+            } else {
+                table.rows.push((line, row(line, text)?));
+            }
+        }
+        match nobody {
+            None if table.rows.is_empty() => Err(Unfit::Empty),
+            Some(line) if !table.rows.is_empty() => Err(Unfit::Nobody { line }),
+            _ => Ok(table),
+        }
+    }
+
+    fn cells(&self) -> impl Iterator<Item = Cell> + '_ {
+        self.rows.iter().flat_map(|(_, row)| row.iter().copied())
+    }
+
+    /// The first cost outside -most..most.
+    fn within(&self, most: i32) -> Result<(), Unfit> {
+        let over = |cell: &Cell| match *cell {
+            Cell::Cost(cost) => !(-most..=most).contains(&cost),
+            cell => cell == Cell::Far,
+        };
+        match self.rows.iter().find_map(|(line, row)| Some((*line, row.iter().position(over)?))) {
+            Some((line, column)) => Err(Unfit::TableCost { line, column: column + 1, most }),
+            None => Ok(()),
+        }
+    }
 }
 
 impl Sheet {
-    /// A sheet from a table: a line for each row, its costs apart by blanks or by a comma, `barred` for a pair that must
-    /// not be made. Lines that begin with '#' make the note, with a blank between them; an empty line is passed over.
+    /// A sheet from a table: a line for each row, its costs apart by commas or by blanks, `barred` for a pair that must
+    /// not be made. Lines that begin with '#' make the note, with a blank between them; an empty line is passed over, and
+    /// so are a byte-order mark and the blanks about a line. A table without a row is unfit, unless a line of it says
+    /// `nobody`: then it is the night of side 0. Both words may be written in capitals.
     ///
-    /// A table with such a pair makes a sheet of edition 2, on which a barred pair costs 0; one of fewer rows than
-    /// columns a sheet of edition 3; any other one of edition 1.
+    /// A table with a barred pair makes a sheet of edition 2, on which that pair costs 0; one of fewer rows than columns
+    /// a sheet of edition 3; any other one of edition 1.
     ///
     /// ```
     /// use paper::{Sheet, Unfit};
     ///
-    /// let sheet = Sheet::from_table("# two guests\n1, barred\n-3 2\n")?;
+    /// let sheet = Sheet::from_table("# two guests\n1, barred\n-3, 2\n")?;
     /// assert_eq!(sheet, Sheet::new(2, &[1, 0, -3, 2])?.bar(0, 1)?.noted(b"# two guests")?);
     /// assert_eq!(Sheet::from_table("1 2 3\n4 5 6\n")?, Sheet::oblong(2, 3, &[1, 2, 3, 4, 5, 6])?);
+    /// assert_eq!(Sheet::from_table("nobody\n")?, Sheet::new(0, &[])?);
+    /// assert_eq!(Sheet::from_table("\n"), Err(Unfit::Empty));
     ///
     /// let unfit = Sheet::from_table("1 barred\n2 1000001\n").unwrap_err();
-    /// let said = "line 2, column 2: the cost is outside -1000000..1000000, since the table has barred pairs";
+    /// let said = "line 2, column 2: the cost is over the limit: outside -1000000..1000000, since the table has barred \
+    ///             pairs";
     /// assert_eq!(unfit.to_string(), said);
     /// # Ok::<(), Unfit>(())
     /// ```
     pub fn from_table(table: &str) -> Result<Sheet, Unfit> {
-        let (mut lines, mut note) = (Vec::new(), Vec::new());
-        for (line, text) in (1..).zip(table.lines()) {
-            if text.starts_with('#') {
-                note.push(text);
-            } else if !text.trim().is_empty() {
-                lines.push((line, row(line, text)?));
-            }
-        }
-        let (rows, columns) = (lines.len(), lines.first().map_or(0, |(_, row)| row.len()));
-        if let Some((line, row)) = lines.iter().find(|(_, row)| row.len() != columns) {
+        let table = Table::read(table)?;
+        let (rows, columns) = (table.rows.len(), table.rows.first().map_or(0, |(_, row)| row.len()));
+        if let Some((line, row)) = table.rows.iter().find(|(_, row)| row.len() != columns) {
             return Err(Unfit::Row { line: *line, costs: row.len(), columns });
         }
-        let barred = lines.iter().any(|(_, row)| row.contains(&None));
-        let most = if barred { LARGEST_BARRED_COST } else { LARGEST_COST };
-        let over = |cost: &Option<i32>| cost.is_some_and(|cost| !(-most..=most).contains(&cost));
-        if let Some((line, column)) =
-            lines.iter().find_map(|(line, row)| Some((*line, row.iter().position(over)?)))
-        {
-            return Err(Unfit::TableCost { line, column: column + 1, most });
+        let barred = table.cells().any(|cell| cell == Cell::Barred);
+        table.within(if barred { LARGEST_BARRED_COST } else { LARGEST_COST })?;
+        if rows.max(columns) > LARGEST_SIDE {
+            return Err(Unfit::Side(rows.max(columns)));
         }
-        let costs: Vec<i32> = lines.iter().flat_map(|(_, row)| row.iter().map(|cost| cost.unwrap_or(0))).collect();
+        let cost = |cell| if let Cell::Cost(cost) = cell { cost } else { 0 };
+        let costs: Vec<i32> = table.cells().map(cost).collect();
         let mut sheet =
             if rows == columns { Sheet::new(rows, &costs) } else { Sheet::oblong(rows, columns, &costs) }?;
         if barred {
-            let bit = |(column, cost): (usize, &Option<i32>)| u64::from(cost.is_none()) << column;
-            let bars: Vec<u64> = lines.iter().map(|(_, row)| row.iter().enumerate().map(bit).sum()).collect();
+            let bit = |(column, cell): (usize, &Cell)| u64::from(*cell == Cell::Barred) << column;
+            let bars: Vec<u64> = table.rows.iter().map(|(_, row)| row.iter().enumerate().map(bit).sum()).collect();
             sheet = sheet.barred(&bars)?;
         }
-        sheet.noted(note.join(" ").as_bytes())
+        sheet.noted(table.note.as_bytes())
     }
 }

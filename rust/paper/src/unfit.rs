@@ -2,16 +2,26 @@
 
 use std::fmt;
 
+use crate::text::Shown;
 use crate::{LARGEST_COST, LARGEST_SIDE, LONGEST_NOTE, LONGEST_SHEET, REFERENCE};
 
 /// Why a sheet cannot be made or a slip cannot be read.
 #[derive(Clone, Debug, PartialEq, Eq)]
 #[non_exhaustive]
 pub enum Unfit {
-    /// A word of the table is no 32-bit number and not `barred`.
+    /// The table has no row, and does not say `nobody`.
+    Empty,
+    /// The table says `nobody`, and has rows.
+    Nobody {
+        /// The table's line that says it, from 1.
+        line: usize,
+    },
+    /// A word of the table is no whole number and not `barred`.
     Word {
         /// The table's line, from 1.
         line: usize,
+        /// The table's column, from 1.
+        column: usize,
         /// The word.
         word: String,
     },
@@ -19,6 +29,8 @@ pub enum Unfit {
     EmptyCell {
         /// The table's line, from 1.
         line: usize,
+        /// The table's column, from 1.
+        column: usize,
     },
     /// A line of the table has not as many costs as the first.
     Row {
@@ -64,6 +76,13 @@ pub enum Unfit {
         /// The largest that it may be.
         most: i32,
     },
+    /// A note of the table has a character that is not from the blank to '~'.
+    TableNote {
+        /// The table's line, from 1.
+        line: usize,
+        /// The first such character of the note, from 1.
+        place: usize,
+    },
     /// A pair to be barred is not on the sheet.
     Pair {
         /// Its row.
@@ -105,28 +124,48 @@ pub enum Unfit {
     Slip(&'static str),
     /// The lines are not those of a paired night: what is wrong with them.
     Lines(&'static str),
+    /// The slip is of another edition or side than the sheet: which of the two.
+    Other(&'static str),
 }
 
 impl fmt::Display for Unfit {
     fn fmt(&self, f: &mut fmt::Formatter<'_>) -> fmt::Result {
         match self {
-            Unfit::Word { line, word } => write!(f, "line {line}: '{word}' is neither a number nor 'barred'"),
-            Unfit::EmptyCell { line } => write!(f, "line {line}: a comma without a cost beside it"),
+            Unfit::Empty => {
+                write!(f, "the table has no rows; where there is nobody to pair, a line of it says so: nobody")
+            }
+            Unfit::Nobody { line } => write!(f, "line {line}: 'nobody' in a table that has rows"),
+            Unfit::Word { line, column, word } => {
+                write!(f, "line {line}, column {column}: '{}' is not a whole number, nor 'barred'", Shown(word))
+            }
+            Unfit::EmptyCell { line, column } => {
+                write!(f, "line {line}, column {column}: a comma without a cost beside it")
+            }
             Unfit::Row { line, costs, columns } => {
                 write!(f, "line {line}: as many costs are wanted as in the first line, {columns}, not {costs}")
             }
             Unfit::Costs { rows, columns, costs } => {
-                write!(f, "{rows} rows and {columns} columns want {} costs, not {costs}", rows * columns)
+                let wanted = *rows as u128 * *columns as u128;
+                write!(f, "{rows} rows and {columns} columns want {wanted} costs, not {costs}")
             }
-            Unfit::Rows { rows, columns } => write!(f, "{rows} rows are more than {columns} columns"),
+            Unfit::Rows { rows, columns } => {
+                write!(f, "{rows} rows are more than {columns} columns: exchange rows and columns, or leave out rows")
+            }
             Unfit::Side(side) => write!(f, "side {side} is over {LARGEST_SIDE}"),
             Unfit::Cost { place, most } => write!(f, "the cost at place {place} is outside -{most}..{most}"),
             Unfit::TableCost { line, column, most } => {
                 let beside = if *most < LARGEST_COST { ", since the table has barred pairs" } else { "" };
-                write!(f, "line {line}, column {column}: the cost is outside -{most}..{most}{beside}")
+                write!(f, "line {line}, column {column}: the cost is over the limit: outside -{most}..{most}{beside}")
+            }
+            Unfit::TableNote { line, place } => {
+                write!(f, "line {line}, character {place}: a note is of the characters from the blank to '~'")
             }
             Unfit::Pair { row, column } => write!(f, "row {row} and column {column} are no pair of the sheet"),
-            Unfit::BarsOblong => write!(f, "pairs can be barred only where there are as many rows as columns"),
+            Unfit::BarsOblong => write!(
+                f,
+                "pairs can be barred only where there are as many rows as columns: add rows of zeros, which take the \
+                 columns that are spare"
+            ),
             Unfit::BarsLength { side, bars } => write!(f, "{side} rows want {side} bars, not {bars}"),
             Unfit::BarsPastSide { row } => write!(f, "row {row}: its bars have a bit set from the side up"),
             Unfit::Note { place } => {
@@ -134,11 +173,12 @@ impl fmt::Display for Unfit {
             }
             Unfit::Long => write!(f, "a sheet of over {LONGEST_SHEET} bytes"),
             Unfit::Reference { line, word } => {
-                write!(f, "line {line}: '{word}' is no reference of {REFERENCE} characters from 0-9 and A-Z")
+                write!(f, "line {line}: '{}' is no reference of {REFERENCE} characters from 0-9 and A-Z", Shown(word))
             }
             Unfit::Sheet(what) => write!(f, "not a sheet: {what}"),
             Unfit::Slip(what) => write!(f, "not a slip: {what}"),
             Unfit::Lines(what) => write!(f, "not the lines of a paired night: {what}"),
+            Unfit::Other(what) => write!(f, "the slip is of another {what} than the sheet"),
         }
     }
 }

@@ -7,7 +7,7 @@ use std::sync::Mutex;
 use differential::refusals::Refused;
 use differential::seconds::{self, Shown};
 use differential::sheets::Sheet;
-use differential::{matching, refusals, rules, scores};
+use differential::{audits, checks, matching, refusals, rules, scores};
 
 #[repr(C)]
 pub struct Solved {
@@ -35,6 +35,13 @@ pub struct Seconded {
     total: i64,
     slack: i64,
     also: u64,
+}
+
+#[repr(C)]
+pub struct Audited {
+    refusal: u64,
+    side: u64,
+    total: i64,
 }
 
 /// The night that was paired last, and its answer.
@@ -630,6 +637,71 @@ pub unsafe extern "C" fn bristlefrost_score_sheet(
             0
         }
         Err(refused) => refusals::code(refused),
+    }
+}
+
+/// The first pairing of the least total, and that total.
+fn tried(n: usize, costs: &[i32]) -> (i64, Vec<usize>) {
+    let (least, first) = checks::first_least(n, costs);
+    if cfg!(feature = "last-of-the-least") {
+        return (least, checks::least_pairings(n, costs).pop().expect("there is a permutation"));
+    }
+    let last: Vec<usize> = (0..n).rev().collect();
+    if cfg!(feature = "last-pairing-skipped") && n > 1 && first == last {
+        let mut found = (i64::MAX, last.clone());
+        checks::pairings(n, n, costs, &|_, _| true, &mut Vec::new(), 0, &mut |columns, total| {
+            if columns != last && total < found.0 {
+                found = (total, columns.to_vec());
+            }
+        });
+        return found;
+    }
+    (least, first)
+}
+
+/// # Safety
+/// As include/bristlefrost.h asks.
+#[no_mangle]
+pub unsafe extern "C" fn bristlefrost_plain(
+    n: usize,
+    costs: *const i32,
+    costs_len: usize,
+    cols: *mut u32,
+    cols_len: usize,
+) -> Total {
+    let (costs, cols) = (from_raw_parts(costs, costs_len), from_raw_parts_mut(cols, cols_len));
+    answer(refusals::plain(n, costs, cols_len).map(|()| {
+        let (total, columns) = tried(n, costs);
+        cols.iter_mut().zip(columns).for_each(|(entry, column)| *entry = column as u32);
+        total
+    }))
+}
+
+/// # Safety
+/// As include/bristlefrost.h asks.
+#[no_mangle]
+pub unsafe extern "C" fn bristlefrost_audit(
+    sheet: *const u8,
+    sheet_len: usize,
+    slip: *const u8,
+    slip_len: usize,
+) -> Audited {
+    let (sheet, slip) = (from_raw_parts(sheet, sheet_len), from_raw_parts(slip, slip_len));
+    let mut result = audits::audit(sheet, slip);
+    if cfg!(feature = "total-not-compared") {
+        result = audits::held(sheet, slip);
+    }
+    if cfg!(feature = "slip-before-sheet") && matches!(result, Err((5 | 22, _))) && !slip.ends_with(b"SLIP") {
+        result = Err((25, 0));
+    }
+    if let (true, Err((7, later))) = (cfg!(feature = "earlier-row-named"), &result) {
+        let column = |row: usize| &slip[2 * row..2 * row + 2];
+        let earlier = (0..*later as usize).find(|&row| column(row) == column(*later as usize));
+        result = Err((7, earlier.expect("the column is used twice") as u64));
+    }
+    match result {
+        Ok(held) => Audited { refusal: 0, side: held.n as u64, total: held.stated },
+        Err(refused) => Audited { refusal: refusals::code(refused), side: 0, total: 0 },
     }
 }
 

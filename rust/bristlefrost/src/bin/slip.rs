@@ -8,6 +8,7 @@
 //! ```
 
 use std::error::Error;
+use std::fmt::Display;
 use std::fs;
 use std::io::{self, Read, Write};
 use std::process::ExitCode;
@@ -26,11 +27,14 @@ fn say(bytes: &[u8]) -> Result<(), Box<dyn Error>> {
     Ok(io::stdout().flush()?)
 }
 
+/// What is wrong with a file is told with its name.
+fn named<T>(name: &str, result: Result<T, impl Display>) -> Result<T, String> {
+    result.map_err(|failure| format!("{name}: {failure}"))
+}
+
 fn audit(sheet: &str, slip: &str) -> Result<(), Box<dyn Error>> {
-    let night = Sheet::read(&fs::read(sheet)?)?;
-    let slip = Slip::read(&fs::read(slip)?)?;
-    bristlefrost::audit(&night, &slip)?;
-    say(format!("accepted {} total {}\n", night.side(), slip.total).as_bytes())
+    let accepted = bristlefrost::audit(&paper::read_file(sheet)?, &paper::read_file(slip)?)?;
+    say(format!("accepted {} total {}\n", accepted.side, accepted.total).as_bytes())
 }
 
 /// The program's last line, `only` or `also` with the columns, and then a line for each row that has another one.
@@ -47,7 +51,7 @@ fn swaps(sheet: &str, slip: &str) -> Result<(), Box<dyn Error>> {
 
 fn score(firsts: &str, seconds: &str) -> Result<(), Box<dyn Error>> {
     let list = |path: &str| -> Result<Vec<u8>, Box<dyn Error>> {
-        Ok(references(&fs::read_to_string(path)?).map_err(|unfit| format!("{path}: {unfit}"))?)
+        Ok(named(path, references(&named(path, fs::read_to_string(path))?))?)
     };
     say(&bristlefrost::score_sheet(&list(firsts)?, &list(seconds)?)?)
 }

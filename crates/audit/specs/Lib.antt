@@ -1,0 +1,3 @@
+pub mod Audit
+pub mod Values
+pub mod Asked
