@@ -81,10 +81,10 @@ pub struct Audited {
 ///
 /// let barred = night.clone().bar(0, 0)?;
 /// let crossed = pair(&barred)?;
-/// assert_eq!(audit(&barred.bytes(), &crossed.bytes()), Ok(Audited { side: 2, total: 11 }));
+/// assert_eq!(audit(&barred.bytes(), &crossed.bytes()?), Ok(Audited { side: 2, total: 11 }));
 /// assert_eq!(refused(&crossed), Refusal::SlipWrong);
 /// let made = Slip { columns: vec![0, 1], ..crossed };
-/// assert_eq!(audit(&barred.bytes(), &made.bytes()), Err(Refusal::BarredPair { row: 0 }));
+/// assert_eq!(audit(&barred.bytes(), &made.bytes()?), Err(Refusal::BarredPair { row: 0 }));
 /// # Ok::<(), Box<dyn std::error::Error>>(())
 /// ```
 pub fn audit(sheet: &[u8], slip: &[u8]) -> Result<Audited, Refusal> {

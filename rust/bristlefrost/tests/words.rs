@@ -32,8 +32,8 @@ fn the_program_names_the_file() {
     for (names, said) in [
         (["audit".as_ref(), none, &cut], String::from("slip: no such file: ")),
         (["audit".as_ref(), &sheet, none], String::from("slip: no such file: ")),
-        (["audit".as_ref(), &cut, &cut], format!("slip: {}: not a sheet: under 12 bytes", cut.display())),
-        (["audit".as_ref(), &sheet, &cut], format!("slip: {}: not a slip: under 12 bytes", cut.display())),
+        (["audit".as_ref(), &cut, &cut], String::from("slip: refused 11 place 0: ")),
+        (["audit".as_ref(), &sheet, &cut], String::from("slip: refused 25 place 0: ")),
         (["score".as_ref(), none, none], String::from("slip: no such file: ")),
     ] {
         let output = Command::new(env!("CARGO_BIN_EXE_slip")).args(names).output().expect("it runs");
