@@ -4,11 +4,23 @@ use Rattle.lines.proofs.Printed.{count-within}
 use Rattle.desk.proofs.main.Statement.{statement}
 use Rattle.desk.proofs.main.Tie as tie
 
+arg-count-requires : tie.Need-arg-count-requires
+arg-count-requires c κs = search needs
+
+tell-call-requires : tie.Need-tell-call-requires
+tell-call-requires c κs = search needs
+
+returns : tie.Need-returns
+returns c = search needs
+
 slice-aggregate-read-full : tie.Need-slice-aggregate-read-full
 slice-aggregate-read-full c = search needs
 
 read-full-requires : tie.Need-read-full-requires
 read-full-requires c κs = search needs
+
+tell-call-requires-2 : tie.Need-tell-call-requires-2
+tell-call-requires-2 c κs = search needs
 
 sub-print : tie.Need-sub-print
 sub-print c = search needs
@@ -34,15 +46,19 @@ part-write-all-end c = count-within _ _ _ (c .before .print .ensures)
 write-all-requires : tie.Need-write-all-requires
 write-all-requires c κs = search needs
 
-returns : tie.Need-returns
-returns c = search needs
+returns-2 : tie.Need-returns-2
+returns-2 c = search needs
 
 pub main-spec : {M : Type 1} → statement M
 main-spec =
     tie.close
     (tie.spec
+    arg-count-requires
+    tell-call-requires
+    returns
     slice-aggregate-read-full
     read-full-requires
+    tell-call-requires-2
     sub-print
     part-print-start
     part-print-end
@@ -51,4 +67,4 @@ main-spec =
     part-write-all-start
     part-write-all-end
     write-all-requires
-    returns)
+    returns-2)
