@@ -1,7 +1,10 @@
 //! Compares the crate lapjv 0.3.0 with document 01's rules, night by night, and with the feature `archive` the
 //! archive with both.
 //!
-//!     differential [--seed S] [--count N] [--large L] [--limit M] [--full 1] [--sheets B]
+//!     differential [PART] [--seed S] [--count N] [--large L] [--limit M] [--full 1] [--sheets B]
+//!
+//! PART is the one part of `PARTS` to be run; without it all are run, and each number that document 01 gives an entry
+//! must have been met.
 //!
 //! S is where the random nights begin (1), N how many of sides to 64 are run (20,000), and L how many of each of the
 //! sides 100, 256, 512, 1,023 and 1,024 (2); M is how many are run of side 4,096, the limit, with costs 0..10^6, with
@@ -10,8 +13,9 @@
 //! as many with fewer rows than columns, of sides to 64. Each night is asked for a second pairing of its total, and so
 //! are N / 4 nights more with many ties, of all editions, and nights made to be hard for it. The archive is also given
 //! N damaged nights and lists, those at the limits, every small damage to a sheet of each edition, every bar turned, B
-//! random sheets (20,000), most of them damaged, every small damage to slips and B / 2 random slips, two sheets cut in every way in two and three and B / 4 such random
-//! sheets in random pieces, and references with N lists of them. Last come nights with amounts on columns and on rows:
+//! random sheets (20,000), most of them damaged, every small damage to slips and B / 2 random slips, two sheets cut in
+//! every way in two and three and B / 4 such random sheets in random pieces, and references with N lists of them. Last
+//! come nights with amounts on columns and on rows:
 //! small ones in full, N / 8 of sides to 64, and L / 5, rounded up, of each of the sides 100, 256 and 1,024; and nights
 //! that change row by row and are repaired: every change of one row of small ones, N / 40 chains of sides to 64, and L
 //! / 5, rounded up, of sides 100 and 256.
@@ -36,9 +40,10 @@ struct Settings {
     sheets: u64,
 }
 
-fn settings() -> Result<Settings, String> {
+/// The parts to be run, the one that the command line names or all, and how much of each.
+fn settings() -> Result<(Vec<Part>, Settings), String> {
     let mut settings = Settings { seed: 1, count: 20_000, large: 2, limit: 0, full: 0, sheets: 20_000 };
-    command::numbers(&mut [
+    let word = command::word_and_numbers(&mut [
         ("--seed", &mut settings.seed),
         ("--count", &mut settings.count),
         ("--large", &mut settings.large),
@@ -46,51 +51,14 @@ fn settings() -> Result<Settings, String> {
         ("--full", &mut settings.full),
         ("--sheets", &mut settings.sheets),
     ])?;
-    Ok(settings)
-}
-
-/// Damaged inputs for the archive, and those at the limits.
-#[cfg(feature = "archive")]
-fn damaged(compared: &mut Compared, settings: &Settings) -> Result<(), String> {
-    let (seed, sides) = (settings.seed, "the archive and document 01");
-    let Compared { random, met } = compared;
-    archive::limits(random)?;
-    for _ in 0..settings.count {
-        damage::one(random, met)?;
-    }
-    println!("{} damaged nights and lists, and the limits, seed {seed}: {sides}", settings.count);
-    let (every, bars) = (torn::every(random, met)?, torn::bars(random, met)?);
-    println!("{every} small damages to three sheets, and {bars} bars turned: {sides}");
-    for _ in 0..settings.sheets {
-        torn::one(random, met)?;
-    }
-    println!("{} random sheets, most of them damaged, seed {seed}: {sides}", settings.sheets);
-    opinions::limits(random, met)?;
-    let (every, slips) = (opinions::every(random, met)?, settings.sheets / 2);
-    opinions::random(random, met, slips)?;
-    println!(
-        "{every} small damages to slips, and {slips} random slips, most of them damaged, seed {seed}: the archive's audit \
-         and a plain reading"
-    );
-    scored::run(seed, met, settings.count)?;
-    println!(
-        "every pair of characters, byte and length, and {} lists of references, seed {seed}: {sides}",
-        settings.count
-    );
-    let (cuttings, count) = (cuts::every(random, met)?, settings.sheets / 4);
-    let states = cuts::states(random, met)?;
-    cuts::limits(random, met)?;
-    cuts::random(random, met, count)?;
-    let whole = "the archive and its answer to the whole";
-    println!("{cuttings} cuttings of two sheets, {states} calls on odd states, and the limits: {whole}");
-    println!("{count} random sheets in pieces, most of them damaged, seed {seed}: {whole}");
-    Ok(())
-}
-
-#[cfg(not(feature = "archive"))]
-fn damaged(_: &mut Compared, _: &Settings) -> Result<(), String> {
-    println!("the comparison with the archive was not run: this was built without the feature `archive`");
-    Ok(())
+    let parts = match word {
+        None => PARTS.iter().map(|(_, part)| *part).collect(),
+        Some(word) => match PARTS.iter().find(|(name, _)| *name == word) {
+            Some((_, part)) => vec![*part],
+            None => return Err(format!("no such part: {word}")),
+        },
+    };
+    Ok((parts, settings))
 }
 
 /// Small sides in full.
@@ -157,11 +125,136 @@ fn at_the_limit(compared: &mut Compared, settings: &Settings) -> Result<usize, S
     Ok(nights)
 }
 
-fn run() -> Result<(), String> {
-    let settings = settings()?;
-    if !oracle::AT_HAND {
-        println!("{}", oracle::NOT_RUN);
+/// Nights as they are.
+fn nights_of_all_sides(compared: &mut Compared, settings: &Settings) -> Result<(), String> {
+    let (sides, seed) = (sides(), settings.seed);
+    println!("{} small nights in full: {sides}", every(compared, settings)?);
+    println!("{} random nights of sides to 64, seed {seed}: {sides}", random(compared, settings)?);
+    println!("{} random nights of sides 100 to 1024, seed {seed}: {sides}", large(compared, settings)?);
+    println!("{} random nights of side {LARGEST_SIDE}, seed {seed}: {sides}", at_the_limit(compared, settings)?);
+    Ok(())
+}
+
+fn nights_with_bars(compared: &mut Compared, settings: &Settings) -> Result<(), String> {
+    for line in barred::run(compared, settings.seed, settings.count / 4)? {
+        println!("{line}, seed {}: {}, a matching", settings.seed, sides());
     }
+    Ok(())
+}
+
+fn nights_of_fewer_rows(compared: &mut Compared, settings: &Settings) -> Result<(), String> {
+    let line = oblong::run(compared, settings.seed, settings.count / 4)?;
+    println!("{line}, seed {}: {}", settings.seed, sides());
+    Ok(())
+}
+
+fn second_pairings(compared: &mut Compared, settings: &Settings) -> Result<(), String> {
+    let line = ties::run(compared, settings.seed, settings.count / 4, settings.large)?;
+    println!("{line}, seed {}: {}", settings.seed, ties::SIDES);
+    Ok(())
+}
+
+/// Damaged nights and lists, and those at the limits.
+#[cfg(feature = "archive")]
+fn damaged_nights(compared: &mut Compared, settings: &Settings) -> Result<(), String> {
+    let Compared { random, met } = compared;
+    for _ in 0..settings.count {
+        damage::one(random, met)?;
+    }
+    archive::limits(random)?;
+    let Settings { seed, count, .. } = settings;
+    println!("{count} damaged nights and lists, and the limits, seed {seed}: {PAPER}");
+    Ok(())
+}
+
+#[cfg(feature = "archive")]
+fn damaged_sheets(compared: &mut Compared, settings: &Settings) -> Result<(), String> {
+    let Compared { random, met } = compared;
+    let (every, bars) = (torn::every(random, met)?, torn::bars(random, met)?);
+    println!("{every} small damages to three sheets, and {bars} bars turned: {PAPER}");
+    for _ in 0..settings.sheets {
+        torn::one(random, met)?;
+    }
+    println!("{} random sheets, most of them damaged, seed {}: {PAPER}", settings.sheets, settings.seed);
+    Ok(())
+}
+
+#[cfg(feature = "archive")]
+fn damaged_slips(compared: &mut Compared, settings: &Settings) -> Result<(), String> {
+    let Compared { random, met } = compared;
+    opinions::limits(random, met)?;
+    let (every, slips) = (opinions::every(random, met)?, settings.sheets / 2);
+    opinions::random(random, met, slips)?;
+    println!(
+        "{every} small damages to slips, and {slips} random slips, most of them damaged, seed {}: the archive's audit \
+         and a plain reading",
+        settings.seed
+    );
+    Ok(())
+}
+
+#[cfg(feature = "archive")]
+fn references(compared: &mut Compared, settings: &Settings) -> Result<(), String> {
+    let Settings { seed, count, .. } = *settings;
+    scored::run(seed, &mut compared.met, count)?;
+    println!("every pair of characters, byte and length, and {count} lists of references, seed {seed}: {PAPER}");
+    Ok(())
+}
+
+#[cfg(feature = "archive")]
+fn sheets_in_pieces(compared: &mut Compared, settings: &Settings) -> Result<(), String> {
+    let Compared { random, met } = compared;
+    let (cuttings, count) = (cuts::every(random, met)?, settings.sheets / 4);
+    let states = cuts::states(random, met)?;
+    cuts::limits(random, met)?;
+    cuts::random(random, met, count)?;
+    let whole = "the archive and its answer to the whole";
+    println!("{cuttings} cuttings of two sheets, {states} calls on odd states, and the limits: {whole}");
+    println!("{count} random sheets in pieces, most of them damaged, seed {}: {whole}", settings.seed);
+    Ok(())
+}
+
+fn nights_with_amounts(compared: &mut Compared, settings: &Settings) -> Result<(), String> {
+    for line in surcharges::run(compared, settings.seed, settings.count / 8, settings.large.div_ceil(5))? {
+        println!("{line}, seed {}: {}", settings.seed, sides());
+    }
+    Ok(())
+}
+
+fn nights_repaired(compared: &mut Compared, settings: &Settings) -> Result<(), String> {
+    let line = repairs::run(compared, settings.seed, settings.count / 40, settings.large.div_ceil(5))?;
+    println!("{line}, seed {}: {}", settings.seed, repairs::SIDES);
+    Ok(())
+}
+
+type Part = fn(&mut Compared, &Settings) -> Result<(), String>;
+
+/// The parts of the comparison, in the order in which they are run.
+const PARTS: &[(&str, Part)] = &[
+    ("nights", nights_of_all_sides),
+    ("bars", nights_with_bars),
+    ("fewer", nights_of_fewer_rows),
+    ("seconds", second_pairings),
+    #[cfg(feature = "archive")]
+    ("damage", damaged_nights),
+    #[cfg(feature = "archive")]
+    ("sheets", damaged_sheets),
+    #[cfg(feature = "archive")]
+    ("slips", damaged_slips),
+    #[cfg(feature = "archive")]
+    ("references", references),
+    #[cfg(feature = "archive")]
+    ("pieces", sheets_in_pieces),
+    ("amounts", nights_with_amounts),
+    ("repairs", nights_repaired),
+];
+
+/// What a damaged input is held against.
+#[cfg(feature = "archive")]
+const PAPER: &str = "the archive and document 01";
+
+/// What a night is asked of.
+fn sides() -> String {
     let mut sides = vec!["the rules"];
     if oracle::AT_HAND {
         sides.insert(0, "the crate's file on f64");
@@ -169,40 +262,38 @@ fn run() -> Result<(), String> {
     if cfg!(feature = "archive") {
         sides.push("the archive");
     }
-    let (sides, seed) = (sides.join(", "), settings.seed);
+    sides.join(", ")
+}
+
+fn run(parts: &[Part], settings: &Settings) -> Result<(), String> {
+    if !oracle::AT_HAND {
+        println!("{}", oracle::NOT_RUN);
+    }
+    if cfg!(not(feature = "archive")) {
+        println!("the comparison with the archive was not run: this was built without the feature `archive`");
+    }
     let mut compared = Compared::new(settings.seed);
-    println!("{} small nights in full: {sides}", every(&mut compared, &settings)?);
-    println!("{} random nights of sides to 64, seed {seed}: {sides}", random(&mut compared, &settings)?);
-    println!("{} random nights of sides 100 to 1024, seed {seed}: {sides}", large(&mut compared, &settings)?);
-    println!(
-        "{} random nights of side {LARGEST_SIDE}, seed {seed}: {sides}",
-        at_the_limit(&mut compared, &settings)?
-    );
-    for line in barred::run(&mut compared, seed, settings.count / 4)? {
-        println!("{line}, seed {seed}: {sides}, a matching");
+    for part in parts {
+        part(&mut compared, settings)?;
     }
-    println!("{}, seed {seed}: {sides}", oblong::run(&mut compared, seed, settings.count / 4)?);
-    let seconds = ties::run(&mut compared, seed, settings.count / 4, settings.large)?;
-    println!("{seconds}, seed {seed}: {}", ties::SIDES);
-    damaged(&mut compared, &settings)?;
-    let (count, large) = (settings.count / 8, settings.large.div_ceil(5));
-    for line in surcharges::run(&mut compared, seed, count, large)? {
-        println!("{line}, seed {seed}: {sides}");
-    }
-    println!(
-        "{}, seed {seed}: {}",
-        repairs::run(&mut compared, seed, settings.count / 40, large)?,
-        repairs::SIDES
-    );
     #[cfg(feature = "archive")]
-    for line in compared.met.lines()? {
-        println!("  {line}");
+    if parts.len() == PARTS.len() {
+        for line in compared.met.lines()? {
+            println!("  {line}");
+        }
     }
     Ok(())
 }
 
 fn main() -> ExitCode {
-    match run() {
+    let (parts, settings) = match settings() {
+        Ok(both) => both,
+        Err(wrong) => {
+            eprintln!("differential: {wrong}");
+            return ExitCode::from(2);
+        }
+    };
+    match run(&parts, &settings) {
         Ok(()) => {
             println!("differential: all equal");
             ExitCode::SUCCESS

@@ -1,13 +1,22 @@
 //! A stand-in for libface.a: the same C names over document 01's rules in plain Rust. It is proved in no way and
-//! serves to try the wrapper and the comparison. Its features each do one thing wrong.
+//! serves to try the wrapper and the comparison. Each form of wrong.txt, which names it and the part of the
+//! comparison that finds it, does one thing wrong; the variable STANDIN_WRONG says which is taken.
 
+use std::env;
 use std::slice::{from_raw_parts, from_raw_parts_mut};
-use std::sync::Mutex;
+use std::sync::{Mutex, OnceLock};
 
 use differential::refusals::Refused;
 use differential::seconds::{self, Shown};
 use differential::sheets::Sheet;
 use differential::{audits, checks, matching, refusals, rules, scores};
+
+/// Whether this is the form to be taken.
+fn wrong(form: &str) -> bool {
+    static TAKEN: OnceLock<String> = OnceLock::new();
+    let taken = TAKEN.get_or_init(|| env::var("STANDIN_WRONG").unwrap_or_default());
+    taken == form
+}
 
 #[repr(C)]
 pub struct Solved {
@@ -60,7 +69,7 @@ fn surcharged(n: usize, before: &[i32], costs: &[i32]) -> bool {
 /// A night's answer. A surcharge is overlooked from side 2 on: the nights of side 1 in full follow one another by
 /// such amounts, and would tell it before any other.
 fn paired(n: usize, costs: &[i32]) -> rules::Answer {
-    if !cfg!(feature = "surcharge-overlooked") || n < 2 {
+    if !wrong("surcharge-overlooked") || n < 2 {
         return rules::solve(n, costs);
     }
     let mut last = LAST.lock().expect("nothing panics while it is held");
@@ -77,9 +86,7 @@ fn paired(n: usize, costs: &[i32]) -> rules::Answer {
 fn answer(result: Result<i64, Refused>) -> Total {
     match result {
         Ok(total) => Total { refusal: 0, total },
-        Err(refused) => {
-            Total { refusal: refusals::code(refused), total: i64::from(cfg!(feature = "total-on-refusal")) }
-        }
+        Err(refused) => Total { refusal: refusals::code(refused), total: i64::from(wrong("total-on-refusal")) },
     }
 }
 
@@ -112,7 +119,7 @@ pub unsafe extern "C" fn bristlefrost_solve(
 
     let lists = [cols_len, rows_len, row_prices_len, col_prices_len];
     if let Err(refused) = refusals::solver(n, costs, lists, [indices_len, numbers_len]) {
-        if cfg!(feature = "written-on-refusal") && refused.0 == 5 {
+        if wrong("written-on-refusal") && refused.0 == 5 {
             numbers[0] = 1;
         }
         return Solved { refusal: refusals::code(refused), total: 0, counts: [0; 6] };
@@ -124,20 +131,20 @@ pub unsafe extern "C" fn bristlefrost_solve(
         row_prices[k] = night.row_prices[k];
         col_prices[k] = night.column_prices[k];
     }
-    if !cfg!(feature = "room-not-cleared") {
+    if !wrong("room-not-cleared") {
         indices[..4 * n].fill(0);
         numbers[..n].fill(0);
     }
-    if cfg!(feature = "one-past-the-end") && cols_len > n {
+    if wrong("one-past-the-end") && cols_len > n {
         cols[n] = 0;
     }
-    if cfg!(feature = "prices-shifted") {
+    if wrong("prices-shifted") {
         // Every sum of a row price and a column price stays.
         row_prices[..n].iter_mut().for_each(|price| *price += 1);
         col_prices[..n].iter_mut().for_each(|price| *price -= 1);
     }
     let mut counts = night.counts.six().map(|count| count as u64);
-    if cfg!(feature = "looks-exchanged") {
+    if wrong("looks-exchanged") {
         counts.swap(1, 3);
     }
     Solved { refusal: 0, total: night.total, counts }
@@ -164,7 +171,7 @@ pub unsafe extern "C" fn bristlefrost_check(
     let row_prices = from_raw_parts(row_prices, row_prices_len);
     let col_prices = from_raw_parts(col_prices, col_prices_len);
     let mut result = refusals::checker(n, costs, cols, rows, row_prices, col_prices);
-    if cfg!(feature = "refusals-out-of-order") && matches!(result, Err((9, _))) {
+    if wrong("refusals-out-of-order") && matches!(result, Err((9, _))) {
         // A 10 on an earlier row hides the 9.
         let tight =
             |i: usize| row_prices[i] + col_prices[cols[i] as usize] == i64::from(costs[i * n + cols[i] as usize]);
@@ -172,14 +179,14 @@ pub unsafe extern "C" fn bristlefrost_check(
             result = Err((10, row as u64));
         }
     }
-    if cfg!(feature = "accepts-all") && matches!(result, Err((9 | 10, _))) {
+    if wrong("accepts-all") && matches!(result, Err((9 | 10, _))) {
         result = refusals::cost(n, costs, &cols[..n]);
     }
     let mut slack = refusals::slack(&result, n, costs, cols, row_prices, col_prices);
-    if cfg!(feature = "slack-reversed") {
+    if wrong("slack-reversed") {
         slack = -slack;
     }
-    if cfg!(feature = "slack-with-eight") && matches!(result, Err((8, _))) {
+    if wrong("slack-with-eight") && matches!(result, Err((8, _))) {
         slack = 1;
     }
     let Total { refusal, total } = answer(result);
@@ -211,11 +218,11 @@ pub unsafe extern "C" fn bristlefrost_check_barred(
     let bars = from_raw_parts(bars, bars_len);
     let mut result = refusals::barred_checker(n, costs, cols, rows, row_prices, col_prices, bars);
     let tested = result.is_ok() || matches!(result, Err((9 | 10 | 26, _)));
-    if cfg!(feature = "barred-places-priced") && tested && !matches!(result, Err((26, _))) {
+    if wrong("barred-places-priced") && tested && !matches!(result, Err((26, _))) {
         // 9 on barred places too.
         result = refusals::checker(n, costs, cols, rows, row_prices, col_prices);
     }
-    if cfg!(feature = "barred-pair-passed") && matches!(result, Err((26, _))) {
+    if wrong("barred-pair-passed") && matches!(result, Err((26, _))) {
         // The pairs that are made are taken for allowed ones.
         let made: Vec<u64> = (0..n).map(|i| bars[i] & !(1 << cols[i])).collect();
         result = refusals::barred_checker(n, costs, cols, rows, row_prices, col_prices, &made);
@@ -244,10 +251,10 @@ pub unsafe extern "C" fn bristlefrost_check_oblong(
     let row_prices = from_raw_parts(row_prices, row_prices_len);
     let col_prices = from_raw_parts(col_prices, col_prices_len);
     let mut result = refusals::oblong_checker(m, n, costs, cols, row_prices, col_prices);
-    if cfg!(feature = "spares-not-tested") && matches!(result, Err((27, _))) {
+    if wrong("spares-not-tested") && matches!(result, Err((27, _))) {
         result = Ok((0..m).map(|i| i64::from(costs[i * n + cols[i] as usize])).sum());
     }
-    if cfg!(feature = "spares-not-above") && matches!(result, Ok(_) | Err((27, _))) {
+    if wrong("spares-not-above") && matches!(result, Ok(_) | Err((27, _))) {
         // The wrong sign.
         let used = |j: usize| cols[..m].contains(&(j as u32));
         let above = |j: usize| (0..m).any(|i| col_prices[j] > col_prices[cols[i] as usize]);
@@ -270,7 +277,7 @@ fn seconded(
     numbers: &mut [i64],
 ) -> Seconded {
     let Shown { m, n, costs, columns, row_prices, column_prices, .. } = night;
-    if cfg!(feature = "room-before-list") && tested == Err((3, 6)) && indices.len() < 4 * n {
+    if wrong("room-before-list") && tested == Err((3, 6)) && indices.len() < 4 * n {
         tested = Err((4, 1));
     }
     let slack = refusals::slack(&tested, n, costs, columns, row_prices, column_prices);
@@ -280,17 +287,17 @@ fn seconded(
     }
     night.columns = &columns[..m];
     let mut found = walked(night);
-    if cfg!(feature = "only-by-twos") {
+    if wrong("only-by-twos") {
         // A second that moves more than two rows is overlooked.
         let moved = |other: &Vec<u32>| (0..m).filter(|&i| other[i] != columns[i]).count();
         found = found.filter(|other| moved(other) <= 2);
     }
-    if cfg!(feature = "second-is-the-first") && found.is_some() {
+    if wrong("second-is-the-first") && found.is_some() {
         found = Some(night.columns.to_vec());
     }
     if let Some(other) = &found {
         second[..m].copy_from_slice(other);
-    } else if cfg!(feature = "list-written-for-only") {
+    } else if wrong("list-written-for-only") {
         second[..m].copy_from_slice(night.columns);
     }
     indices[..4 * n].fill(0);
@@ -301,10 +308,10 @@ fn seconded(
 /// The walk.
 fn walked(night: Shown) -> Option<Vec<u32>> {
     let Shown { m, n, costs, columns, column_prices, .. } = night;
-    if cfg!(feature = "barred-place-walked") {
+    if wrong("barred-place-walked") {
         return seconds::second(&Shown { bars: None, ..night });
     }
-    if cfg!(feature = "spare-at-any-price") && m > 0 {
+    if wrong("spare-at-any-price") && m > 0 {
         // The spare columns are lowered to the dearest used one, and their costs with them.
         let dearest = columns.iter().map(|&j| column_prices[j as usize]).max().unwrap_or(0);
         let over = |j: usize| if columns.contains(&(j as u32)) { 0 } else { column_prices[j] - dearest };
@@ -451,17 +458,17 @@ pub unsafe extern "C" fn bristlefrost_repair(
 
     let mut tested =
         refusals::repair(n, costs, row, cols, rows, row_prices, col_prices, [indices_len, numbers_len]);
-    if cfg!(feature = "written-before-far") && matches!(tested, Err((24, _))) {
+    if wrong("written-before-far") && matches!(tested, Err((24, _))) {
         numbers[0] ^= 1;
     }
-    if cfg!(feature = "far-prices-repaired") && matches!(tested, Err((24, _))) {
+    if wrong("far-prices-repaired") && matches!(tested, Err((24, _))) {
         let slack = |i: usize, j: usize| i64::from(costs[i * n + j]) - row_prices[i] - col_prices[j];
         let fair = |i: usize| i == row || (0..n).all(|j| slack(i, j) >= 0) && slack(i, cols[i] as usize) == 0;
         if (0..n).all(fair) {
             tested = Ok(());
         }
     }
-    if cfg!(feature = "changed-row-tested") && tested.is_ok() {
+    if wrong("changed-row-tested") && tested.is_ok() {
         tested = refusals::checker(n, costs, cols, rows, row_prices, col_prices).map(|_| ());
     }
     let result = tested.map(|()| {
@@ -478,7 +485,7 @@ pub unsafe extern "C" fn bristlefrost_repair(
             row_prices[k] = night.row_prices[k];
             col_prices[k] = night.column_prices[k];
         }
-        if cfg!(feature = "old-row-price") {
+        if wrong("old-row-price") {
             row_prices[row] = old;
         }
         indices[..4 * n].fill(0);
@@ -500,8 +507,7 @@ pub unsafe extern "C" fn bristlefrost_cost(
 ) -> Total {
     let (costs, listed) = (from_raw_parts(costs, costs_len), from_raw_parts(listed, listed_len));
     let result = refusals::cost(n, costs, listed);
-    if cfg!(feature = "cost-inside-only") && matches!(result, Err((5, place)) if place as usize >= n * listed_len)
-    {
+    if wrong("cost-inside-only") && matches!(result, Err((5, place)) if place as usize >= n * listed_len) {
         return answer(Ok(0));
     }
     answer(result)
@@ -522,7 +528,7 @@ pub unsafe extern "C" fn bristlefrost_sheet(
 /// A night's answer, or the rows that show that it has no pairing.
 fn paired_or_blocked(night: &Sheet) -> Result<rules::Answer, u64> {
     let settled = matching::settled(night);
-    if cfg!(feature = "no-way-too-soon") {
+    if wrong("no-way-too-soon") {
         // Rows that each take their first free column, and never another.
         let mut taken = 0u64;
         for bits in &night.bars {
@@ -534,39 +540,39 @@ fn paired_or_blocked(night: &Sheet) -> Result<rules::Answer, u64> {
         }
     }
     // One row fewer.
-    settled.map_err(|rows| if cfg!(feature = "set-one-row-short") { rows & (rows - 1) } else { rows })
+    settled.map_err(|rows| if wrong("set-one-row-short") { rows & (rows - 1) } else { rows })
 }
 
 fn write_slip(sheet: &[u8], slip: &mut [u8]) -> u64 {
     let mut read = refusals::sheet(sheet, slip.len());
-    if cfg!(feature = "rows-from-the-trailer") && matches!(&read, Ok(night) if night.m < night.n) {
+    if wrong("rows-from-the-trailer") && matches!(&read, Ok(night) if night.m < night.n) {
         // There are as many rows as columns, and the distance is another one.
         read = Err((14, 0));
     }
     match read {
         Ok(mut night) => {
-            if cfg!(feature = "highest-byte-first") {
+            if wrong("highest-byte-first") {
                 night.costs.iter_mut().for_each(|cost| *cost = cost.swap_bytes());
             }
-            if cfg!(feature = "bars-reversed") && night.n > 0 {
+            if wrong("bars-reversed") && night.n > 0 {
                 night.bars.iter_mut().for_each(|bits| *bits = bits.reverse_bits() >> (64 - night.n));
             }
             let settled = paired_or_blocked(&night);
-            if cfg!(feature = "slip-of-edition-one") {
+            if wrong("slip-of-edition-one") {
                 night.edition = 1;
             }
             let (bytes, code) = matching::written(&night, &settled);
             slip[..bytes.len()].copy_from_slice(&bytes);
-            if cfg!(feature = "total-left-out") && code == 0 {
+            if wrong("total-left-out") && code == 0 {
                 let total = 10 * night.m + 8 * night.n;
                 slip[total..total + 8].fill(0);
             }
-            if cfg!(feature = "room-cleared-behind-rows") && code == 20 {
+            if wrong("room-cleared-behind-rows") && code == 20 {
                 slip[8..night.slip_length()].fill(0);
             }
             code
         }
-        Err((22, row)) if cfg!(feature = "bars-past-side-passed") => {
+        Err((22, row)) if wrong("bars-past-side-passed") => {
             // The bits from n up are left out, of this row and then of those behind it.
             let mut clear = sheet.to_vec();
             let trailer = sheet.len() - 12;
@@ -577,7 +583,7 @@ fn write_slip(sheet: &[u8], slip: &mut [u8]) -> u64 {
             eight.copy_from_slice(&bits.to_le_bytes());
             write_slip(&clear, slip)
         }
-        Err((14, _)) if cfg!(feature = "distance-not-tested") => {
+        Err((14, _)) if wrong("distance-not-tested") => {
             // What stands before the trailer is paired, wherever its distance points.
             let mut pointed = sheet.to_vec();
             let trailer = sheet.len() - 12;
@@ -592,7 +598,7 @@ fn write_slip(sheet: &[u8], slip: &mut [u8]) -> u64 {
             write_slip(&pointed, slip)
         }
         Err(refused) => {
-            if cfg!(feature = "slip-before-refusal") && refused.0 == 5 {
+            if wrong("slip-before-refusal") && refused.0 == 5 {
                 slip[0] ^= 1;
             }
             refusals::code(refused)
@@ -612,7 +618,7 @@ pub unsafe extern "C" fn bristlefrost_score(
     let (first, second) = (from_raw_parts(first, first_len), from_raw_parts(second, second_len));
     let forgotten =
         first.iter().zip(second).filter(|(a, b)| matches!((a, b), (b'8', b'B') | (b'B', b'8'))).count();
-    let forgotten = if cfg!(feature = "look-alike-forgotten") { 7 * forgotten as i64 } else { 0 };
+    let forgotten = if wrong("look-alike-forgotten") { 7 * forgotten as i64 } else { 0 };
     answer(scores::score(first, second).map(|score| score + forgotten))
 }
 
@@ -628,7 +634,7 @@ pub unsafe extern "C" fn bristlefrost_score_sheet(
     sheet_len: usize,
 ) -> u64 {
     let (firsts, seconds) = (from_raw_parts(firsts, firsts_len), from_raw_parts(seconds, seconds_len));
-    let (rows, columns) = if cfg!(feature = "rows-for-columns") { (seconds, firsts) } else { (firsts, seconds) };
+    let (rows, columns) = if wrong("rows-for-columns") { (seconds, firsts) } else { (firsts, seconds) };
     // Refusals name the lists as they were given.
     let written = scores::sheet(firsts, seconds, sheet_len).and_then(|_| scores::sheet(rows, columns, sheet_len));
     match written {
@@ -643,11 +649,11 @@ pub unsafe extern "C" fn bristlefrost_score_sheet(
 /// The first pairing of the least total, and that total.
 fn tried(n: usize, costs: &[i32]) -> (i64, Vec<usize>) {
     let (least, first) = checks::first_least(n, costs);
-    if cfg!(feature = "last-of-the-least") {
+    if wrong("last-of-the-least") {
         return (least, checks::least_pairings(n, costs).pop().expect("there is a permutation"));
     }
     let last: Vec<usize> = (0..n).rev().collect();
-    if cfg!(feature = "last-pairing-skipped") && n > 1 && first == last {
+    if wrong("last-pairing-skipped") && n > 1 && first == last {
         let mut found = (i64::MAX, last.clone());
         checks::pairings(n, n, costs, &|_, _| true, &mut Vec::new(), 0, &mut |columns, total| {
             if columns != last && total < found.0 {
@@ -688,13 +694,13 @@ pub unsafe extern "C" fn bristlefrost_audit(
 ) -> Audited {
     let (sheet, slip) = (from_raw_parts(sheet, sheet_len), from_raw_parts(slip, slip_len));
     let mut result = audits::audit(sheet, slip);
-    if cfg!(feature = "total-not-compared") {
+    if wrong("total-not-compared") {
         result = audits::held(sheet, slip);
     }
-    if cfg!(feature = "slip-before-sheet") && matches!(result, Err((5 | 22, _))) && !slip.ends_with(b"SLIP") {
+    if wrong("slip-before-sheet") && matches!(result, Err((5 | 22, _))) && !slip.ends_with(b"SLIP") {
         result = Err((25, 0));
     }
-    if let (true, Err((7, later))) = (cfg!(feature = "earlier-row-named"), &result) {
+    if let (true, Err((7, later))) = (wrong("earlier-row-named"), &result) {
         let column = |row: usize| &slip[2 * row..2 * row + 2];
         let earlier = (0..*later as usize).find(|&row| column(row) == column(*later as usize));
         result = Err((7, earlier.expect("the column is used twice") as u64));
@@ -719,12 +725,12 @@ pub unsafe extern "C" fn bristlefrost_piece(
     let (bytes, state) = (from_raw_parts_mut(bytes, MOST as usize), from_raw_parts_mut(state, 2));
     let sent = from_raw_parts(sent, sent_len);
     if let Some(refused) = settled(state) {
-        let overlooked = cfg!(feature = "nothing-after-the-end") && refused == 28 && sent.is_empty();
+        let overlooked = wrong("nothing-after-the-end") && refused == 28 && sent.is_empty();
         return if overlooked { 0 } else { refused };
     }
     let came = state[0] as usize;
     let rest = MOST as usize - came;
-    if sent.len() > rest || cfg!(feature = "last-piece-refused") && !sent.is_empty() && sent.len() == rest {
+    if sent.len() > rest || wrong("last-piece-refused") && !sent.is_empty() && sent.len() == rest {
         state[1] = 1;
         return 17;
     }
@@ -764,7 +770,7 @@ pub unsafe extern "C" fn bristlefrost_end(
 #[no_mangle]
 pub unsafe extern "C" fn bristlefrost_reset(_bytes: *const u8, state: *mut u64) -> u64 {
     let state = from_raw_parts_mut(state, 2);
-    if !cfg!(feature = "reset-keeps-the-length") {
+    if !wrong("reset-keeps-the-length") {
         state[0] = 0;
     }
     state[1] = 0;
