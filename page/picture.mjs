@@ -34,7 +34,7 @@ function kindsOf({ night, slip }, other) {
     else if (slack < 0n) add("over", "prices over the cost", place);
     else if (slack > 0n) above.push({ place, slack });
     else if (other?.[place.i] === place.j) add("other", "in the other pairing that costs the same", place);
-    else add("tie", "a tie: slack 0, no pair", place);
+    else add("tie", "slack 0, no pair (it need not lead to another pairing)", place);
   }
   above.sort((a, b) => (a.slack < b.slack ? -1 : a.slack > b.slack ? 1 : 0));
   const quarters = SHADES.map(() => []);

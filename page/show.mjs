@@ -54,8 +54,10 @@ function showPlace({ night: { m, n, places }, slip }, i, j) {
   const place = places[i * n + j];
   const [u, v] = [slip.rowPrices[i], slip.columnPrices[j]];
   [one("#row").value, one("#column").value] = [i, j];
-  one("#try output").textContent = `cost ${spoken(place.cost)}${place.barred ? ", barred" : ""}; ` +
-    `prices ${spoken(u)} and ${spoken(v)}, together ${spoken(u + v)}; slack ${spoken(slackOf(place, slip))}.`;
+  one("#try output").textContent = place.barred
+    ? "barred: no pairing may use it, so that no cost and no prices count there."
+    : `cost ${spoken(place.cost)}; prices ${spoken(u)} and ${spoken(v)}, together ${spoken(u + v)}; ` +
+      `slack ${spoken(slackOf(place, slip))}.`;
 }
 
 function showPicture(found, other) {
@@ -66,7 +68,7 @@ function showPicture(found, other) {
   const within = numbers ? ", each with its price; in a place stands its cost, and below it its slack" : "";
   const meaning = found.refusal
     ? "where it is below 0, or not 0 on a pair, the prices show nothing."
-    : "a pairing that uses the place costs at least so much more. The darker, the nearer to a pair.";
+    : "a pairing that uses the place costs at least so much more. The darker of the shaded places, the nearer to a pair.";
   fill("#picture figcaption p", `Rows go down and columns across${within}. ` +
     `The slack of a place is its cost less its row price and column price: ${meaning}`);
   const tried = (event) => showPlace(found, ...pointed(event));

@@ -1,7 +1,7 @@
-/* A night from costs to an audited slip, in C: writes a sheet's bytes, pairs them, reads the slip and holds it against the
- * costs with the checker, which does not run the solver. From the repository, with the archive built:
+/* A night from costs to an audited slip, in C: writes a sheet's bytes, pairs them, audits the slip, reads it and holds it
+ * against the costs with the checker, which does not run the solver. From the repository, with the archive built:
  *
- *     cc -I rust/bristlefrost/include rust/bristlefrost/examples/pair.c target/staticlib/libface.a -lm -o pair && ./pair
+ *     cc -I rust/bristlefrost/include rust/bristlefrost/examples/pair.c target/staticlib/libface.a -o pair && ./pair
  */
 
 #include <bristlefrost.h>
@@ -48,6 +48,10 @@ int main(void) {
     const size_t length = write_sheet(sheet, "three guests", costs);
 
     uint64_t refusal = bristlefrost_sheet(sheet, length, slip, sizeof slip);
+    if (refusal != 0) return refused(refusal);
+
+    /* The slip's own length, not that of its room. */
+    refusal = bristlefrost_audit(sheet, length, slip, BRISTLEFROST_SLIP(SIDE)).refusal;
     if (refusal != 0) return refused(refusal);
 
     /* The columns by row, row prices, column prices and the total. A column that is not there is refused with 6, and one

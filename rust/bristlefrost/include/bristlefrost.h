@@ -87,10 +87,15 @@ extern "C" {
 #define BRISTLEFROST_LONGEST_SLIP 1174 /* room enough for any sheet's */
 #define BRISTLEFROST_REFERENCE 12
 
+/* The bytes of a slip: of a square night, editions 1 and 2, and of m rows and n columns, edition 3. */
+#define BRISTLEFROST_SLIP(n) (18 * (n) + 20)
+#define BRISTLEFROST_OBLONG_SLIP(m, n) (10 * (m) + 8 * (n) + 22)
+
 /* The bytes of stack that a call takes at most, as measured: bristlefrost_sheet and bristlefrost_end the first, whatever
- * the side, and every function whose room is lent (solve, check, check_barred, check_oblong, cost, repair, score,
- * score_sheet, piece, reset) the second. A thread with a smaller stack leaves sheets to another one, or calls solve. */
+ * the side, bristlefrost_audit the second, and every other function the third. A thread with a smaller stack leaves sheets
+ * and slips to another one, or calls solve and check. */
 #define BRISTLEFROST_SHEET_STACK 163840
+#define BRISTLEFROST_AUDIT_STACK 32768
 #define BRISTLEFROST_STACK 8192
 
 /* The refusals' numbers: refusal % 256. The place is refusal / 256. */
@@ -307,11 +312,12 @@ bristlefrost_total bristlefrost_plain(
     const int32_t *costs, size_t costs_len,
     uint32_t *cols, size_t cols_len);
 
-/* Holds a slip against its sheet, whoever wrote it. Accepted means that the slip's total is the least of the sheet's
- * night. It tests the sheet as bristlefrost_sheet does, then the slip's form, then what it says as the checker of its
- * edition does, with the plain engine beside it up to side 8; last comes the total. It proves a slip, it does not sign
- * one: in edition 3 a spare column's price may be higher, and a row may have a spare column of the same cost and price
- * instead. Refusals 17 11 12 13 23 14 15 21 5 22 25 6 7 26 8 9 10 27 25. */
+/* Holds a slip against its sheet, whoever wrote it; slip_len is the slip's own length, not its room's. Accepted means
+ * that the slip's total is the least of the sheet's night. It tests the sheet as bristlefrost_sheet does, then the slip's
+ * form, then what it says as the checker of its edition does, with the plain engine beside it up to side 8; last comes
+ * the total. A 9 or 10 comes without its slack. It proves a slip, it does not sign one: in edition 3 a spare column's
+ * price may be higher, and a row may have a spare column of the same cost and price instead.
+ * Refusals 17 11 12 13 23 14 15 21 5 22 25 6 7 26 8 9 10 27 25. */
 bristlefrost_audited bristlefrost_audit(
     const uint8_t *sheet, size_t sheet_len,
     const uint8_t *slip, size_t slip_len);

@@ -34,7 +34,8 @@ pub fn pair(night: &Sheet) -> Result<Slip, Refusal> {
     Ok(Slip::read(&slip).expect("the archive writes slips"))
 }
 
-/// Whether another pairing of a sheet's night has the total of a slip's, which must be least by the slip's prices.
+/// Whether another pairing of a sheet's night has the total of a slip's, which must be least by the slip's prices. A slip
+/// of another edition, side, row count or total than the sheet's is [`Refusal::SlipWrong`], as by the audit.
 ///
 /// ```
 /// use bristlefrost::{another, pair, Sheet};
@@ -43,7 +44,8 @@ pub fn pair(night: &Sheet) -> Result<Slip, Refusal> {
 /// let slip = pair(&night)?;
 /// let second = another(&night, &slip)?;
 /// assert_eq!((&slip.columns[..], second.total, &second.also), (&[2, 0, 1][..], 1, &Some(vec![1, 0, 2])));
-/// let told: Vec<String> = second.swaps(&[2, 0, 1]).iter().map(|swap| swap.to_string()).collect();
+/// let columns: Vec<u32> = slip.columns.iter().map(|&column| column.into()).collect();
+/// let told: Vec<String> = second.swaps(&columns).iter().map(|swap| swap.to_string()).collect();
 /// assert_eq!(told[0], "row 0 has column 2 and could have column 1, which row 2 has");
 ///
 /// // With that place barred there is only one.
@@ -52,14 +54,22 @@ pub fn pair(night: &Sheet) -> Result<Slip, Refusal> {
 /// # Ok::<(), Box<dyn std::error::Error>>(())
 /// ```
 pub fn another(night: &Sheet, slip: &Slip) -> Result<Second, Refusal> {
+    if slip.beside(night).is_err() {
+        return Err(Refusal::SlipWrong);
+    }
     let (m, n) = (night.rows(), night.side());
     let columns: Vec<u32> = slip.columns.iter().map(|&column| column.into()).collect();
     let rows = rows_by_column(n, &columns);
     let (costs, u, v) = (night.costs(), &slip.row_prices, &slip.column_prices);
-    match (night.edition(), night.bars()) {
+    let found = match (night.edition(), night.bars()) {
         (_, Some(bars)) => second_barred(n, costs, &columns, &rows, u, v, bars),
         (3, _) => second_oblong(m, n, costs, &columns, u, v),
         _ => second(n, costs, &columns, &rows, u, v),
+    }?;
+    if found.total == slip.total {
+        Ok(found)
+    } else {
+        Err(Refusal::SlipWrong)
     }
 }
 

@@ -1,6 +1,6 @@
 //! A paired night that is kept with its costs, so that it can be repaired where one row's change.
 
-use crate::{repair_into, solve_into, Lists, Refusal};
+use crate::{repair_into, solve_into, Lists, Refusal, Slip, LARGEST_SHEET_SIDE};
 
 /// A paired night with its costs. Where the costs of one row change it is repaired with one search, and where its
 /// prices have gone too far for that, it is solved afresh.
@@ -108,5 +108,26 @@ impl KeptNight {
     /// The total cost of the pairs; no pairing has a lower one.
     pub fn total(&self) -> i64 {
         self.total
+    }
+
+    /// The slip of the night as it stands, to be saved beside the sheet of its costs; none of a side that no sheet has.
+    ///
+    /// ```
+    /// use bristlefrost::{audit, KeptNight, Sheet};
+    ///
+    /// let mut night = KeptNight::new(2, &[1, 2, 1, 5])?;
+    /// night.change(1, &[1, 1])?;
+    /// let (sheet, slip) = (Sheet::new(2, night.costs())?, night.slip().expect("a side to 64"));
+    /// assert_eq!(audit(&sheet.bytes(), &slip.bytes()?)?.total, night.total());
+    /// # Ok::<(), Box<dyn std::error::Error>>(())
+    /// ```
+    pub fn slip(&self) -> Option<Slip> {
+        (self.side <= LARGEST_SHEET_SIDE).then(|| Slip {
+            edition: 1,
+            columns: self.columns().iter().map(|&column| column as u16).collect(),
+            row_prices: self.row_prices().to_vec(),
+            column_prices: self.column_prices().to_vec(),
+            total: self.total,
+        })
     }
 }

@@ -46,7 +46,7 @@
 //! | rows | as many as columns; [`check_oblong`] to 64 columns, and at most as many rows | as many as columns, or fewer where no pair is barred |
 //! | bars | [`check_barred`], to side 64 | any pairs, where there are as many rows as columns |
 //! | bytes | | a sheet 65,536 ([`LONGEST_SHEET`]), its note 4,096, a slip 1,174 ([`LONGEST_SLIP`]) |
-//! | stack | 8 KiB | 160 KiB, whatever the side |
+//! | stack | 8 KiB | 160 KiB, whatever the side; an audit 32 KiB |
 //!
 //! Anything else is a [`Refusal`], by its number and place, and never a panic. What cannot be read or made here is
 //! [`Unfit`], and [`Error`] is either of the two.

@@ -43,6 +43,11 @@ fn a_table_is_paired_and_audited() {
     for line in [&format!("{at}.slip: side 3 total 1"), "audit: accepted 3 total 1"] {
         assert!(said.contains(&format!("night: {line}\n")), "{said}");
     }
+    for line in
+        ["row 0 price 1, column 2 price -1, cost 0", "row 0 has column 2 and could have column 1, which row 2 has"]
+    {
+        assert!(said.contains(&format!("    {line}\n")), "{said}");
+    }
     let kept = |end| fs::read(into.join("n8").with_extension(end)).expect("a file of the night");
     assert_eq!(kept("sheet"), fs::read(table.with_extension("sheet")).expect("a sample"));
     assert_eq!(kept("slip"), bristlefrost::sheet(&kept("sheet")).expect("a slip"));
@@ -70,6 +75,9 @@ fn a_table_is_not_written_over() {
     let (status, _, why) = night(&table, &into);
     assert_eq!((status, fs::read(&table).expect("the table")), (Some(2), b"7\n".to_vec()));
     assert!(why.contains("would be written over it"), "{why}");
+    let sheet = repository().join("samples/n8.sheet");
+    let (status, said, why) = night(&sheet, &into);
+    assert!(status == Some(2) && said.is_empty() && why.contains("this is a sheet, not a table"), "{why}");
     let (status, _, why) = night(&into.join("none.table"), &into);
     assert!(status == Some(2) && why.contains("no such table"), "{why}");
     let (status, _, why) = night(&table, &into.join("none"));

@@ -26,8 +26,8 @@ fn lists_that_are_not_taken() {
     let says = [
         ("0123456789a0", "is no reference of 12 characters"),
         ("0123456789A", "is no reference of 12 characters"),
-        ("0123456789AB", "refused 18 place 0"),
-        (&"0123456789AB\n".repeat(65), "refused 18 place 0"),
+        ("0123456789AB", " 1: as many are wanted in both"),
+        (&"0123456789AB\n".repeat(65), " 65: as many are wanted in both"),
     ];
     for (list, said) in says {
         fs::write(&other, list).expect("the list is kept");

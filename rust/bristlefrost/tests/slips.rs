@@ -102,3 +102,26 @@ fn refused_sheets_come_first() {
     }
     assert!(refused >= 11, "{refused} refused");
 }
+
+/// A slip of another edition, side, row count or total tells nothing of a second pairing.
+#[test]
+fn a_second_is_told_of_the_sheets_own_slip() {
+    use bristlefrost::{another, pair, Sheet};
+    let nights = [
+        Sheet::new(0, &[]).unwrap(),
+        Sheet::new(1, &[1]).unwrap(),
+        Sheet::new(2, &[1, 2, 2, 4]).unwrap(),
+        Sheet::new(2, &[1, 2, 2, 4]).unwrap().bar(0, 0).unwrap(),
+        Sheet::oblong(1, 2, &[1, 2]).unwrap(),
+    ];
+    for (k, night) in nights.iter().enumerate() {
+        let mut slip = pair(night).expect("a slip");
+        for (other, sheet) in nights.iter().enumerate() {
+            let told = another(sheet, &slip);
+            assert_eq!(told.is_ok(), k == other, "{k} with {other}: {told:?}");
+            assert!(told.is_ok() || told == Err(Refusal::SlipWrong), "{k} with {other}: {told:?}");
+        }
+        slip.total += 1;
+        assert_eq!(another(night, &slip), Err(Refusal::SlipWrong));
+    }
+}

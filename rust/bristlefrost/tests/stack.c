@@ -12,10 +12,10 @@ enum { STACK = 1 << 20, SIDE = 64, COSTS = SIDE * SIDE };
 static uint8_t stack[STACK], sheet[BRISTLEFROST_LONGEST_SHEET], kept[BRISTLEFROST_LONGEST_SHEET];
 static uint8_t slip[BRISTLEFROST_LONGEST_SLIP], scores[4 * COSTS + 12], references[SIDE * BRISTLEFROST_REFERENCE];
 static int32_t costs[COSTS];
-static uint32_t cols[SIDE], rows[SIDE], indices[4 * SIDE];
+static uint32_t cols[SIDE], rows[SIDE], also[SIDE], indices[4 * SIDE];
 static int64_t us[SIDE], vs[SIDE], numbers[SIDE];
 static uint64_t state[2], bars[SIDE], refusal;
-static size_t length;
+static size_t length, written;
 
 static void on_sheet(void) { refusal = bristlefrost_sheet(sheet, length, slip, sizeof slip); }
 static void on_end(void) { refusal = bristlefrost_end(kept, state, slip, sizeof slip); }
@@ -45,6 +45,24 @@ static void on_barred(void) {
 static void on_oblong(void) {
     refusal = bristlefrost_check_oblong(SIDE, SIDE, costs, COSTS, cols, SIDE, us, SIDE, vs, SIDE).refusal;
 }
+static void on_second(void) {
+    bristlefrost_seconded night = bristlefrost_second(
+        SIDE, costs, COSTS, cols, SIDE, rows, SIDE, us, SIDE, vs, SIDE, also, SIDE, indices, 4 * SIDE, numbers, SIDE);
+    refusal = night.refusal;
+}
+static void on_second_barred(void) {
+    bristlefrost_seconded night = bristlefrost_second_barred(
+        SIDE, costs, COSTS, cols, SIDE, rows, SIDE, us, SIDE, vs, SIDE, bars, SIDE, also, SIDE, indices, 4 * SIDE, numbers,
+        SIDE);
+    refusal = night.refusal;
+}
+static void on_second_oblong(void) {
+    bristlefrost_seconded night = bristlefrost_second_oblong(
+        SIDE, SIDE, costs, COSTS, cols, SIDE, us, SIDE, vs, SIDE, also, SIDE, indices, 4 * SIDE, numbers, SIDE);
+    refusal = night.refusal;
+}
+static void on_plain(void) { refusal = bristlefrost_plain(8, costs, 64, also, SIDE).refusal; }
+static void on_audit(void) { refusal = bristlefrost_audit(sheet, length, slip, written).refusal; }
 static void on_cost(void) { refusal = bristlefrost_cost(SIDE, costs, COSTS, cols, SIDE).refusal; }
 
 /* The bytes of stack that a call takes, or all of them where it is refused. */
@@ -75,6 +93,7 @@ static void make(int edition) {
         (uint8_t)distance, (uint8_t)(distance >> 8), 0, 0, SIDE, 0, (uint8_t)edition, 0, 0x4D, 0x54, 0x43, 0x48};
     memcpy(end, trailer, 12);
     length = (size_t)(end + 12 - sheet);
+    written = (size_t)(10 * m + 8 * SIDE + 20 + (edition == 3 ? 2 : 0));
     state[0] = state[1] = 0;
 }
 
@@ -86,9 +105,11 @@ int main(void) {
         if (taken(on_sheet) > BRISTLEFROST_SHEET_STACK) return edition;
         if (taken(on_piece) > BRISTLEFROST_STACK) return 10 + edition;
         if (taken(on_end) > BRISTLEFROST_SHEET_STACK) return 20 + edition;
+        if (taken(on_audit) > BRISTLEFROST_AUDIT_STACK) return 50 + edition;
     }
-    void (*const calls[])(void) = {on_solve, on_check, on_barred, on_oblong, on_cost, on_repair, on_check, on_score};
-    for (int k = 0; k < 8; k++)
+    void (*const calls[])(void) = {on_solve, on_check, on_barred, on_oblong, on_cost, on_repair, on_check, on_score,
+        on_second, on_second_barred, on_second_oblong, on_plain};
+    for (int k = 0; k < 12; k++)
         if (taken(calls[k]) > BRISTLEFROST_STACK) return 30 + k;
     return 0;
 }

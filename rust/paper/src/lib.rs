@@ -45,22 +45,32 @@ pub const LONGEST_NOTE: usize = 4096;
 pub const REFERENCE: usize = 12;
 
 /// A list of references from text, one behind the other: a line for each, blanks about it left out. A line that begins
-/// with '#' and an empty line are passed over, and so is a byte-order mark.
+/// with '#' and an empty line are passed over, and so is a byte-order mark. A list without a reference is unfit, unless a
+/// line of it says `nobody`.
 ///
 /// ```
 /// assert_eq!(paper::references("# one guest\n0123456789AB\n")?, b"0123456789AB");
 /// let word = String::from("0123456789ab");
 /// assert_eq!(paper::references("\n0123456789ab"), Err(paper::Unfit::Reference { line: 2, word }));
+/// assert_eq!(paper::references("# a quiet night\nnobody\n")?, b"");
+/// assert_eq!(paper::references("\n"), Err(paper::Unfit::NoReference));
 /// # Ok::<(), paper::Unfit>(())
 /// ```
 pub fn references(text: &str) -> Result<Vec<u8>, Unfit> {
     let known = |byte: u8| byte.is_ascii_digit() || byte.is_ascii_uppercase();
-    let mut list = Vec::new();
+    let (mut list, mut nobody) = (Vec::new(), None);
     for (line, word) in text::lines(text).filter(|(_, text)| !text.starts_with('#')) {
-        if word.len() != REFERENCE || !word.bytes().all(known) {
+        if word.eq_ignore_ascii_case("nobody") {
+            nobody = Some(line);
+        } else if word.len() != REFERENCE || !word.bytes().all(known) {
             return Err(Unfit::Reference { line, word: word.to_string() });
+        } else {
+            list.extend(word.bytes());
         }
-        list.extend(word.bytes());
     }
-    Ok(list)
+    match nobody {
+        None if list.is_empty() => Err(Unfit::NoReference),
+        Some(line) if !list.is_empty() => Err(Unfit::Nobody { line }),
+        _ => Ok(list),
+    }
 }

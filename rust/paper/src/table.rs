@@ -23,14 +23,24 @@ fn cell(line: usize, column: usize, word: &str) -> Result<Cell, Unfit> {
     }
 }
 
+/// Whether a word between commas, not the first of its line, could be the rest of a number like 1,000.
+fn thousands(word: &str) -> bool {
+    word.len() == 3 && word.starts_with('0') && word.bytes().all(|byte| byte.is_ascii_digit())
+}
+
 /// The cells in a line of a table: between commas where there is one, else between blanks.
 fn row(line: usize, text: &str) -> Result<Vec<Cell>, Unfit> {
-    let words: Vec<&str> = if text.contains(',') {
+    let commas = text.contains(',');
+    let words: Vec<&str> = if commas {
         text.split(',').map(trim).collect()
     } else {
         text.split(BLANKS).filter(|word| !word.is_empty()).collect()
     };
-    (1..).zip(words).map(|(column, word)| cell(line, column, word)).collect()
+    let cell = |(column, word): (usize, &str)| match commas && column > 1 && thousands(word) {
+        true => Err(Unfit::Thousands { line, column, word: word.to_string() }),
+        false => cell(line, column, word),
+    };
+    (1..).zip(words).map(cell).collect()
 }
 
 /// The rows of a table, each with its line, and its note.

@@ -11,13 +11,22 @@ use crate::{LARGEST_COST, LARGEST_SIDE, LONGEST_NOTE, LONGEST_SHEET, REFERENCE};
 pub enum Unfit {
     /// The table has no row, and does not say `nobody`.
     Empty,
-    /// The table says `nobody`, and has rows.
+    /// The table, or the list of references, says `nobody`, and has rows.
     Nobody {
-        /// The table's line that says it, from 1.
+        /// The line that says it, from 1.
         line: usize,
     },
     /// A word of the table is no whole number and not `barred`.
     Word {
+        /// The table's line, from 1.
+        line: usize,
+        /// The table's column, from 1.
+        column: usize,
+        /// The word.
+        word: String,
+    },
+    /// A word behind a comma could be the rest of a number like 1,000: three digits, the first a zero.
+    Thousands {
         /// The table's line, from 1.
         line: usize,
         /// The table's column, from 1.
@@ -118,6 +127,8 @@ pub enum Unfit {
         /// What stands there.
         word: String,
     },
+    /// The list has no reference, and does not say `nobody`.
+    NoReference,
     /// The bytes are not those of a sheet: what is wrong with them.
     Sheet(&'static str),
     /// The bytes are not those of a slip: what is wrong with them.
@@ -134,10 +145,15 @@ impl fmt::Display for Unfit {
             Unfit::Empty => {
                 write!(f, "the table has no rows; where there is nobody to pair, a line of it says so: nobody")
             }
-            Unfit::Nobody { line } => write!(f, "line {line}: 'nobody' in a table that has rows"),
+            Unfit::Nobody { line } => write!(f, "line {line}: 'nobody' beside rows"),
             Unfit::Word { line, column, word } => {
                 write!(f, "line {line}, column {column}: '{}' is not a whole number, nor 'barred'", Shown(word))
             }
+            Unfit::Thousands { line, column, word } => write!(
+                f,
+                "line {line}, column {column}: ',{}' looks like the rest of a number: a comma stands between two costs, never within one",
+                Shown(word)
+            ),
             Unfit::EmptyCell { line, column } => {
                 write!(f, "line {line}, column {column}: a comma without a cost beside it")
             }
@@ -174,6 +190,9 @@ impl fmt::Display for Unfit {
             Unfit::Long => write!(f, "a sheet of over {LONGEST_SHEET} bytes"),
             Unfit::Reference { line, word } => {
                 write!(f, "line {line}: '{}' is no reference of {REFERENCE} characters from 0-9 and A-Z", Shown(word))
+            }
+            Unfit::NoReference => {
+                write!(f, "the list has no references; where there is nobody to pair, a line of it says so: nobody")
             }
             Unfit::Sheet(what) => write!(f, "not a sheet: {what}"),
             Unfit::Slip(what) => write!(f, "not a slip: {what}"),

@@ -12,6 +12,28 @@ fn told(table: &str) -> String {
 }
 
 #[test]
+fn a_comma_within_a_cost_is_told() {
+    let said = "looks like the rest of a number: a comma stands between two costs, never within one";
+    assert_eq!(told("1,000,2,000"), format!("line 1, column 2: ',000' {said}"));
+    assert_eq!(told("12,34\n1, 050"), format!("line 2, column 2: ',050' {said}"));
+    assert_eq!(Sheet::from_table("007,00\n0,10"), Sheet::new(2, &[7, 0, 0, 10]));
+    assert_eq!(Sheet::from_table("1 000\n0007 2"), Sheet::new(2, &[1, 0, 7, 2]));
+}
+
+#[test]
+fn a_list_of_references_says_when_it_is_empty() {
+    let reference = "0123456789AB";
+    for list in ["", "\n", "# nobody\n", "\u{feff} \n"] {
+        assert_eq!(paper::references(list), Err(Unfit::NoReference));
+    }
+    for list in ["nobody", "# quiet\n NOBODY \nnobody\n"] {
+        assert_eq!(paper::references(list), Ok(Vec::new()));
+    }
+    assert_eq!(paper::references(&format!("{reference}\nnobody")), Err(Unfit::Nobody { line: 2 }));
+    assert_eq!(paper::references(reference), Ok(reference.as_bytes().to_vec()));
+}
+
+#[test]
 fn a_night_of_nobody_says_so() {
     let none = Sheet::new(0, &[]).expect("side 0");
     for table in ["nobody", "Nobody\n", "\n\t NOBODY \r\n", "nobody\nnobody"] {
@@ -24,6 +46,7 @@ fn a_night_of_nobody_says_so() {
     }
     assert_eq!(told(""), "the table has no rows; where there is nobody to pair, a line of it says so: nobody");
     assert_eq!(Sheet::from_table("7\n# and\nnobody\n"), Err(Unfit::Nobody { line: 3 }));
+    assert_eq!(told("7\nnobody"), "line 2: 'nobody' beside rows");
     assert_eq!(told("7 nobody"), "line 1, column 2: 'nobody' is not a whole number, nor 'barred'");
 }
 

@@ -53,7 +53,15 @@ fn score(firsts: &str, seconds: &str) -> Result<(), Box<dyn Error>> {
     let list = |path: &str| -> Result<Vec<u8>, Box<dyn Error>> {
         Ok(named(path, references(&named(path, fs::read_to_string(path))?))?)
     };
-    say(&bristlefrost::score_sheet(&list(firsts)?, &list(seconds)?)?)
+    let (rows, columns) = (list(firsts)?, list(seconds)?);
+    if rows.len() != columns.len() {
+        let count = |list: &[u8]| list.len() / paper::REFERENCE;
+        let (rows, columns) = (count(&rows), count(&columns));
+        return Err(
+            format!("{firsts} has {rows} references and {seconds} {columns}: as many are wanted in both").into()
+        );
+    }
+    say(&bristlefrost::score_sheet(&rows, &columns)?)
 }
 
 fn main() -> ExitCode {
