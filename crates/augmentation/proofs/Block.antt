@@ -1,5 +1,5 @@
--- The turns of the loops over a block: a column restarts the block, joins it or is passed by; and a column of a fresh block is free or
--- taken. Assumes nothing.
+-- The turns of the loops over a block: a column restarts the block or joins it, and those above its minimum are passed by; and a column of a
+-- fresh block is free or taken. Assumes nothing.
 use mathlib.Core.Path.{_≡_, sym, ap, _∙_}
 use mathlib.Core.Bool.{true, false, cond}
 use mathlib.Core.List.{List}
@@ -13,7 +13,7 @@ use lib.IntN.{ℤ}
 use lib.Signed.{ltZ, leZ}
 use Rattle.ints.proofs.Shapes.{zlin}
 use Rattle.lists.specs.Runs.{upward}
-use Rattle.lists.proofs.Runs.{upward-none, upward-last}
+use Rattle.lists.proofs.Runs.{upward-none, upward-last, upward-stays}
 use Rattle.lists.specs.Permutations.{at, exchange, Permutation}
 use Rattle.lists.proofs.Permutations.{exchange-permutation}
 use Rattle.assignment.specs.Pairings.{signedAt}
@@ -21,6 +21,7 @@ use Rattle.rules.specs.declared.LastFree.{LastFree}
 use Rattle.rules.specs.declared.LastFree.the-variants.{NoneYet, At}
 use Rattle.rules.specs.Block.{Block, blockStep, blockStart, block}
 use Rattle.rules.specs.Search.{lastFree}
+use Rattle.augmentation.specs.Near.{distanceAt, NextNear}
 
 abbrev blockOf : ℕ → ℤ → List ℕ → Block
 blockOf hi minimum list = record { hi = hi; minimum = minimum; list = list }
@@ -48,6 +49,18 @@ module _ {n lo : ℕ} {d : List ℤ} {list₀ list : List ℕ} {hi : ℕ} {minim
   pub whole-block : n ≤ k → blockOf hi minimum list ≡ block n d lo list₀
   unfolding block
   whole-block l = let e : k ≡ n = omega (arith, B .within) in B .same ∙ ap (λ (m : ℕ). upward (lo + 1) m (blockStep d lo) (blockStart d lo list₀)) e
+
+  -- The places up to r are above the minimum.
+  pub pass-by : {r : ℕ} → NextNear (distanceAt d list) minimum k n r → Blocked n lo d list₀ list hi minimum r
+  pass-by {r} N = record {
+    past = omega (arith, B .past, N .on);
+    within = N .most;
+    listed = B .listed;
+    block-end = omega (arith, B .block-end, N .on);
+    same =
+        upward-stays (lo + 1) k r (blockStep d lo) (blockStart d lo list₀) (blockOf hi minimum list) (omega (arith, B .past)) (N .on) (B .same)
+        (λ m l h. rw (N .passed m h l));
+  }
 
   module _ (l : k < n) where
     pub here-below : at list k < n
@@ -79,15 +92,6 @@ module _ {n lo : ℕ} {d : List ℤ} {list₀ list : List ℕ} {hi : ℕ} {minim
           block-end = omega (arith, B .block-end);
           same = ap (λ (x : ℤ). blockOf (hi + 1) x (exchange list k hi)) (sym z) ∙ (rw (f, e) at turn);
         }
-
-    pub pass-by : leZ (signedAt d (at list k)) minimum ≡ false → Blocked n lo d list₀ list hi minimum (k + 1)
-    pass-by f = record {
-      past = omega (arith, B .past);
-      within = omega arith;
-      listed = B .listed;
-      block-end = omega (arith, B .block-end);
-      same = rw f at turn;
-    }
 
 -- The same, at equal values.
 pub blocked-at : {n lo : ℕ} {d : List ℤ} {list₀ list : List ℕ} {hi : ℕ} {minimum : ℤ} {k : ℕ} → Blocked n lo d list₀ list hi minimum k

@@ -9,4 +9,6 @@ pub mod ScanLoop
 pub mod Search
 pub mod Leave
 pub mod Flips
+pub mod Hits
+pub mod OneRow
 pub mod Augmentation

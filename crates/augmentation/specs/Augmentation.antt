@@ -10,7 +10,7 @@ use Rattle.lists.specs.Permutations.{at}
 use Rattle.assignment.specs.Pairings.{signedAt, square}
 use Rattle.matrix.specs.Limits.{side, near}
 use Rattle.rules.specs.Columns.{Pairs, Stage}
-use Rattle.rules.specs.Augmentation.{Open, flips, Progress, augments, augmentation}
+use Rattle.rules.specs.Augmentation.{Open, flips, Progress, augment, augments, augmentation}
 use Rattle.rules.specs.Asked.{Can}
 use Rattle.augmentation.specs.Room.{freesIn, marksIn}
 
@@ -45,6 +45,24 @@ stateOf cols rows v scanned = record { pairs = pairsOf cols rows; prices = v; sc
 pub record CanTurn (n : ℕ) (costs : List ℤ) (x : Progress) (s : ℕ) : Type 0 where
   pub can : Can n (square n costs .cost) x s
   pub prices-near : (k : ℕ) → Within near (signedAt (x .prices) k)
+
+-- The same of row s, with all that is lent for it.
+pub record CanAugmentRow (n : ℕ) (costs : List ℤ) (s : ℕ) (cols rows : List ℕ) (v d : List ℤ) (room : List ℕ) : Type 0 where
+  pub small : n ≤ side
+  pub costs-size : length costs ≡ n * n
+  pub costs-near : (k : ℕ) → Within near (signedAt costs k)
+  pub distances-size : length d ≡ n
+  pub room-size : length room ≡ n + n + n + n
+  pub turn : CanTurn n costs (stateOf cols rows v 0) s
+
+-- Row s has its column: the pairs and prices are the definition's, and so is the count, from any count on; the free rows and the marks are
+-- as they were.
+pub record RowAugmented (n : ℕ) (costs : List ℤ) (s : ℕ) (cols₀ rows₀ : List ℕ) (v₀ : List ℤ) (room₀ cols rows : List ℕ) (v : List ℤ) (room : List ℕ) (r : ℕ) :
+    Type 0 where
+  pub same : (scanned : ℕ) → stateOf cols rows v (scanned + r) ≡ augment n (square n costs .cost) (stateOf cols₀ rows₀ v₀ scanned) s
+  pub few : r < n
+  pub frees-kept : freesIn n room ≡ freesIn n room₀
+  pub marks-kept : marksIn n room ≡ marksIn n room₀
 
 -- The first `count` free rows can get their columns: each can, from the state that the rows before it leave.
 pub record CanAugment (n : ℕ) (costs : List ℤ) (count : ℕ) (cols rows : List ℕ) (v d : List ℤ) (room : List ℕ) : Type 0 where

@@ -14,7 +14,11 @@ ghost use Rattle.rules.specs.Search.{lastFree, newPrices};
 ghost use Rattle.rules.specs.Augmentation.{flips, flipped};
 ghost use Rattle.augmentation.specs.Scan.{ScanRoom, ColumnsLowered, Scanned};
 ghost use Rattle.augmentation.specs.Search.{CanStart, Started, CanScan, CanChange, readyAt, CanSearch, Searched, foundFrom};
-ghost use Rattle.augmentation.specs.Augmentation.{CanFlip, CanAugment, Augmented, pairsOf, openAt};
+ghost use Rattle.augmentation.specs.Augmentation.{CanFlip, CanAugmentRow, RowAugmented, CanAugment, Augmented, pairsOf, openAt};
+
+mod direct;
+mod near;
+
 use matrix::rows::reduced_cost;
 use matrix::rows::row;
 use rules::Cursor;
@@ -41,7 +45,7 @@ fn lowered(cost: i32, price: i64, h: i64) -> i64
     reduced_cost(cost, price) - h
 }
 
-// Rule 2: the block of minima of the column list from lo on. Answers where it ends.
+// Rule 2: the block of minima of the column list from lo on; the places above the minimum are passed over. Answers where it ends.
 fn find_dense(n: usize, lo: usize, d: &[i64], list: &mut [u32]) -> usize
     requires { ⌜ (lo < n) × (length (now d) ≡ n) × Permutation n (now list) ⌝ }
     ensures { λ r. ⌜ (r ≡ block n (now (d .entry)) lo (now (list .entry)) .hi) × (now (list .exit) ≡ block n (now (d .entry)) lo (now (list .entry)) .list) ⌝ }
@@ -49,19 +53,17 @@ fn find_dense(n: usize, lo: usize, d: &[i64], list: &mut [u32]) -> usize
     let mut hi = lo + 1;
     let first = list[lo] as usize;
     let mut minimum = d[first];
-    let mut k = lo + 1;
+    let mut k = near::next_near(n, d, list, lo + 1, minimum);
     while k < n {
         let j = list[k] as usize;
         let h = d[j];
-        if h <= minimum {
-            if h < minimum {
-                hi = lo;
-                minimum = h;
-            }
-            exchange(list, k, hi);
-            hi += 1;
+        if h < minimum {
+            hi = lo;
+            minimum = h;
         }
-        k += 1;
+        exchange(list, k, hi);
+        hi += 1;
+        k = near::next_near(n, d, list, k + 1, minimum);
     }
     hi
 }
@@ -285,6 +287,33 @@ fn flip_back(
     }
 }
 
+// The row `start` gets its column, by a direct hit or by a search. Answers how many columns were scanned.
+fn augment_row(
+    n: usize,
+    costs: &[i32],
+    start: u32,
+    cols: &mut [u32],
+    rows: &mut [u32],
+    v: &mut [i64],
+    d: &mut [i64],
+    room: &mut [u32],
+) -> usize
+    requires { ⌜ CanAugmentRow n (now costs) start (now cols) (now rows) (now v) (now d) (now room) ⌝ }
+    ensures { λ r. ⌜ RowAugmented n (now (costs .entry)) start (now (cols .entry)) (now (rows .entry)) (now (v .entry)) (now (room .entry)) (now (cols .exit)) (now (rows .exit)) (now (v .exit)) (now (room .exit)) r ⌝ }
+{
+    let j = direct::hit(n, costs, rows, start, v);
+    if j < n {
+        cols[start as usize] = j as u32;
+        rows[j] = start;
+        return 0;
+    }
+    let n2 = n + n;
+    let n3 = n2 + n;
+    let reached = find_path_dense(n, costs, rows, start, v, d, room);
+    flip_back(n, start, reached.column, &room[n2..n3], cols, rows);
+    reached.scanned
+}
+
 // Rule 6, augmentation: the first `left` rows of the room get their columns, in list order. Answers how many columns were scanned.
 pub fn ca_dense(
     n: usize,
@@ -299,15 +328,11 @@ pub fn ca_dense(
     requires { ⌜ CanAugment n (now costs) left (now cols) (now rows) (now v) (now d) (now room) ⌝ }
     ensures { λ r. ⌜ Augmented n (now (costs .entry)) left (now (cols .entry)) (now (rows .entry)) (now (v .entry)) (now (room .entry)) (now (cols .exit)) (now (rows .exit)) (now (v .exit)) (now (room .exit)) r ⌝ }
 {
-    let n2 = n + n;
-    let n3 = n2 + n;
     let mut scanned: usize = 0;
     let mut k: usize = 0;
     while k < left {
         let start = room[k];
-        let reached = find_path_dense(n, costs, rows, start, v, d, room);
-        scanned += reached.scanned;
-        flip_back(n, start, reached.column, &room[n2..n3], cols, rows);
+        scanned += augment_row(n, costs, start, cols, rows, v, d, room);
         k += 1;
     }
     scanned

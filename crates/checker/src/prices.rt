@@ -24,6 +24,7 @@ use bars::bits::has;
 use bars::bits_at;
 use matrix::Verdict;
 use matrix::refusals;
+use matrix::rows::reduced_cost;
 use matrix::rows::row_of;
 use matrix::tests;
 
@@ -44,14 +45,37 @@ fn slack_at(m: usize, n: usize, costs: &[i32], us: &[i64], vs: &[i64], i: usize,
     slack(costs[i * n + j], us[i], vs[j])
 }
 
-// Refusal 9 in one row without bars: the first column at which the prices are over the cost, or the row's length.
+// Whether the prices are over the cost at column j of a row: the cost minus the row's price is below the column's.
+fn over_at(row: &[i32], u: i64, vs: &[i64], j: usize) -> bool
+    requires { ⌜ (j < length (now row)) × Within (10 * K) u × Prices (length (now row)) (now vs) ⌝ }
+    ensures { λ r. ⌜ r ≡ ltZ (signedAt (now (row .entry)) j -ℤ (u +ℤ signedAt (now (vs .entry)) j)) (pos 0) ⌝ }
+{
+    reduced_cost(row[j], u) < vs[j]
+}
+
+// Refusal 9 in one row without bars: the first column at which the prices are over the cost, or the row's length. Four columns a turn while there are four.
 fn first_column_over(row: &[i32], u: i64, vs: &[i64]) -> usize
     requires { ⌜ Within (10 * K) u × Prices (length (now row)) (now vs) ⌝ }
     ensures { λ r. ⌜ r ≡ first (length (now (row .entry))) (λ j. ltZ (signedAt (now (row .entry)) j -ℤ (u +ℤ signedAt (now (vs .entry)) j)) (pos 0)) ⌝ }
 {
     let mut j = 0;
+    while 4 <= row.len() - j {
+        if over_at(row, u, vs, j) {
+            return j;
+        }
+        if over_at(row, u, vs, j + 1) {
+            return j + 1;
+        }
+        if over_at(row, u, vs, j + 2) {
+            return j + 2;
+        }
+        if over_at(row, u, vs, j + 3) {
+            return j + 3;
+        }
+        j += 4;
+    }
     while j < row.len() {
-        if slack(row[j], u, vs[j]) < 0 {
+        if over_at(row, u, vs, j) {
             return j;
         }
         j += 1;
@@ -67,7 +91,7 @@ fn allowed_over(row: &[i32], u: i64, vs: &[i64], bits: u64, j: usize) -> bool
     if has(bits, j) {
         return false;
     }
-    slack(row[j], u, vs[j]) < 0
+    over_at(row, u, vs, j)
 }
 
 // Refusal 9 in one row with bars: the first allowed column at which the prices are over the cost, or the row's length.

@@ -8,6 +8,7 @@ ghost use lib.ListN.{length};
 ghost use Rattle.ints.specs.Parts.{Within};
 ghost use Rattle.lists.specs.Runs.{first};
 ghost use Rattle.lists.specs.Permutations.{at};
+ghost use Rattle.lists.specs.Counts.{some};
 ghost use Rattle.assignment.specs.Pairings.{signedAt};
 ghost use Rattle.matrix.specs.Limits.{side, K};
 ghost use Rattle.matrix.specs.Verdicts.{Passes, _then_, failsBy, failsIf};
@@ -161,11 +162,33 @@ pub fn rooms_long(before: Verdict, n: usize, indices: usize, numbers: usize) -> 
     fails_if(numbers < n, refusals::ROOM_SHORT, 2)
 }
 
-// Refusal 5: the first cost outside -limit..limit, in row order, or their number where there is none.
+// Whether some cost is outside -limit..limit. The pass ends at no cost and compares at the costs' own width, so that several are compared at once.
+fn some_cost_outside(limit: i32, costs: &[i32]) -> bool
+    requires { ⌜ Within K limit ⌝ }
+    ensures { λ r. ⌜ r ≡ some (length (now (costs .entry))) (λ k. outside limit (signedAt (now (costs .entry)) k)) ⌝ }
+{
+    let low = -limit;
+    let mut found = false;
+    let mut k = 0;
+    while k < costs.len() {
+        let cost = costs[k];
+        found = found | ((cost < low) | (limit < cost));
+        k += 1;
+    }
+    found
+}
+
+// Refusal 5: the first cost outside -limit..limit, in row order, or their number where there is none. It is looked for only where one pass tells of one, or the
+// limit is outside -K..K.
 fn first_cost_outside(limit: i64, costs: &[i32]) -> usize
     requires { ⌜ Within (2 ^ 62) limit ⌝ }
     ensures { λ r. ⌜ r ≡ first (length (now (costs .entry))) (λ k. outside limit (signedAt (now (costs .entry)) k)) ⌝ }
 {
+    if !outside(limit, bound()) {
+        if !some_cost_outside(limit as i32, costs) {
+            return costs.len();
+        }
+    }
     let mut k = 0;
     while k < costs.len() {
         if outside(costs[k] as i64, limit) {

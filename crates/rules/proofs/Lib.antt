@@ -23,6 +23,7 @@ pub mod Augment
 pub mod Augmentation
 pub mod Stages
 pub mod Run
+pub mod DirectHit
 pub mod SearchesEnd
 pub mod SameSearch
 pub mod Risen

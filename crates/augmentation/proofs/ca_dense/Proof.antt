@@ -5,23 +5,17 @@ use native.Mathlib.Omega.{arith}
 use borrow.Author.Needs.{needs}
 use lib.ListN.{length}
 use Rattle.matrix.proofs.SmallLimits.{side-small}
-use Rattle.augmentation.proofs.Augmentation.{Augmenting, first-turn, augmented, turn, can-search, found-few, way-back, next-turn}
+use Rattle.augmentation.proofs.Augmentation.{Augmenting, first-turn, augmented, can-augment-row, next-turn}
 use Rattle.augmentation.proofs.ca_dense.Statement.{statement}
 use Rattle.augmentation.proofs.ca_dense.Tie as tie
 
 abbrev Inv-loop : tie.InvT-loop
-Inv-loop n costs left cols₀ rows₀ v₀ d₀ room₀ n2 n3 scanned₀ k₀ cols rows v d room scanned k =
+Inv-loop n costs left cols₀ rows₀ v₀ d₀ room₀ scanned₀ k₀ cols rows v d room scanned k =
     Augmenting n costs left cols₀ rows₀ v₀ d₀ room₀ cols rows v d room scanned k
     × (length cols ≡ length cols₀) × (length rows ≡ length rows₀) × (length v ≡ length v₀)
 
 abbrev μ-loop : tie.MeasureT-loop
-μ-loop n costs left cols₀ rows₀ v₀ d₀ room₀ n2 n3 scanned₀ k₀ cols rows v d room scanned k = left - k
-
-add-n2 : tie.Need-add-n2 Inv-loop μ-loop
-add-n2 c = search needs
-
-add-n3 : tie.Need-add-n3 Inv-loop μ-loop
-add-n3 c = search needs
+μ-loop n costs left cols₀ rows₀ v₀ d₀ room₀ scanned₀ k₀ cols rows v d room scanned k = left - k
 
 loop-holds : tie.Need-loop-holds Inv-loop μ-loop
 loop-holds c = (first-turn (c .before .before .before .pre), refl, refl, refl)
@@ -32,45 +26,23 @@ mul-start c = search needs
 slice-read-start : tie.Need-slice-read-start Inv-loop μ-loop
 slice-read-start c = search needs
 
--- the turn that a search and a flip belong to
-abbrev turn-of : tie.After-find-path-dense Inv-loop μ-loop → tie.In-loop Inv-loop μ-loop
-turn-of c = c .before .before .before .before .before .before
+-- the turn that a row belongs to
+abbrev turn-of : tie.After-augment-row Inv-loop μ-loop → tie.In-loop Inv-loop μ-loop
+turn-of c = c .before .before .before .before .before .before .before
 
-abbrev search-of : tie.After-flip-back Inv-loop μ-loop → tie.After-find-path-dense Inv-loop μ-loop
-search-of c = c .before .before .before .before .before .before .before .before .before .before
+abbrev row-of : tie.After-slice-known7 Inv-loop μ-loop → tie.After-augment-row Inv-loop μ-loop
+row-of c = c .before .before .before .before .before .before .before .before
 
-find-path-dense-requires : tie.Need-find-path-dense-requires Inv-loop μ-loop
-find-path-dense-requires c κs =
-    let t = c .before .before .before .before .before in
-    let A = t .before .loop .inv .0 in
-    let p = A .can in (
-      can-search _ _ (p .small) (p .costs-size) (p .costs-near) _ _ _ _ _ (turn A (t .loop-test .taken)),
-      A .distances-size,
-      A .room-size,
-    )
+augment-row-requires : tie.Need-augment-row-requires Inv-loop μ-loop
+augment-row-requires c κs =
+    let t = c .before .before .before .before .before .before in
+    can-augment-row (t .before .loop .inv .0) (t .loop-test .taken)
 
 add-scanned : tie.Need-add-scanned Inv-loop μ-loop
 add-scanned c =
-    let x = c .before .before .before .before .before in
+    let x = row-of c in
     let A = turn-of x .before .loop .inv .0 in
-    omega (arith, side-small, A .can .small, A .can .few, A .few, A .reach, found-few A (turn-of x .loop-test .taken) (x .find-path-dense .ensures))
-
-mul-flip-back : tie.Need-mul-flip-back Inv-loop μ-loop
-mul-flip-back c = search needs
-
-sub-flip-back : tie.Need-sub-flip-back Inv-loop μ-loop
-sub-flip-back c = search needs
-
-part-flip-back-start : tie.Need-part-flip-back-start Inv-loop μ-loop
-part-flip-back-start c = search needs
-
-part-flip-back-end : tie.Need-part-flip-back-end Inv-loop μ-loop
-part-flip-back-end c = search needs
-
-flip-back-requires : tie.Need-flip-back-requires Inv-loop μ-loop
-flip-back-requires c κs =
-    let x = c .before .before .before .before .before .before .before .before .before in
-    way-back (turn-of x .before .loop .inv .0) (turn-of x .loop-test .taken) (x .find-path-dense .ensures)
+    omega (arith, side-small, A .can .small, A .can .few, A .few, A .reach, x .augment-row .ensures .few)
 
 add-k : tie.Need-add-k Inv-loop μ-loop
 add-k c = search needs
@@ -80,9 +52,9 @@ loop-less c = search needs
 
 loop-again : tie.Need-loop-again Inv-loop μ-loop
 loop-again c =
-    let f = c .before .before .before .before in
-    let x = search-of f in (
-      next-turn (turn-of x .before .loop .inv .0) (turn-of x .loop-test .taken) (x .find-path-dense .ensures) (f .flip-back .ensures) (search needs),
+    let x = row-of c in
+    let t = turn-of x in (
+      next-turn (t .before .loop .inv .0) (t .loop-test .taken) (x .augment-row .ensures) (search needs) (search needs),
       search needs,
       search needs,
       search needs,
@@ -112,18 +84,11 @@ ca-dense-spec =
     (tie.spec
     Inv-loop
     μ-loop
-    add-n2
-    add-n3
     loop-holds
     mul-start
     slice-read-start
-    find-path-dense-requires
+    augment-row-requires
     add-scanned
-    mul-flip-back
-    sub-flip-back
-    part-flip-back-start
-    part-flip-back-end
-    flip-back-requires
     add-k
     loop-less
     loop-again

@@ -1,13 +1,9 @@
 -- `allowed_over` answers refusal 9 for one place: no barred one has it, and an allowed one where its slack is below 0. Assumes nothing.
-use mathlib.Core.Path.{_≡_, sym, ap, ap₂, _∙_}
+use mathlib.Core.Path.{_≡_, sym, ap, _∙_}
 use mathlib.Core.Bool.{Bool, true, false, not, _&&_}
 use borrow.Author.Needs.{needs}
-use lib.IntN.{ℤ, pos, _+ℤ_, _-ℤ_}
-use lib.Signed.{ltZ}
-use mir.Syntax.{w32, w64}
+use lib.IntN.{ℤ}
 use mir.Facts.{toZ-ofZ}
-use Rattle.ints.proofs.Bits.{read-back}
-use Rattle.assignment.specs.Pairings.{signedAt}
 use Rattle.checker.proofs.Places.{overAt}
 use Rattle.checker.proofs.prices.allowed_over.Statement.{statement}
 use Rattle.checker.proofs.prices.allowed_over.Tie as tie
@@ -27,46 +23,16 @@ returns c =
     let u = d .before .args in
     barred (overAt (u .row .now) (u .u) (u .vs .now) (u .j)) (sym (d .has .ensures) ∙ c .if1 .taken)
 
-mul-slack : tie.Need-mul-slack
-mul-slack c = search needs
-
-shared-slice-copy-out-slack : tie.Need-shared-slice-copy-out-slack
-shared-slice-copy-out-slack c = search needs
-
-mul-slack-2 : tie.Need-mul-slack-2
-mul-slack-2 c = search needs
-
-shared-slice-copy-out-slack-2 : tie.Need-shared-slice-copy-out-slack-2
-shared-slice-copy-out-slack-2 c = search needs
-
-slack-requires : tie.Need-slack-requires
-slack-requires c κs =
-    let s = c .before .before .before .before in
-    let j = s .args .j in (
-      rw (toZ-ofZ (s .fits .u)) (s .pre .2),
-      rw (read-back w64 (signedAt (s .args .vs .now) j) (c .slack-arg2 .given)) (s .pre .3 .within j (s .pre .0)),
-    )
+over-at-requires : tie.Need-over-at-requires
+over-at-requires c κs = let s = c .before .before in (s .pre .0, rw (toZ-ofZ (s .fits .u)) (s .pre .2), s .pre .3)
 
 returns-2 : tie.Need-returns-2
 returns-2 c =
-    let s = c .before .before .before .before .before in
+    let s = c .before .before .before in
     let u = s .args in
-    ap (λ (z : ℤ). ltZ z (pos 0))
-    (read-back w64 (c .slack .result) (c .slack .ok)
-    ∙ c .slack .ensures
-    ∙ ap₂ _-ℤ_ (read-back w32 (signedAt (u .row .now) (u .j)) (c .before .before .slack-arg .given))
-    (ap₂ _+ℤ_ (toZ-ofZ (s .fits .u)) (read-back w64 (signedAt (u .vs .now) (u .j)) (c .before .slack-arg2 .given))))
-    ∙ allowed (overAt (u .row .now) (u .u) (u .vs .now) (u .j)) (sym (c .before .before .before .before .has .ensures) ∙ c .before .before .before .if1 .left)
+    c .over-at .ensures
+    ∙ ap (λ (z : ℤ). overAt (u .row .now) z (u .vs .now) (u .j)) (toZ-ofZ (s .fits .u))
+    ∙ allowed (overAt (u .row .now) (u .u) (u .vs .now) (u .j)) (sym (c .before .before .has .ensures) ∙ c .before .if1 .left)
 
 pub allowed-over-spec : {M : Type 1} → statement M
-allowed-over-spec =
-    tie.close
-    (tie.spec
-    has-requires
-    returns
-    mul-slack
-    shared-slice-copy-out-slack
-    mul-slack-2
-    shared-slice-copy-out-slack-2
-    slack-requires
-    returns-2)
+allowed-over-spec = tie.close (tie.spec has-requires returns over-at-requires returns-2)

@@ -2,28 +2,25 @@
 use mathlib.Core.Path.{_≡_, sym, ap, ap₂, _∙_}
 use mathlib.Core.Bool.{Bool, _||_}
 use Prim.Native.Nat.{_^_}
-use lib.IntN.{ℤ, pos, negℤ, _-ℤ_, +ℤ-idl}
+use lib.IntN.{ℤ, pos, negℤ, _-ℤ_}
 use lib.Signed.{ltZ}
 use mir.Syntax.{w64}
 use mir.Val.{SFits, toZ, ofZ}
 use mir.Facts.{toZ-ofZ}
 use Rattle.ints.specs.Parts.{Within}
 use Rattle.ints.proofs.Shapes.{zlin}
+use Rattle.matrix.proofs.Bounds.{minus-fits, minus-read}
 use Rattle.matrix.proofs.tests.outside.Statement.{statement}
 use Rattle.matrix.proofs.tests.outside.Tie as tie
 
-module _ (x limit : ℤ) (f : SFits w64 x) (g : SFits w64 limit) (near : Within (2 ^ 62) limit) where
-  negated-fits : SFits w64 (pos 0 -ℤ toZ w64 (ofZ w64 limit))
-  negated-fits = rw (toZ-ofZ g) (omega zlin)
+negated-fits : (limit : ℤ) → Within (2 ^ 62) limit → SFits w64 (pos 0 -ℤ limit)
+negated-fits limit near = omega zlin
 
-  negated : toZ w64 (ofZ w64 (pos 0 -ℤ toZ w64 (ofZ w64 limit))) ≡ negℤ limit
-  negated = toZ-ofZ negated-fits ∙ ap (λ (z : ℤ). pos 0 -ℤ z) (toZ-ofZ g) ∙ +ℤ-idl (negℤ limit)
-
-  below : ltZ (toZ w64 (ofZ w64 x)) (toZ w64 (ofZ w64 (pos 0 -ℤ toZ w64 (ofZ w64 limit)))) ≡ ltZ x (negℤ limit)
-  below = ap₂ ltZ (toZ-ofZ f) negated
+below : (x limit : ℤ) → SFits w64 x → SFits w64 limit → Within (2 ^ 62) limit → ltZ (toZ w64 (ofZ w64 x)) (toZ w64 (ofZ w64 (pos 0 -ℤ toZ w64 (ofZ w64 limit)))) ≡ ltZ x (negℤ limit)
+below x limit f g near = ap₂ ltZ (toZ-ofZ f) (minus-read g (negated-fits limit near))
 
 sub-if1 : tie.Need-sub-if1
-sub-if1 c = negated-fits (c .args .x) (c .args .limit) (c .fits .x) (c .fits .limit) (c .pre)
+sub-if1 c = minus-fits (c .fits .limit) (negated-fits (c .args .limit) (c .pre))
 
 returns : tie.Need-returns
 returns c =
