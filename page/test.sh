@@ -13,7 +13,7 @@ if ! command -v node >/dev/null || ! node -e 'process.exit(parseInt(process.vers
 fi
 with=()
 if command -v cargo >/dev/null; then
-    rust=../rust/target/debug
+    rust=${CARGO_TARGET_DIR:-../rust/target}/debug
     (cd ../rust && cargo build --offline --quiet -p paper -p differential --bin paper --bin reading)
     with+=(--reading "$rust/reading")
     # Slips of the archive's own, where it was built.
