@@ -1,6 +1,6 @@
 //! A paired night that is kept with its costs, so that it can be repaired where one row's change.
 
-use crate::{repair_into, solve_into, Lists, Refusal, Slip, LARGEST_SHEET_SIDE};
+use crate::{audit, repair_into, solve_into, Lists, Refusal, Sheet, Slip, LARGEST_SHEET_SIDE};
 
 /// A paired night with its costs. Where the costs of one row change it is repaired with one search, and where its
 /// prices have gone too far for that, it is solved afresh.
@@ -41,6 +41,38 @@ impl KeptNight {
         let mut night = KeptNight { side, costs: costs.to_vec(), lists: Lists::new(side), total: 0 };
         night.solve()?;
         Ok(night)
+    }
+
+    /// A night that was paired before, from its sheet and its slip, which must be such as the audit accepts. A sheet of
+    /// edition 2 or 3 is [`Refusal::EditionUnknown`]: a repair knows neither bars nor fewer rows than columns.
+    ///
+    /// ```
+    /// use bristlefrost::{pair, Change, KeptNight, Refusal, Sheet, Slip};
+    ///
+    /// let sheet = Sheet::new(2, &[1, 2, 1, 5])?;
+    /// let slip = pair(&sheet)?;
+    /// let mut night = KeptNight::of(&sheet, &slip)?;
+    /// assert_eq!(night, KeptNight::new(2, sheet.costs())?);
+    /// assert_eq!((night.change(1, &[1, 1]), night.total()), (Ok(Change::Repaired), 2));
+    ///
+    /// assert_eq!(KeptNight::of(&sheet, &Slip { total: 4, ..slip.clone() }), Err(Refusal::SlipWrong));
+    /// assert_eq!(KeptNight::of(&sheet.bar(0, 0)?, &slip), Err(Refusal::EditionUnknown));
+    /// # Ok::<(), Box<dyn std::error::Error>>(())
+    /// ```
+    pub fn of(sheet: &Sheet, slip: &Slip) -> Result<Self, Refusal> {
+        if sheet.edition() != 1 {
+            return Err(Refusal::EditionUnknown);
+        }
+        let bytes = slip.bytes().map_err(|_| Refusal::SlipWrong)?;
+        let (side, total) = (sheet.side(), audit(&sheet.bytes(), &bytes)?.total);
+        let mut lists = Lists::new(side);
+        for (row, &column) in slip.columns.iter().enumerate() {
+            lists.columns[row] = column.into();
+            lists.rows[usize::from(column)] = row as u32;
+        }
+        lists.row_prices.copy_from_slice(&slip.row_prices);
+        lists.column_prices.copy_from_slice(&slip.column_prices);
+        Ok(KeptNight { side, costs: sheet.costs().to_vec(), lists, total })
     }
 
     /// Gives a row new costs, as many as the side, and pairs the night again. A refusal changes nothing.

@@ -40,7 +40,9 @@ fn a_table_is_paired_and_audited() {
     let (status, said, _) = night(&table, &into);
     assert_eq!((status, made(&into)), (Some(0), 3), "{said}");
     let at = into.join("n8").display().to_string();
-    for line in [&format!("{at}.slip: side 3 total 1"), "audit: accepted 3 total 1"] {
+    for line in
+        [&format!("{at}.sheet: 3 rows, 3 columns"), &format!("{at}.slip: side 3 total 1"), "audit: accepted 3 total 1"]
+    {
         assert!(said.contains(&format!("night: {line}\n")), "{said}");
     }
     for line in
@@ -65,6 +67,14 @@ fn a_refused_night_leaves_nothing() {
     let (status, said, why) = night(&unfit, &into);
     assert_eq!((status, &said[..], made(&into)), (Some(1), "", 1));
     assert!(why.starts_with(&format!("paper: {}: line 2, column 2: 'x'", unfit.display())), "{why}");
+    assert!(why.ends_with("nothing was written\n"), "{why}");
+    // What an earlier night left is named.
+    fs::write(&unfit, "1 2\n3 4\n").expect("a table");
+    assert_eq!((night(&unfit, &into).0, made(&into)), (Some(0), 4));
+    fs::write(&unfit, "1 2\n3 x\n").expect("a table");
+    let (status, _, why) = night(&unfit, &into);
+    assert_eq!((status, made(&into)), (Some(1), 4));
+    assert!(why.ends_with("is not of this table: unfit.sheet unfit.slip unfit.html\n"), "{why}");
 }
 
 #[test]
