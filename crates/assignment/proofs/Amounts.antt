@@ -14,17 +14,17 @@ use lib.Seq.{ext_get_or, get_or-set_same, get_or-set_other}
 use Rattle.ints.proofs.Shapes.{zlin}
 use Rattle.lists.specs.Sums.{sum}
 use Rattle.lists.specs.Permutations.{at, table, Injective}
-use Rattle.lists.proofs.Sums.{sum-cong, sum-add, sum-zero, sum-change}
-use Rattle.lists.proofs.Injections.{sum-permuted}
-use Rattle.lists.proofs.Tables.{length-table, getD-table}
-use Rattle.assignment.specs.Pairings.{Night, Pairing, total, Least, signedAt, square}
-use Rattle.assignment.specs.Amounts.{withCosts, ColumnAmounts, RowAmounts, only, risen}
+use Rattle.lists.proofs.Sums.{sum_cong, sum_add, sum_zero, sum_change}
+use Rattle.lists.proofs.Injections.{sum_permuted}
+use Rattle.lists.proofs.Tables.{length-table, get_d_table}
+use Rattle.assignment.specs.Pairings.{Night, Pairing, total, Least, signed_at, square}
+use Rattle.assignment.specs.Amounts.{with_costs, ColumnAmounts, RowAmounts, only, risen}
 use Rattle.assignment.proofs.Pairings.{pairing-injective}
 
 -- ---- other costs at the same places
 
 -- The pairings are the same: they do not see costs.
-pub pairing-same : (night : Night) (cost : ℕ → ℕ → ℤ) (cols : List ℕ) → Pairing night cols ↔ Pairing (withCosts night cost) cols
+pub pairing-same : (night : Night) (cost : ℕ → ℕ → ℤ) (cols : List ℕ) → Pairing night cols ↔ Pairing (with_costs night cost) cols
 pairing-same night cost cols = (
   λ p. record { size = p.size; inside = p.inside; apart = p.apart; permitted = p.permitted },
   λ p. record { size = p.size; inside = p.inside; apart = p.apart; permitted = p.permitted },
@@ -32,8 +32,8 @@ pairing-same night cost cols = (
 
 -- Where each pairing's total rises by the same, the same pairings are least.
 pub least-same : (night : Night) (cost : ℕ → ℕ → ℤ) (t : ℤ)
-    → ((cols : List ℕ) → Pairing night cols → total (withCosts night cost) cols ≡ total night cols +ℤ t)
-    → (cols : List ℕ) → Least night cols ↔ Least (withCosts night cost) cols
+    → ((cols : List ℕ) → Pairing night cols → total (with_costs night cost) cols ≡ total night cols +ℤ t)
+    → (cols : List ℕ) → Least night cols ↔ Least (with_costs night cost) cols
 least-same night cost t rises cols = (
   λ o. record {
     pairing = (pairing-same night cost cols).0 o.pairing;
@@ -48,38 +48,38 @@ least-same night cost t rises cols = (
 -- ---- an amount on each row
 
 module _ (night : Night) (amount : ℕ → ℤ) (cost : ℕ → ℕ → ℤ) (with-amounts : RowAmounts night amount cost) where
-  pub row-amounts-total : (cols : List ℕ) → Pairing night cols → total (withCosts night cost) cols ≡ total night cols +ℤ sum night.rowCount amount
-  row-amounts-total cols p =
-      sum-cong night.rowCount (λ i. cost i (at cols i)) (λ i. night.cost i (at cols i) +ℤ amount i)
+  pub row_amounts_total : (cols : List ℕ) → Pairing night cols → total (with_costs night cost) cols ≡ total night cols +ℤ sum night.row_count amount
+  row_amounts_total cols p =
+      sum_cong night.row_count (λ i. cost i (at cols i)) (λ i. night.cost i (at cols i) +ℤ amount i)
       (λ i l. with-amounts.added i (at cols i) l (p.inside i l) (p.permitted i l))
-      ∙ sum-add night.rowCount (λ i. night.cost i (at cols i)) amount
+      ∙ sum_add night.row_count (λ i. night.cost i (at cols i)) amount
 
-  pub row-amounts-least : (cols : List ℕ) → Least night cols ↔ Least (withCosts night cost) cols
-  row-amounts-least = least-same night cost (sum night.rowCount amount) row-amounts-total
+  pub row_amounts_least : (cols : List ℕ) → Least night cols ↔ Least (with_costs night cost) cols
+  row_amounts_least = least-same night cost (sum night.row_count amount) row_amounts_total
 
 -- ---- an amount on each column, of as many as there are rows
 
-module _ (night : Night) (even : night.rowCount ≡ night.columnCount) (amount : ℕ → ℤ) (cost : ℕ → ℕ → ℤ) (with-amounts : ColumnAmounts night amount cost) where
-  pub column-amounts-total : (cols : List ℕ) → Pairing night cols → total (withCosts night cost) cols ≡ total night cols +ℤ sum night.rowCount amount
-  column-amounts-total cols p =
-      sum-cong night.rowCount (λ i. cost i (at cols i)) (λ i. night.cost i (at cols i) +ℤ amount (at cols i))
+module _ (night : Night) (even : night.row_count ≡ night.column_count) (amount : ℕ → ℤ) (cost : ℕ → ℕ → ℤ) (with-amounts : ColumnAmounts night amount cost) where
+  pub column_amounts_total : (cols : List ℕ) → Pairing night cols → total (with_costs night cost) cols ≡ total night cols +ℤ sum night.row_count amount
+  column_amounts_total cols p =
+      sum_cong night.row_count (λ i. cost i (at cols i)) (λ i. night.cost i (at cols i) +ℤ amount (at cols i))
       (λ i l. with-amounts.added i (at cols i) l (p.inside i l) (p.permitted i l))
-      ∙ sum-add night.rowCount (λ i. night.cost i (at cols i)) (λ i. amount (at cols i))
-      ∙ ap (λ (z : ℤ). total night cols +ℤ z) (sum-permuted amount (subst (λ (n : ℕ). Injective night.rowCount n (at cols)) (sym even) (pairing-injective night cols p)))
+      ∙ sum_add night.row_count (λ i. night.cost i (at cols i)) (λ i. amount (at cols i))
+      ∙ ap (λ (z : ℤ). total night cols +ℤ z) (sum_permuted amount (subst (λ (n : ℕ). Injective night.row_count n (at cols)) (sym even) (pairing-injective night cols p)))
 
-  pub column-amounts-least : (cols : List ℕ) → Least night cols ↔ Least (withCosts night cost) cols
-  column-amounts-least = least-same night cost (sum night.rowCount amount) column-amounts-total
+  pub column_amounts_least : (cols : List ℕ) → Least night cols ↔ Least (with_costs night cost) cols
+  column_amounts_least = least-same night cost (sum night.row_count amount) column_amounts_total
 
 -- ---- prices with the amounts added
 
 module _ (amount : ℕ → ℤ) where
   pub length-risen : (v : List ℤ) → length (risen amount v) ≡ length v
   unfolding risen
-  length-risen v = length-table (length v) (λ j. signedAt v j +ℤ amount j)
+  length-risen v = length-table (length v) (λ j. signed_at v j +ℤ amount j)
 
-  pub price-risen : (v : List ℤ) (j : ℕ) → j < length v → signedAt (risen amount v) j ≡ signedAt v j +ℤ amount j
+  pub price_risen : (v : List ℤ) (j : ℕ) → j < length v → signed_at (risen amount v) j ≡ signed_at v j +ℤ amount j
   unfolding risen
-  price-risen v j l = getD-table (length v) (λ k. signedAt v k +ℤ amount k) (pos 0) j l
+  price_risen v j l = get_d_table (length v) (λ k. signed_at v k +ℤ amount k) (pos 0) j l
 
 -- ---- one amount
 
@@ -87,49 +87,49 @@ module _ (c : ℕ) (a : ℤ) where
   pub only_here : only c a c ≡ a
   only_here = rw (eq-eqb c c refl)
 
-  pub only-elsewhere : (k : ℕ) → k ≢ c → only c a k ≡ pos 0
-  only-elsewhere k d = rw (ne_eqb k c d)
+  pub only_elsewhere : (k : ℕ) → k ≢ c → only c a k ≡ pos 0
+  only_elsewhere k d = rw (ne_eqb k c d)
 
   -- The sum of one amount is the amount.
   pub sum-only : (n : ℕ) → c < n → sum n (only c a) ≡ a
   sum-only n l =
       omega (
         zlin,
-        sum-change n c (only c a) (λ k. pos 0) l (λ k m d. only-elsewhere k d),
-        sum-zero n (λ k. pos 0) (λ k m. refl),
+        sum_change n c (only c a) (λ k. pos 0) l (λ k m d. only_elsewhere k d),
+        sum_zero n (λ k. pos 0) (λ k m. refl),
         only_here,
       )
 
   -- One price rises by it, and the other prices stay.
-  pub risen-only : (v : List ℤ) → c < length v → risen (only c a) v ≡ set v c (signedAt v c +ℤ a)
+  pub risen-only : (v : List ℤ) → c < length v → risen (only c a) v ≡ set v c (signed_at v c +ℤ a)
   risen-only v l =
-      ext_get_or (pos 0) (risen (only c a) v) (set v c (signedAt v c +ℤ a)) (length-risen (only c a) v ∙ sym (length-set v c (signedAt v c +ℤ a)))
+      ext_get_or (pos 0) (risen (only c a) v) (set v c (signed_at v c +ℤ a)) (length-risen (only c a) v ∙ sym (length-set v c (signed_at v c +ℤ a)))
       (λ j h. by j (omega (arith, length-risen (only c a) v)) (ℕ_discrete j c))
     where
-      by : (j : ℕ) → j < length v → Dec (j ≡ c) → signedAt (risen (only c a) v) j ≡ signedAt (set v c (signedAt v c +ℤ a)) j
+      by : (j : ℕ) → j < length v → Dec (j ≡ c) → signed_at (risen (only c a) v) j ≡ signed_at (set v c (signed_at v c +ℤ a)) j
       by j m (yes e) =
-          subst (λ (k : ℕ). signedAt (risen (only c a) v) k ≡ signedAt (set v c (signedAt v c +ℤ a)) k) (sym e)
-          (price-risen (only c a) v c l ∙ ap (λ (z : ℤ). signedAt v c +ℤ z) only_here ∙ sym (get_or-set_same v c (signedAt v c +ℤ a) (pos 0) l))
+          subst (λ (k : ℕ). signed_at (risen (only c a) v) k ≡ signed_at (set v c (signed_at v c +ℤ a)) k) (sym e)
+          (price_risen (only c a) v c l ∙ ap (λ (z : ℤ). signed_at v c +ℤ z) only_here ∙ sym (get_or-set_same v c (signed_at v c +ℤ a) (pos 0) l))
       by j m (no d) =
-          price-risen (only c a) v j m ∙ ap (λ (z : ℤ). signedAt v j +ℤ z) (only-elsewhere j d) ∙ +ℤ_idr (signedAt v j)
-          ∙ sym (get_or-set_other v c j (signedAt v c +ℤ a) (pos 0) d)
+          price_risen (only c a) v j m ∙ ap (λ (z : ℤ). signed_at v j +ℤ z) (only_elsewhere j d) ∙ +ℤ_idr (signed_at v j)
+          ∙ sym (get_or-set_other v c j (signed_at v c +ℤ a) (pos 0) d)
 
 -- A surcharge on one row: every pairing costs the amount more.
-pub row-surcharge-total : (night : Night) (r : ℕ) → r < night.rowCount → (a : ℤ) (cost : ℕ → ℕ → ℤ) → RowAmounts night (only r a) cost
-    → (cols : List ℕ) → Pairing night cols → total (withCosts night cost) cols ≡ total night cols +ℤ a
-row-surcharge-total night r l a cost with-amounts cols p =
-    row-amounts-total night (only r a) cost with-amounts cols p ∙ ap (λ (z : ℤ). total night cols +ℤ z) (sum-only r a night.rowCount l)
+pub row_surcharge_total : (night : Night) (r : ℕ) → r < night.row_count → (a : ℤ) (cost : ℕ → ℕ → ℤ) → RowAmounts night (only r a) cost
+    → (cols : List ℕ) → Pairing night cols → total (with_costs night cost) cols ≡ total night cols +ℤ a
+row_surcharge_total night r l a cost with-amounts cols p =
+    row_amounts_total night (only r a) cost with-amounts cols p ∙ ap (λ (z : ℤ). total night cols +ℤ z) (sum-only r a night.row_count l)
 
 -- ---- every square night has one with the amounts
 
 module _ (n : ℕ) (amount : ℕ → ℤ) (costs : List ℤ) where
   -- The costs in row order: place k stands in column k % n.
-  abbrev pub withAmounts : List ℤ
-  withAmounts = table (n * n) (λ k. signedAt costs k +ℤ amount (k % n))
+  abbrev pub with_amounts : List ℤ
+  with_amounts = table (n * n) (λ k. signed_at costs k +ℤ amount (k % n))
 
-  pub column-amounts-made : ColumnAmounts (square n costs) amount (square n withAmounts).cost
-  column-amounts-made = record {
+  pub column_amounts_made : ColumnAmounts (square n costs) amount (square n with_amounts).cost
+  column_amounts_made = record {
     added = λ i j l m e.
-        getD-table (n * n) (λ k. signedAt costs k +ℤ amount (k % n)) (pos 0) (i * n + j) (omega (arith, mul-le-mul_right n l, suc-mul i n))
-        ∙ ap (λ (k : ℕ). signedAt costs (i * n + j) +ℤ amount k) (mul-add-mod_self_right i n j ∙ mod-eq_of_lt m);
+        get_d_table (n * n) (λ k. signed_at costs k +ℤ amount (k % n)) (pos 0) (i * n + j) (omega (arith, mul-le-mul_right n l, suc-mul i n))
+        ∙ ap (λ (k : ℕ). signed_at costs (i * n + j) +ℤ amount k) (mul-add-mod_self_right i n j ∙ mod-eq_of_lt m);
   }

@@ -9,59 +9,59 @@ use lib.Signed.{◌≤ℤ◌}
 use Rattle.ints.proofs.Shapes.{zlin}
 use Rattle.lists.specs.Sums.{sum}
 use Rattle.lists.specs.Permutations.{at}
-use Rattle.lists.proofs.Sums.{sum-cong, sum-add, sum-le, sum-le-tight}
-use Rattle.assignment.specs.Pairings.{Night, Pairing, total, Least, signedAt}
+use Rattle.lists.proofs.Sums.{sum_cong, sum_add, sum_le, sum_le_tight}
+use Rattle.assignment.specs.Pairings.{Night, Pairing, total, Least, signed_at}
 use Rattle.assignment.specs.Prices.{priced, Feasible, Tight, SparesNotBelow}
 use Rattle.assignment.proofs.Pairings.{pairing-injective}
-use Rattle.assignment.proofs.Columns.{columns-least, columns-least-only}
+use Rattle.assignment.proofs.Columns.{columns-least, columns_least_only}
 
 -- What the prices of all rows and of the columns used come to.
 abbrev pub worth : Night → List ℤ → List ℤ → List ℕ → ℤ
-worth night us vs cols = sum night.rowCount (signedAt us) +ℤ sum night.rowCount (λ i. signedAt vs (at cols i))
+worth night us vs cols = sum night.row_count (signed_at us) +ℤ sum night.row_count (λ i. signed_at vs (at cols i))
 
 module _ (night : Night) (us vs : List ℤ) where
   abbrev paired : List ℕ → ℕ → ℤ
   paired cols i = priced us vs i (at cols i)
 
-  worth-paired : (cols : List ℕ) → sum night.rowCount (paired cols) ≡ worth night us vs cols
-  worth-paired cols = sum-add night.rowCount (signedAt us) (λ i. signedAt vs (at cols i))
+  worth_paired : (cols : List ℕ) → sum night.row_count (paired cols) ≡ worth night us vs cols
+  worth_paired cols = sum_add night.row_count (signed_at us) (λ i. signed_at vs (at cols i))
 
   -- A pairing's total, where the prices are tight on it: the row prices and the used column prices.
   pub tight-total : (cols : List ℕ) → Tight night us vs cols → total night cols ≡ worth night us vs cols
-  tight-total cols t = sym (sum-cong night.rowCount (paired cols) (λ i. night.cost i (at cols i)) t.met) ∙ worth-paired cols
+  tight-total cols t = sym (sum_cong night.row_count (paired cols) (λ i. night.cost i (at cols i)) t.met) ∙ worth_paired cols
 
-  under-paired : Feasible night us vs → (cols : List ℕ) → Pairing night cols → (i : ℕ) → i < night.rowCount → paired cols i ≤ℤ night.cost i (at cols i)
+  under-paired : Feasible night us vs → (cols : List ℕ) → Pairing night cols → (i : ℕ) → i < night.row_count → paired cols i ≤ℤ night.cost i (at cols i)
   under-paired fair cols p i l = fair.under i (at cols i) l (p.inside i l) (p.permitted i l)
 
   -- No pairing costs less than its prices come to.
-  pub worth-total : Feasible night us vs → (cols : List ℕ) → Pairing night cols → worth night us vs cols ≤ℤ total night cols
-  worth-total fair cols p =
-      omega (zlin, worth-paired cols, sum-le night.rowCount (paired cols) (λ i. night.cost i (at cols i)) (under-paired fair cols p))
+  pub worth_total : Feasible night us vs → (cols : List ℕ) → Pairing night cols → worth night us vs cols ≤ℤ total night cols
+  worth_total fair cols p =
+      omega (zlin, worth_paired cols, sum_le night.row_count (paired cols) (λ i. night.cost i (at cols i)) (under-paired fair cols p))
 
   module _ (fair : Feasible night us vs) (cols : List ℕ) (p : Pairing night cols) (tight : Tight night us vs cols) (spares : SparesNotBelow night vs cols) where
-    used-least : (other : List ℕ) → Pairing night other → sum night.rowCount (λ i. signedAt vs (at cols i)) ≤ℤ sum night.rowCount (λ i. signedAt vs (at other i))
+    used-least : (other : List ℕ) → Pairing night other → sum night.row_count (λ i. signed_at vs (at cols i)) ≤ℤ sum night.row_count (λ i. signed_at vs (at other i))
     used-least other q =
-        columns-least (signedAt vs) night.rowCount (at cols) (at other) (pairing-injective night cols p) (pairing-injective night other q) spares.not-below
+        columns-least (signed_at vs) night.row_count (at cols) (at other) (pairing-injective night cols p) (pairing-injective night other q) spares.not_below
 
     -- The pairing is least.
     pub prices-least : Least night cols
     prices-least =
-        record { pairing = p; least = λ other q. omega (zlin, tight-total cols tight, used-least other q, worth-total fair other q) }
+        record { pairing = p; least = λ other q. omega (zlin, tight-total cols tight, used-least other q, worth_total fair other q) }
 
     -- Another least one: the prices are tight on it, and not below on its spare columns.
     pub least-tight : (other : List ℕ) → Least night other → Tight night us vs other
     least-tight other o =
         record {
-          met = sum-le-tight night.rowCount (paired other) (λ i. night.cost i (at other i)) (under-paired fair other o.pairing)
-              (omega (zlin, o.least cols p, tight-total cols tight, used-least other o.pairing, worth-paired other));
+          met = sum_le_tight night.row_count (paired other) (λ i. night.cost i (at other i)) (under-paired fair other o.pairing)
+              (omega (zlin, o.least cols p, tight-total cols tight, used-least other o.pairing, worth_paired other));
         }
 
     pub least-spares : (other : List ℕ) → Least night other → SparesNotBelow night vs other
     least-spares other o =
         record {
-          not-below = columns-least-only (signedAt vs) night.rowCount (at cols) (at other) (pairing-injective night cols p)
-              (pairing-injective night other o.pairing) spares.not-below
-              (omega (zlin, o.least cols p, tight-total cols tight, worth-total fair other o.pairing));
+          not_below = columns_least_only (signed_at vs) night.row_count (at cols) (at other) (pairing-injective night cols p)
+              (pairing-injective night other o.pairing) spares.not_below
+              (omega (zlin, o.least cols p, tight-total cols tight, worth_total fair other o.pairing));
         }
 
 -- With such prices held fixed: another pairing is least ⇔ they are tight everywhere on it and not below on its spare columns.

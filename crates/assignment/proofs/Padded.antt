@@ -13,21 +13,21 @@ use borrow.Author.Tests.{lt-ltb, le-ltb}
 use Rattle.ints.proofs.Shapes.{zlin}
 use Rattle.lists.specs.Sums.{sum}
 use Rattle.lists.specs.Permutations.{at}
-use Rattle.lists.proofs.Sums.{sum-cong, sum-zero, sum-split}
+use Rattle.lists.proofs.Sums.{sum_cong, sum_zero, sum_split}
 use Rattle.lists.proofs.Injections.{reached}
-use Rattle.assignment.specs.Pairings.{Night, Pairing, total, Least, Spare, signedAt}
+use Rattle.assignment.specs.Pairings.{Night, Pairing, total, Least, Spare, signed_at}
 use Rattle.assignment.specs.Prices.{priced, Feasible, Tight, SparesNotBelow}
 use Rattle.assignment.specs.Padded.{padded}
 use Rattle.assignment.proofs.Pairings.{pairing-injective}
 use Rattle.assignment.proofs.Duality.{prices-least}
 use Rattle.assignment.proofs.Longer.{at_first, total_first}
 
-module _ (night : Night) (enough : night.rowCount ≤ night.columnCount) where
+module _ (night : Night) (enough : night.row_count ≤ night.column_count) where
   abbrev m : ℕ
-  m = night.rowCount
+  m = night.row_count
 
   abbrev n : ℕ
-  n = night.columnCount
+  n = night.column_count
 
   below : (i : ℕ) → i < m → i < n
   below i l = omega (arith, enough)
@@ -58,9 +58,9 @@ module _ (night : Night) (enough : night.rowCount ≤ night.columnCount) where
         omega (
           zlin,
           cut,
-          sum-split m (n - m) cost,
-          sum-cong m cost (λ i. night.cost i (at cols i)) (λ i l. rw (lt-ltb i m l)),
-          sum-zero (n - m) (λ i. cost (m + i)) (λ i l. rw (le-ltb (m + i) m (omega arith))),
+          sum_split m (n - m) cost,
+          sum_cong m cost (λ i. night.cost i (at cols i)) (λ i l. rw (lt-ltb i m l)),
+          sum_zero (n - m) (λ i. cost (m + i)) (λ i l. rw (le-ltb (m + i) m (omega arith))),
           total_first night cols,
         )
       where
@@ -73,16 +73,16 @@ module _ (night : Night) (enough : night.rowCount ≤ night.columnCount) where
     module _ (us vs : List ℤ) (fair : Feasible (padded night) us vs) (p : Pairing (padded night) cols) (tight : Tight (padded night) us vs cols) where
       -- A spare column is that of an added row: there the prices come to 0, and nowhere in that row to more.
       pub padded-spares : SparesNotBelow night vs firsts
-      padded-spares = record { not-below = λ i j hi hj spare. by i j hi spare (reached (pairing-injective (padded night) cols p) j hj) }
+      padded-spares = record { not_below = λ i j hi hj spare. by i j hi spare (reached (pairing-injective (padded night) cols p) j hj) }
         where
-          by : (i j : ℕ) → i < m → Spare night firsts j → (k : ℕ) × (k < n) × (at cols k ≡ j) → signedAt vs (at firsts i) ≤ℤ signedAt vs j
+          by : (i j : ℕ) → i < m → Spare night firsts j → (k : ℕ) × (k < n) × (at cols k ≡ j) → signed_at vs (at firsts i) ≤ℤ signed_at vs j
           by i j hi spare (k, l, e) = elim (dec_lt k m) [
             | yes h ↦ absurd (spare k h (at_first night cols k h ∙ e))
             | no h ↦
                 let b = le-ltb k m (omega arith) in
                 let met : priced us vs k (at cols k) ≡ pos 0 = rw b at (tight.met k l) in
                 let under : priced us vs k (at cols i) ≤ℤ pos 0 = rw b at (fair.under k (at cols i) l (p.inside i (below i hi)) (rw b)) in
-                omega (zlin, ap (signedAt vs) e, ap (signedAt vs) (at_first night cols i hi))
+                omega (zlin, ap (signed_at vs) e, ap (signed_at vs) (at_first night cols i hi))
           ]
 
       pub padded-least : Least night firsts

@@ -5,8 +5,8 @@ use Rattle.assignment.specs.Pairings.{Night}
 -- "with n-m rows of zeros added below"
 abbrev pub padded : Night → Night
 padded night = record {
-  rowCount = night.columnCount;
-  columnCount = night.columnCount;
-  cost = λ i j. cond (ltb i night.rowCount) (night.cost i j) (pos 0);
-  allowed = λ i j. cond (ltb i night.rowCount) (night.allowed i j) true;
+  row_count = night.column_count;
+  column_count = night.column_count;
+  cost = λ i j. cond (ltb i night.row_count) (night.cost i j) (pos 0);
+  allowed = λ i j. cond (ltb i night.row_count) (night.allowed i j) true;
 }

@@ -7,21 +7,21 @@ use Rattle.lists.specs.Sums.{sum}
 -- A night: so many rows and so many columns; what each row costs against each column; and which places may be paired. With fewer columns than
 -- rows it has no pairing (`pigeonhole`).
 pub record Night : Type 0 where
-  pub rowCount : ℕ
-  pub columnCount : ℕ
+  pub row_count : ℕ
+  pub column_count : ℕ
   pub cost : ℕ → ℕ → ℤ
   pub allowed : ℕ → ℕ → Bool
 
 -- A pairing: a column for each row, at an allowed place, and no two rows share a column.
 pub record Pairing (night : Night) (cols : List ℕ) : Type 0 where
-  pub size : length cols ≡ night.rowCount
-  pub inside : (i : ℕ) → i < night.rowCount → at cols i < night.columnCount
-  pub apart : (i k : ℕ) → i < night.rowCount → k < night.rowCount → at cols i ≡ at cols k → i ≡ k
-  pub permitted : (i : ℕ) → i < night.rowCount → night.allowed i (at cols i) ≡ true
+  pub size : length cols ≡ night.row_count
+  pub inside : (i : ℕ) → i < night.row_count → at cols i < night.column_count
+  pub apart : (i k : ℕ) → i < night.row_count → k < night.row_count → at cols i ≡ at cols k → i ≡ k
+  pub permitted : (i : ℕ) → i < night.row_count → night.allowed i (at cols i) ≡ true
 
 -- What a pairing costs: the sum over the rows of each row's cost at its column.
 abbrev pub total : Night → List ℕ → ℤ
-total night cols = sum night.rowCount (λ i. night.cost i (at cols i))
+total night cols = sum night.row_count (λ i. night.cost i (at cols i))
 
 -- A least pairing: no pairing of the same night costs less.
 pub record Least (night : Night) (cols : List ℕ) : Type 0 where
@@ -30,22 +30,22 @@ pub record Least (night : Night) (cols : List ℕ) : Type 0 where
 
 -- A column is used where a row is paired with it; else it is spare.
 abbrev pub Spare : Night → List ℕ → ℕ → Type 0
-Spare night cols j = (i : ℕ) → i < night.rowCount → at cols i ≡ j → ⊥
+Spare night cols j = (i : ℕ) → i < night.row_count → at cols i ≡ j → ⊥
 
 -- Columns and rows name each other: the column of each row is a column, and the row listed for that column is this row.
 pub record Named (night : Night) (cols rows : List ℕ) : Type 0 where
-  pub inside : (i : ℕ) → i < night.rowCount → at cols i < night.columnCount
-  pub back : (i : ℕ) → i < night.rowCount → at rows (at cols i) ≡ i
+  pub inside : (i : ℕ) → i < night.row_count → at cols i < night.column_count
+  pub back : (i : ℕ) → i < night.row_count → at rows (at cols i) ≡ i
 
 -- What stands at i in a list of signed numbers, as costs, prices and distances are: 0 past its end.
-abbrev pub signedAt : List ℤ → ℕ → ℤ
-signedAt l i = get_or l i (pos 0)
+abbrev pub signed_at : List ℤ → ℕ → ℤ
+signed_at l i = get_or l i (pos 0)
 
 -- The square night of side n: its n * n costs in row order, every place allowed.
 abbrev pub square : ℕ → List ℤ → Night
 square n costs = record {
-  rowCount = n;
-  columnCount = n;
-  cost = λ i j. signedAt costs (i * n + j);
+  row_count = n;
+  column_count = n;
+  cost = λ i j. signed_at costs (i * n + j);
   allowed = λ i j. true;
 }

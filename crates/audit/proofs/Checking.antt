@@ -8,33 +8,33 @@ use lib.IntN.{ℤ}
 use lib.ListN.{length, take, drop, replicate, drop_of_length-le, length-replicate, get_or-replicate}
 use lib.Seq.{sets, ext_get_or, get_or-take, length-take-le}
 use Rattle.lists.specs.Permutations.{at}
-use Rattle.layout.specs.Values.{value_of, signedValue}
-use Rattle.layout.specs.Slips.{slipColumns, slipRowPrices, slipColumnPrices, slipTotal}
+use Rattle.layout.specs.Values.{value_of, signed_value}
+use Rattle.layout.specs.Slips.{slip_columns, slip_row_prices, slip_column_prices, slip_total}
 use Rattle.layout.proofs.Fields.{length_fields}
-use Rattle.layout.proofs.Stores.{sets-front}
+use Rattle.layout.proofs.Stores.{sets_front}
 use Rattle.assignment.specs.Pairings.{Night, Pairing, Least, total}
 use Rattle.assignment.specs.Prices.{Tight, SparesNotBelow}
 use Rattle.assignment.proofs.Duality.{prices-least}
-use Rattle.bars.specs.Barred.{nightOf}
-use Rattle.bars.proofs.Passed.{unbarred-iff}
-use Rattle.matrix.specs.Verdicts.{Passes, ◌then◌, failsIf}
+use Rattle.bars.specs.Barred.{night_of}
+use Rattle.bars.proofs.Passed.{unbarred_iff}
+use Rattle.matrix.specs.Verdicts.{Passes, ◌then◌, fails_if}
 use Rattle.matrix.specs.declared.Refusal.{Refusal}
 use Rattle.matrix.specs.declared.Verdict.TheVariants.{Fails}
 use Rattle.matrix.proofs.Passed.{columns-inside}
-use Rattle.matrix.proofs.Verdicts.{then-iff, fails-then, passed_then}
+use Rattle.matrix.proofs.Verdicts.{then_iff, fails_then, passed_then}
 use Rattle.checker.specs.Proven.{Fair}
 use Rattle.checker.specs.Tests.{differ}
-use Rattle.checker.proofs.Tests.{price-tests-iff, columns-once, spares-not-below}
+use Rattle.checker.proofs.Tests.{price_tests_iff, columns-once, spares_not_below_lem}
 use Rattle.audit.specs.Asked.{LeastTotal}
-use Rattle.audit.specs.Audit.{SlipWrong, proofTests, slipTests, totalRight, auditedBy}
+use Rattle.audit.specs.Audit.{SlipWrong, proof_tests, slip_tests, total_right, audited_by}
 use Rattle.audit.specs.declared.Audited.{Audited}
 use Rattle.audit.specs.declared.Audited.TheVariants.{Refused}
-use Rattle.audit.proofs.Slips.{audited-fails}
+use Rattle.audit.proofs.Slips.{audited_fails}
 
 -- A list that is read over all of a room is what the room then holds.
 pub read_whole : {A : Type 0} (n : ℕ) (p l : List A) → length p ≡ n → length l ≡ n → sets l 0 p ≡ p
 read_whole n p l e f =
-    sets-front p l n e (omega arith) ∙ ap (λ t. p ++ t) (drop_of_length-le l {i = n} (omega arith)) ∙ append-nil p
+    sets_front p l n e (omega arith) ∙ ap (λ t. p ++ t) (drop_of_length-le l {i = n} (omega arith)) ∙ append-nil p
 
 -- Parts of rooms that are all the same.
 pub part-size : {A : Type 0} (k m : ℕ) (l : List A) → length l ≡ k → m ≤ k → length (take (m - 0) l) ≡ m
@@ -54,79 +54,79 @@ zeros-part k m h =
 
 module _ (m n : ℕ) (costs : List ℤ) (bars cols : List ℕ) (us vs : List ℤ) (c : length cols ≡ m) (r : length us ≡ m) (p : length vs ≡ n) where
   abbrev night : Night
-  night = nightOf m n costs bars
+  night = night_of m n costs bars
 
   -- 6, 7, 26, 8, 9, 10, 27 are passed exactly by a pairing with fair prices that are tight on it and not below on its spare columns.
-  pub proof-tests-iff : Passes (proofTests m n costs bars cols us vs)
+  pub proof_tests_iff : Passes (proof_tests m n costs bars cols us vs)
       ↔ (Pairing night cols × Fair night us vs × Tight night us vs cols × SparesNotBelow night vs cols)
-  unfolding proofTests
-  proof-tests-iff = (
+  unfolding proof_tests
+  proof_tests_iff = (
     λ e.
-        let t27 = (then-iff _ _).0 e in
-        let t10 = (then-iff _ _).0 t27.0 in
-        let t26 = (then-iff _ _).0 t10.0 in
-        let t7 = (then-iff _ _).0 t26.0 in
-        let prices = (price-tests-iff night cols us vs (omega arith) (omega arith)).0 t10.1 in (
+        let t27 = (then_iff _ _).0 e in
+        let t10 = (then_iff _ _).0 t27.0 in
+        let t26 = (then_iff _ _).0 t10.0 in
+        let t7 = (then_iff _ _).0 t26.0 in
+        let prices = (price_tests_iff night cols us vs (omega arith) (omega arith)).0 t10.1 in (
           record {
             size = c;
             inside = (columns-inside m n cols).0 t7.0;
             apart = (columns-once m cols).0 t7.1;
-            permitted = (unbarred-iff m costs bars cols).0 t26.1;
+            permitted = (unbarred_iff m costs bars cols).0 t26.1;
           },
           prices.0,
           prices.1,
-          (spares-not-below night cols vs).0 t27.1,
+          (spares_not_below_lem night cols vs).0 t27.1,
         ),
     λ h.
         let f = h.0 in
-        let t7 = (then-iff _ _).1 ((columns-inside m n cols).1 f.inside, (columns-once m cols).1 f.apart) in
-        let t26 = (then-iff _ _).1 (t7, (unbarred-iff m costs bars cols).1 f.permitted) in
-        let t10 = (then-iff _ _).1 (t26, (price-tests-iff night cols us vs (omega arith) (omega arith)).1 (h.1, h.2)) in
-        (then-iff _ _).1 (t10, (spares-not-below night cols vs).1 h.3),
+        let t7 = (then_iff _ _).1 ((columns-inside m n cols).1 f.inside, (columns-once m cols).1 f.apart) in
+        let t26 = (then_iff _ _).1 (t7, (unbarred_iff m costs bars cols).1 f.permitted) in
+        let t10 = (then_iff _ _).1 (t26, (price_tests_iff night cols us vs (omega arith) (omega arith)).1 (h.1, h.2)) in
+        (then_iff _ _).1 (t10, (spares_not_below_lem night cols vs).1 h.3),
   )
 
   -- What passes is least.
-  pub passed-least : Passes (proofTests m n costs bars cols us vs) → Least night cols
-  passed-least e = let h = proof-tests-iff.0 e in prices-least night us vs h.1.feasible cols h.0 h.2 h.3
+  pub passed-least : Passes (proof_tests m n costs bars cols us vs) → Least night cols
+  passed-least e = let h = proof_tests_iff.0 e in prices-least night us vs h.1.feasible cols h.0 h.2 h.3
 
-  pub passed-least-total : Passes (proofTests m n costs bars cols us vs) → (t : ℤ) → t ≡ total night cols → LeastTotal m n costs bars t
-  passed-least-total e t s = record { cols = cols; least = passed-least e; totals = s }
+  pub passed_least_total : Passes (proof_tests m n costs bars cols us vs) → (t : ℤ) → t ≡ total night cols → LeastTotal m n costs bars t
+  passed_least_total e t s = record { cols = cols; least = passed-least e; totals = s }
 
 -- ---- what is read of a slip
 
 module _ (m n : ℕ) (costs : List ℤ) (bars slip : List ℕ) where
-  pub said-size : length (slipColumns m slip) ≡ m
-  said-size = length_fields value_of 0 2 m slip
+  pub said_size : length (slip_columns m slip) ≡ m
+  said_size = length_fields value_of 0 2 m slip
 
-  pub row-prices-size : length (slipRowPrices m slip) ≡ m
-  row-prices-size = length_fields (signedValue 8) (2 * m) 8 m slip
+  pub row_prices_size : length (slip_row_prices m slip) ≡ m
+  row_prices_size = length_fields (signed_value 8) (2 * m) 8 m slip
 
-  pub column-prices-size : length (slipColumnPrices m n slip) ≡ n
-  column-prices-size = length_fields (signedValue 8) (10 * m) 8 n slip
+  pub column_prices_size : length (slip_column_prices m n slip) ≡ n
+  column_prices_size = length_fields (signed_value 8) (10 * m) 8 n slip
 
-  pub columns-read : (cols : List ℕ) → length cols ≡ m → sets cols 0 (slipColumns m slip) ≡ slipColumns m slip
-  columns-read cols e = read_whole m (slipColumns m slip) cols said-size e
+  pub columns-read : (cols : List ℕ) → length cols ≡ m → sets cols 0 (slip_columns m slip) ≡ slip_columns m slip
+  columns-read cols e = read_whole m (slip_columns m slip) cols said_size e
 
-  pub row-prices-read : (us : List ℤ) → length us ≡ m → sets us 0 (slipRowPrices m slip) ≡ slipRowPrices m slip
-  row-prices-read us e = read_whole m (slipRowPrices m slip) us row-prices-size e
+  pub row_prices_read : (us : List ℤ) → length us ≡ m → sets us 0 (slip_row_prices m slip) ≡ slip_row_prices m slip
+  row_prices_read us e = read_whole m (slip_row_prices m slip) us row_prices_size e
 
-  pub column-prices-read : (vs : List ℤ) → length vs ≡ n → sets vs 0 (slipColumnPrices m n slip) ≡ slipColumnPrices m n slip
-  column-prices-read vs e = read_whole n (slipColumnPrices m n slip) vs column-prices-size e
+  pub column_prices_read : (vs : List ℤ) → length vs ≡ n → sets vs 0 (slip_column_prices m n slip) ≡ slip_column_prices m n slip
+  column_prices_read vs e = read_whole n (slip_column_prices m n slip) vs column_prices_size e
 
-  pub slip-least : Passes (slipTests m n costs bars slip) → Least (nightOf m n costs bars) (slipColumns m slip)
-  slip-least = passed-least m n costs bars (slipColumns m slip) (slipRowPrices m slip) (slipColumnPrices m n slip) said-size row-prices-size column-prices-size
+  pub slip-least : Passes (slip_tests m n costs bars slip) → Least (night_of m n costs bars) (slip_columns m slip)
+  slip-least = passed-least m n costs bars (slip_columns m slip) (slip_row_prices m slip) (slip_column_prices m n slip) said_size row_prices_size column_prices_size
 
-  pub slip-least-total : Passes (slipTests m n costs bars slip) → (t : ℤ) → t ≡ total (nightOf m n costs bars) (slipColumns m slip) → LeastTotal m n costs bars t
-  slip-least-total e t s = record { cols = slipColumns m slip; least = slip-least e; totals = s }
+  pub slip_least_total : Passes (slip_tests m n costs bars slip) → (t : ℤ) → t ≡ total (night_of m n costs bars) (slip_columns m slip) → LeastTotal m n costs bars t
+  slip_least_total e t s = record { cols = slip_columns m slip; least = slip-least e; totals = s }
 
   -- What is told of it, where the tests refuse it and where they do not.
-  pub refused-slip : {refusal : Refusal} → slipTests m n costs bars slip ≡ Fails refusal
-      → Refused refusal ≡ auditedBy m n slip (slipTests m n costs bars slip then totalRight m n costs bars slip)
-  refused-slip f = audited-fails m n slip (sym (fails-then (totalRight m n costs bars slip) f))
+  pub refused-slip : {refusal : Refusal} → slip_tests m n costs bars slip ≡ Fails refusal
+      → Refused refusal ≡ audited_by m n slip (slip_tests m n costs bars slip then total_right m n costs bars slip)
+  refused-slip f = audited_fails m n slip (sym (fails_then (total_right m n costs bars slip) f))
 
-  pub accepted-slip : Passes (slipTests m n costs bars slip) → (t : ℤ) → t ≡ total (nightOf m n costs bars) (slipColumns m slip)
-      → (r : Audited) → r ≡ auditedBy m n slip (failsIf SlipWrong 0 (differ (slipTotal m n slip) t))
-      → r ≡ auditedBy m n slip (slipTests m n costs bars slip then totalRight m n costs bars slip)
+  pub accepted-slip : Passes (slip_tests m n costs bars slip) → (t : ℤ) → t ≡ total (night_of m n costs bars) (slip_columns m slip)
+      → (r : Audited) → r ≡ audited_by m n slip (fails_if SlipWrong 0 (differ (slip_total m n slip) t))
+      → r ≡ audited_by m n slip (slip_tests m n costs bars slip then total_right m n costs bars slip)
   accepted-slip e t s r g =
-      g ∙ ap (auditedBy m n slip)
-      (passed_then (totalRight m n costs bars slip) e (ap (λ (z : ℤ). failsIf SlipWrong 0 (differ (slipTotal m n slip) z)) s))
+      g ∙ ap (audited_by m n slip)
+      (passed_then (total_right m n costs bars slip) e (ap (λ (z : ℤ). fails_if SlipWrong 0 (differ (slip_total m n slip) z)) s))

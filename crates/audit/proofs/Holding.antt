@@ -9,22 +9,22 @@ use lib.IntN.{ℤ}
 use lib.ListN.{length}
 use borrow.Author.Tests.{eq-eqb, eqb-true, le-ltb}
 use Rattle.layout.specs.Values.{bytes_of, value_of}
-use Rattle.layout.specs.Trailers.{slipMark, trailer, hasRowCount, distance_of, side_of, editionOf, mark_of, rowCountOf}
-use Rattle.layout.specs.Slips.{slipBody, rowCount, rowCountLength, slipDistance, slipOf, slipLength, slipTotal, slipColumns}
-use Rattle.layout.proofs.Slips.{length-slipOf}
-use Rattle.layout.proofs.Trailers.{length-trailer, row-count-read, distance_read, side-read, edition-read, mark-read}
+use Rattle.layout.specs.Trailers.{slip_mark, trailer, has_row_count, distance_of, side_of, edition_of, mark_of, row_count_of}
+use Rattle.layout.specs.Slips.{slip_body, row_count, row_count_length, slip_distance, slip_of, slip_length, slip_total, slip_columns}
+use Rattle.layout.proofs.Slips.{length-slip_of}
+use Rattle.layout.proofs.Trailers.{length-trailer, row_count_read, distance_read, side-read, edition-read, mark-read}
 use Rattle.assignment.specs.Pairings.{total}
-use Rattle.bars.specs.Barred.{nightOf}
-use Rattle.matrix.specs.Limits.{sheetSide}
+use Rattle.bars.specs.Barred.{night_of}
+use Rattle.matrix.specs.Limits.{sheet_side}
 use Rattle.matrix.specs.Verdicts.{Passes, ◌then◌}
 use Rattle.matrix.specs.declared.Verdict.{Verdict}
 use Rattle.matrix.specs.declared.Verdict.TheVariants.{Passed, Fails}
-use Rattle.matrix.proofs.Verdicts.{then-iff, failsIf-iff}
+use Rattle.matrix.proofs.Verdicts.{then_iff, fails_if_iff}
 use Rattle.checker.proofs.Places.{differ_same}
-use Rattle.sheet.specs.Reading.{Laid, laid_of, rows_of, unknown, sheetTests, nightTests, nightIf, nightTested, Read, refused, night, readIf, read}
+use Rattle.sheet.specs.Reading.{Laid, laid_of, rows_of, unknown, sheet_tests, night_tests, night_if, night_tested, Read, refused, night, read_if, read}
 use Rattle.sheet.proofs.Editions.{count-short}
 use Rattle.sheet.proofs.Passing.{rows-passed}
-use Rattle.audit.specs.Audit.{unlike, slipTests, auditTests, auditedBy, auditedAs, audit}
+use Rattle.audit.specs.Audit.{unlike, slip_tests, audit_tests, audited_by, audited_as, audit}
 use Rattle.audit.specs.declared.Audited.TheVariants.{Holds}
 
 -- ---- a slip as it is written
@@ -38,49 +38,49 @@ none g h i j k l = neither g (neither h (neither i (neither j (neither k l))))
 module _ (edition m n : ℕ) (cols : List ℕ) (us vs : List ℤ) (t : ℤ) (fewer : m ≤ n) (small : n ≤ 64) (known : edition < 256 ^ 2) (c : length cols ≡ m)
     (r : length us ≡ m) (p : length vs ≡ n) where
   abbrev body : List ℕ
-  body = slipBody cols us vs t
+  body = slip_body cols us vs t
 
   abbrev due : ℕ
-  due = slipDistance edition m n
+  due = slip_distance edition m n
 
   abbrev end : List ℕ
-  end = trailer due n edition slipMark
+  end = trailer due n edition slip_mark
 
   abbrev front : List ℕ
-  front = body ++ rowCount edition m
+  front = body ++ row_count edition m
 
   abbrev whole : List ℕ
-  whole = slipOf edition m n cols us vs t
+  whole = slip_of edition m n cols us vs t
 
   parted : whole ≡ front ++ end
-  parted = sym (append_assoc body (rowCount edition m) end)
+  parted = sym (append_assoc body (row_count edition m) end)
 
-  size : length whole ≡ slipLength edition m n
-  size = length-slipOf edition m n cols us vs t c r p
+  size : length whole ≡ slip_length edition m n
+  size = length-slip_of edition m n cols us vs t c r p
 
-  marks : mark_of whole ≡ value_of slipMark
-  marks = ap mark_of parted ∙ mark-read front due n edition slipMark refl
+  marks : mark_of whole ≡ value_of slip_mark
+  marks = ap mark_of parted ∙ mark-read front due n edition slip_mark refl
 
-  counts : (hasRowCount edition && not (eqb (rowCountOf whole) m)) ≡ false
-  counts = by (hasRowCount edition)
+  counts : (has_row_count edition && not (eqb (row_count_of whole) m)) ≡ false
+  counts = by (has_row_count edition)
     where
-      by : (b : Bool) → (b && not (eqb (rowCountOf (body ++ (cond b (bytes_of 2 m) [] ++ end))) m)) ≡ false
-      by true = ap not (eq-eqb _ m (row-count-read body m end (length-trailer due n edition slipMark) (omega arith)))
+      by : (b : Bool) → (b && not (eqb (row_count_of (body ++ (cond b (bytes_of 2 m) [] ++ end))) m)) ≡ false
+      by true = ap not (eq-eqb _ m (row_count_read body m end (length-trailer due n edition slip_mark) (omega arith)))
       by false = refl
 
-  pub slip-like : unlike edition m n whole ≡ false
+  pub slip_like : unlike edition m n whole ≡ false
   unfolding unlike
-  slip-like =
-      none (ap not (eq-eqb (length whole) (slipLength edition m n) size))
-      (neither (le-ltb (length whole) 12 (omega (arith, size))) (ap not (eq-eqb (mark_of whole) (value_of slipMark) marks)))
-      (ap not (eq-eqb (distance_of whole) due (ap distance_of parted ∙ distance_read front due n edition slipMark refl (omega (arith, count-short edition)))))
-      (ap not (eq-eqb (side_of whole) n (ap side_of parted ∙ side-read front due n edition slipMark refl (omega arith))))
-      (ap not (eq-eqb (editionOf whole) edition (ap editionOf parted ∙ edition-read front due n edition slipMark refl known))) counts
+  slip_like =
+      none (ap not (eq-eqb (length whole) (slip_length edition m n) size))
+      (neither (le-ltb (length whole) 12 (omega (arith, size))) (ap not (eq-eqb (mark_of whole) (value_of slip_mark) marks)))
+      (ap not (eq-eqb (distance_of whole) due (ap distance_of parted ∙ distance_read front due n edition slip_mark refl (omega (arith, count-short edition)))))
+      (ap not (eq-eqb (side_of whole) n (ap side_of parted ∙ side-read front due n edition slip_mark refl (omega arith))))
+      (ap not (eq-eqb (edition_of whole) edition (ap edition_of parted ∙ edition-read front due n edition slip_mark refl known))) counts
 
 -- ---- a sheet, read for another room
 
-refused-not-night : {refusal : _} {laid : Laid} → refused refusal ≡ night laid → ⊥
-refused-not-night x = let z : ◌≡◌ {A = ℕ} 0 1 = cc x in omega arith
+refused_not_night : {refusal : _} {laid : Laid} → refused refusal ≡ night laid → ⊥
+refused_not_night x = let z : ◌≡◌ {A = ℕ} 0 1 = cc x in omega arith
 
 -- A known edition fits two bytes.
 known-fits : (edition : ℕ) → unknown edition ≡ false → edition < 256 ^ 2
@@ -93,58 +93,58 @@ known-fits edition e = by (eqb edition 1) (eqb edition 2) (eqb edition 3) refl r
     by false false false f g k h = absurd (true≢false h)
 
 module _ (room : ℕ) (sheet : List ℕ) (laid : Laid) (e : read room sheet ≡ night laid) where
-  read-passed : Passes (sheetTests room sheet) × (nightTested (laid_of sheet) ≡ night laid)
+  read-passed : Passes (sheet_tests room sheet) × (night_tested (laid_of sheet) ≡ night laid)
   unfolding read
-  read-passed = by (sheetTests room sheet) refl e
+  read-passed = by (sheet_tests room sheet) refl e
     where
-      by : (v : Verdict) → sheetTests room sheet ≡ v → readIf sheet v ≡ night laid → Passes (sheetTests room sheet) × (nightTested (laid_of sheet) ≡ night laid)
-      by (Fails refusal) g h = absurd (refused-not-night h)
+      by : (v : Verdict) → sheet_tests room sheet ≡ v → read_if sheet v ≡ night laid → Passes (sheet_tests room sheet) × (night_tested (laid_of sheet) ≡ night laid)
+      by (Fails refusal) g h = absurd (refused_not_night h)
       by Passed g h = (g, h)
 
-  laid-is : laid_of sheet ≡ laid
-  laid-is = by (nightTests (laid_of sheet)) read-passed.1
+  laid_is : laid_of sheet ≡ laid
+  laid_is = by (night_tests (laid_of sheet)) read-passed.1
     where
-      by : (v : Verdict) → nightIf (laid_of sheet) v ≡ night laid → laid_of sheet ≡ laid
+      by : (v : Verdict) → night_if (laid_of sheet) v ≡ night laid → laid_of sheet ≡ laid
       by Passed h = cc h
-      by (Fails refusal) h = absurd (refused-not-night h)
+      by (Fails refusal) h = absurd (refused_not_night h)
 
   pub read-edition : laid.edition < 256 ^ 2
-  unfolding sheetTests
+  unfolding sheet_tests
   read-edition =
-      let t16 = (then-iff _ _).0 read-passed.0 in
-      let t21 = (then-iff _ _).0 t16.0 in
-      let t15 = (then-iff _ _).0 t21.0 in
-      let t23 = (then-iff _ _).0 t15.0 in
-      let t13 = (then-iff _ _).0 t23.0 in
-      let t12 = (then-iff _ _).0 t13.0 in
-      known-fits laid.edition (ap (λ (x : Laid). unknown x.edition) (sym laid-is) ∙ (failsIf-iff _ _ _).0 t12.1)
+      let t16 = (then_iff _ _).0 read-passed.0 in
+      let t21 = (then_iff _ _).0 t16.0 in
+      let t15 = (then_iff _ _).0 t21.0 in
+      let t23 = (then_iff _ _).0 t15.0 in
+      let t13 = (then_iff _ _).0 t23.0 in
+      let t12 = (then_iff _ _).0 t13.0 in
+      known-fits laid.edition (ap (λ (x : Laid). unknown x.edition) (sym laid_is) ∙ (fails_if_iff _ _ _).0 t12.1)
 
   -- The auditor's room is long enough for every slip.
-  pub read-larger : read (slipLength 3 sheetSide sheetSide) sheet ≡ night laid
-  unfolding sheetTests read
-  read-larger =
-      let t16 = (then-iff _ _).0 read-passed.0 in
-      let t21 = (then-iff _ _).0 t16.0 in
-      let t15 = (then-iff _ _).0 t21.0 in
+  pub read_larger : read (slip_length 3 sheet_side sheet_side) sheet ≡ night laid
+  unfolding sheet_tests read
+  read_larger =
+      let t16 = (then_iff _ _).0 read-passed.0 in
+      let t21 = (then_iff _ _).0 t16.0 in
+      let t15 = (then_iff _ _).0 t21.0 in
       let counted = rows-passed sheet t15.0 in
-      let two : rowCountLength 3 ≡ 2 = refl in
-      let long : slipLength (editionOf sheet) (rows_of sheet) (side_of sheet) ≤ slipLength 3 sheetSide sheetSide =
-      omega (arith, counted.small, counted.fewer, count-short (editionOf sheet), two) in
-      ap (readIf sheet) ((then-iff _ _).1 (t16.0, (failsIf-iff _ _ _).1 (le-ltb _ _ long))) ∙ read-passed.1
+      let two : row_count_length 3 ≡ 2 = refl in
+      let long : slip_length (edition_of sheet) (rows_of sheet) (side_of sheet) ≤ slip_length 3 sheet_side sheet_side =
+      omega (arith, counted.small, counted.fewer, count-short (edition_of sheet), two) in
+      ap (read_if sheet) ((then_iff _ _).1 (t16.0, (fails_if_iff _ _ _).1 (le-ltb _ _ long))) ∙ read-passed.1
 
 -- ---- a slip that holds
 
-module _ (sheet slip : List ℕ) (laid : Laid) (e : read (slipLength 3 sheetSide sheetSide) sheet ≡ night laid) where
+module _ (sheet slip : List ℕ) (laid : Laid) (e : read (slip_length 3 sheet_side sheet_side) sheet ≡ night laid) where
   abbrev rows : ℕ
-  rows = laid.rowCount
+  rows = laid.row_count
 
   abbrev side : ℕ
   side = laid.side
 
-  pub accepted-holds : unlike laid.edition rows side slip ≡ false → Passes (slipTests rows side laid.costs laid.bars slip)
-      → slipTotal rows side slip ≡ total (nightOf rows side laid.costs laid.bars) (slipColumns rows slip) → audit sheet slip ≡ Holds side (slipTotal rows side slip)
-  unfolding audit auditTests
-  accepted-holds like passed same = ap (auditedAs slip) e ∙ ap (auditedBy rows side slip) all
+  pub accepted-holds : unlike laid.edition rows side slip ≡ false → Passes (slip_tests rows side laid.costs laid.bars slip)
+      → slip_total rows side slip ≡ total (night_of rows side laid.costs laid.bars) (slip_columns rows slip) → audit sheet slip ≡ Holds side (slip_total rows side slip)
+  unfolding audit audit_tests
+  accepted-holds like passed same = ap (audited_as slip) e ∙ ap (audited_by rows side slip) all
     where
-      all : Passes (auditTests laid slip)
-      all = (then-iff _ _).1 ((then-iff _ _).1 ((failsIf-iff _ _ _).1 like, passed), (failsIf-iff _ _ _).1 (differ_same _ _ same))
+      all : Passes (audit_tests laid slip)
+      all = (then_iff _ _).1 ((then_iff _ _).1 ((fails_if_iff _ _ _).1 like, passed), (fails_if_iff _ _ _).1 (differ_same _ _ same))

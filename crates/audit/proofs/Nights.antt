@@ -7,83 +7,83 @@ use native.Mathlib.Omega.{arith}
 use lib.Dec.{eqb}
 use lib.ListN.{length}
 use borrow.Author.Tests.{eqb-true, not-false}
-use Rattle.layout.specs.Slips.{rowCountLength, slipLength}
-use Rattle.matrix.specs.Limits.{sheetSide}
-use Rattle.matrix.specs.Verdicts.{Passes, ◌then◌, failsIf}
+use Rattle.layout.specs.Slips.{row_count_length, slip_length}
+use Rattle.matrix.specs.Limits.{sheet_side}
+use Rattle.matrix.specs.Verdicts.{Passes, ◌then◌, fails_if}
 use Rattle.matrix.specs.declared.Refusal.{Refusal}
 use Rattle.matrix.specs.declared.Verdict.{Verdict}
 use Rattle.matrix.specs.declared.Verdict.TheVariants.{Passed, Fails}
-use Rattle.matrix.proofs.Verdicts.{then-iff, fails-then}
-use Rattle.sheet.specs.Reading.{Laid, laid_of, sheetTests, nightTests, nightTested, read}
-use Rattle.audit.specs.Audit.{SlipWrong, unlike, slipTests, totalRight, auditTests, auditedBy, auditedAs, audit}
+use Rattle.matrix.proofs.Verdicts.{then_iff, fails_then}
+use Rattle.sheet.specs.Reading.{Laid, laid_of, sheet_tests, night_tests, night_tested, read}
+use Rattle.audit.specs.Audit.{SlipWrong, unlike, slip_tests, total_right, audit_tests, audited_by, audited_as, audit}
 use Rattle.audit.specs.declared.Audited.{Audited}
 use Rattle.audit.specs.declared.Audited.TheVariants.{Refused}
-use Rattle.audit.proofs.Slips.{audited-fails}
+use Rattle.audit.proofs.Slips.{audited_fails}
 
-or-neither : (a b : Bool) → (a || b) ≡ false → a ≡ false
-or-neither true b e = e
-or-neither false b e = refl
+or_neither : (a b : Bool) → (a || b) ≡ false → a ≡ false
+or_neither true b e = e
+or_neither false b e = refl
 
 -- A slip of an edition, rows and a side has its length, and so what it says lies within it.
-pub like-length : (edition m n : ℕ) (slip : List ℕ) → unlike edition m n slip ≡ false → length slip ≡ slipLength edition m n
+pub like_length : (edition m n : ℕ) (slip : List ℕ) → unlike edition m n slip ≡ false → length slip ≡ slip_length edition m n
 unfolding unlike
-like-length edition m n slip e = eqb-true (length slip) (slipLength edition m n) (not-false _ (or-neither _ _ e))
+like_length edition m n slip e = eqb-true (length slip) (slip_length edition m n) (not-false _ (or_neither _ _ e))
 
-pub like-long : (edition m n : ℕ) (slip : List ℕ) → unlike edition m n slip ≡ false → 10 * m + 8 * n + 8 ≤ length slip
-like-long edition m n slip e = omega (arith, like-length edition m n slip e)
+pub like_long : (edition m n : ℕ) (slip : List ℕ) → unlike edition m n slip ≡ false → 10 * m + 8 * n + 8 ≤ length slip
+like_long edition m n slip e = omega (arith, like_length edition m n slip e)
 
 module _ (laid : Laid) (slip : List ℕ) where
   abbrev m : ℕ
-  m = laid.rowCount
+  m = laid.row_count
 
   abbrev n : ℕ
   n = laid.side
 
   abbrev formed : Verdict
-  formed = failsIf SlipWrong 0 (unlike laid.edition m n slip)
+  formed = fails_if SlipWrong 0 (unlike laid.edition m n slip)
 
   abbrev rest : Verdict
-  rest = slipTests m n laid.costs laid.bars slip then totalRight m n laid.costs laid.bars slip
+  rest = slip_tests m n laid.costs laid.bars slip then total_right m n laid.costs laid.bars slip
 
-  night-fails : {refusal : Refusal} → nightTests laid ≡ Fails refusal → Refused refusal ≡ auditedAs slip (nightTested laid)
-  night-fails e = rw e refl
+  night_fails : {refusal : Refusal} → night_tests laid ≡ Fails refusal → Refused refusal ≡ audited_as slip (night_tested laid)
+  night_fails e = rw e refl
 
-  module _ (passed : Passes (nightTests laid)) where
-    night-passes : auditedAs slip (nightTested laid) ≡ auditedBy m n slip (auditTests laid slip)
-    night-passes = rw passed refl
+  module _ (passed : Passes (night_tests laid)) where
+    night_passes : audited_as slip (night_tested laid) ≡ audited_by m n slip (audit_tests laid slip)
+    night_passes = rw passed refl
 
-    form-fails : {refusal : Refusal} → formed ≡ Fails refusal → Refused refusal ≡ auditedAs slip (nightTested laid)
-    unfolding auditTests
-    form-fails e = audited-fails m n slip (sym (fails-then _ (sym (fails-then _ e)))) ∙ sym night-passes
+    form_fails : {refusal : Refusal} → formed ≡ Fails refusal → Refused refusal ≡ audited_as slip (night_tested laid)
+    unfolding audit_tests
+    form_fails e = audited_fails m n slip (sym (fails_then _ (sym (fails_then _ e)))) ∙ sym night_passes
 
-    form-passes : Passes formed → (r : Audited) → r ≡ auditedBy m n slip rest → r ≡ auditedAs slip (nightTested laid)
-    unfolding auditTests ◌then◌
-    form-passes e r f =
-        f ∙ ap (λ (v : Verdict). auditedBy m n slip (v then slipTests m n laid.costs laid.bars slip then totalRight m n laid.costs laid.bars slip)) (sym e)
-        ∙ sym night-passes
+    form_passes : Passes formed → (r : Audited) → r ≡ audited_by m n slip rest → r ≡ audited_as slip (night_tested laid)
+    unfolding audit_tests ◌then◌
+    form_passes e r f =
+        f ∙ ap (λ (v : Verdict). audited_by m n slip (v then slip_tests m n laid.costs laid.bars slip then total_right m n laid.costs laid.bars slip)) (sym e)
+        ∙ sym night_passes
 
   -- 5, 22 and 25, refused and passed.
-  pub tests-fail : {refusal : Refusal} → (nightTests laid then formed) ≡ Fails refusal → Refused refusal ≡ auditedAs slip (nightTested laid)
+  pub tests_fail : {refusal : Refusal} → (night_tests laid then formed) ≡ Fails refusal → Refused refusal ≡ audited_as slip (night_tested laid)
   unfolding ◌then◌
-  tests-fail {refusal} e = by (nightTests laid) refl e
+  tests_fail {refusal} e = by (night_tests laid) refl e
     where
-      by : (v : Verdict) → nightTests laid ≡ v → (v then formed) ≡ Fails refusal → Refused refusal ≡ auditedAs slip (nightTested laid)
-      by Passed p f = form-fails p f
-      by (Fails other) p f = night-fails (p ∙ f)
+      by : (v : Verdict) → night_tests laid ≡ v → (v then formed) ≡ Fails refusal → Refused refusal ≡ audited_as slip (night_tested laid)
+      by Passed p f = form_fails p f
+      by (Fails other) p f = night_fails (p ∙ f)
 
-  pub tests-pass : Passes (nightTests laid then formed) → (r : Audited) → r ≡ auditedBy m n slip rest → r ≡ auditedAs slip (nightTested laid)
-  tests-pass e = let t = (then-iff _ _).0 e in form-passes t.0 t.1
+  pub tests_pass : Passes (night_tests laid then formed) → (r : Audited) → r ≡ audited_by m n slip rest → r ≡ audited_as slip (night_tested laid)
+  tests_pass e = let t = (then_iff _ _).0 e in form_passes t.0 t.1
 
 -- ---- the whole
 
 module _ (sheet slip : List ℕ) where
   abbrev tests : Verdict
-  tests = sheetTests (slipLength 3 sheetSide sheetSide) sheet
+  tests = sheet_tests (slip_length 3 sheet_side sheet_side) sheet
 
-  pub sheet-fails : {refusal : Refusal} → tests ≡ Fails refusal → Refused refusal ≡ audit sheet slip
+  pub sheet_fails : {refusal : Refusal} → tests ≡ Fails refusal → Refused refusal ≡ audit sheet slip
   unfolding audit read
-  sheet-fails e = rw e refl
+  sheet_fails e = rw e refl
 
-  pub sheet-passes : Passes tests → audit sheet slip ≡ auditedAs slip (nightTested (laid_of sheet))
+  pub sheet_passes : Passes tests → audit sheet slip ≡ audited_as slip (night_tested (laid_of sheet))
   unfolding audit read
-  sheet-passes e = rw e refl
+  sheet_passes e = rw e refl

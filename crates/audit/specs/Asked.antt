@@ -1,8 +1,8 @@
 -- What functions that the entry calls ask for. The entry asks for nothing.
 use Rattle.std.specs.Prelude.{◌≡◌, List, ℕ, ◌*◌, ◌≤◌, ℤ, length}
 use Rattle.assignment.specs.Pairings.{Least, total}
-use Rattle.bars.specs.Barred.{nightOf}
-use Rattle.matrix.specs.Limits.{sheetSide}
+use Rattle.bars.specs.Barred.{night_of}
+use Rattle.matrix.specs.Limits.{sheet_side}
 use Rattle.matrix.specs.Asked.{Tellable}
 use Rattle.audit.specs.declared.Audited.{Audited}
 use Rattle.audit.specs.declared.Audited.TheVariants.{Holds, Refused}
@@ -15,13 +15,13 @@ TellableAudited (Refused refusal) = Tellable refusal
 -- A total that is the least of a night.
 pub record LeastTotal (m n : ℕ) (costs : List ℤ) (bars : List ℕ) (t : ℤ) : Type 0 where
   pub cols : List ℕ
-  pub least : Least (nightOf m n costs bars) cols
-  pub totals : t ≡ total (nightOf m n costs bars) cols
+  pub least : Least (night_of m n costs bars) cols
+  pub totals : t ≡ total (night_of m n costs bars) cols
 
 -- A night of a sheet's size: m rows and n columns, m * n costs, and bars for n rows.
 pub record Lies (m n : ℕ) (costs : List ℤ) (bars : List ℕ) : Type 0 where
   pub fewer : m ≤ n
-  pub small : n ≤ sheetSide
+  pub small : n ≤ sheet_side
   pub filled : length costs ≡ m * n
   pub rows : length bars ≡ n
 

@@ -1,6 +1,6 @@
 -- What the scope says of each case of what the auditor is told.
 use Rattle.std.specs.Prelude.{Bool, true, false, ℕ, ℤ, pos}
-use Rattle.matrix.specs.Refusals.{number_of, place_of, slackOf}
+use Rattle.matrix.specs.Refusals.{number_of, place_of, slack_of}
 use Rattle.audit.specs.declared.Audited.{Audited}
 use Rattle.audit.specs.declared.Audited.TheVariants.{Holds, Refused}
 
@@ -14,6 +14,6 @@ pub record AuditedValues : Type 0 where
   pub total : ℤ
 
 -- "side and total 0 on refusal".
-abbrev pub auditedValues : Audited → AuditedValues
-auditedValues (Holds side total) = record { accepted = true; number = 0; place = 0; slack = pos 0; side = side; total = total }
-auditedValues (Refused refusal) = record { accepted = false; number = number_of refusal; place = place_of refusal; slack = slackOf refusal; side = 0; total = pos 0 }
+abbrev pub audited_values : Audited → AuditedValues
+audited_values (Holds side total) = record { accepted = true; number = 0; place = 0; slack = pos 0; side = side; total = total }
+audited_values (Refused refusal) = record { accepted = false; number = number_of refusal; place = place_of refusal; slack = slack_of refusal; side = 0; total = pos 0 }

@@ -1,17 +1,17 @@
 // The auditor's tool: a slip held against its sheet. What is promised is said in specs/. Nothing here solves.
 ghost use Rattle.std.specs.Prelude.{◌≡◌, ℕ, ◌+◌, ◌*◌, ◌≤◌, ◌<◌, length, replicate};
 ghost use Rattle.lists.specs.Permutations.{at};
-ghost use Rattle.layout.specs.Slips.{slipLength, slipTotal};
-ghost use Rattle.bars.specs.Barred.{firstBarred};
+ghost use Rattle.layout.specs.Slips.{slip_length, slip_total};
+ghost use Rattle.bars.specs.Barred.{first_barred};
 ghost use Rattle.bars.specs.Tests.{unbarred};
 ghost use Rattle.matrix.specs.Asked.{ColumnsListed};
-ghost use Rattle.matrix.specs.Limits.{sheetSide};
-ghost use Rattle.matrix.specs.Verdicts.{Passes, ◌then◌, failsIf};
+ghost use Rattle.matrix.specs.Limits.{sheet_side};
+ghost use Rattle.matrix.specs.Verdicts.{Passes, ◌then◌, fails_if};
 ghost use Rattle.checker.specs.Tests.{differ};
-ghost use Rattle.sheet.specs.Reading.{laidAt, barsIn, distanceDue, nightTested};
+ghost use Rattle.sheet.specs.Reading.{laid_at, bars_in, distance_due, night_tested};
 ghost use Rattle.audit.specs.Asked.{LeastTotal, Lies, Roomy};
-ghost use Rattle.audit.specs.Audit.{SlipWrong, unlike, proofTests, slipTests, totalRight, auditedBy, auditedAs, audit};
-ghost use Rattle.audit.specs.Values.{auditedValues};
+ghost use Rattle.audit.specs.Audit.{SlipWrong, unlike, proof_tests, slip_tests, total_right, audited_by, audited_as, audit};
+ghost use Rattle.audit.specs.Values.{audited_values};
 
 use layout::{said, trailer};
 use matrix::tests::fails_if;
@@ -56,7 +56,7 @@ fn unlike(edition: usize, m: usize, n: usize, slip: &[u8]) -> bool
 // The first of m rows that is paired at a barred place, or m where there is none.
 fn first_barred(m: usize, bars: &[u64], cols: &[u32]) -> usize
     requires { ColumnsListed m 64 cols.now }
-    ensures { result ≡ firstBarred m bars.now cols.now }
+    ensures { result ≡ first_barred m bars.now cols.now }
 {
     let mut i = 0;
     while i < m {
@@ -94,7 +94,7 @@ fn proof_tests(
     vs: &[i64],
 ) -> Verdict
     requires { Lies m n costs.now bars.now × (length cols.now ≡ m) × (length us.now ≡ m) × (length vs.now ≡ n) }
-    ensures { result ≡ proofTests m n costs.now bars.now cols.now us.now vs.now }
+    ensures { result ≡ proof_tests m n costs.now bars.now cols.now us.now vs.now }
 {
     let inside = matrix::tests::columns_inside(Verdict::Passed, m, n, cols);
     let once = checker::choices::columns_once(inside, m, cols);
@@ -144,7 +144,7 @@ fn compared(
     cols: &mut [u32],
 ) -> Audited
     requires { LeastTotal m n costs.now bars.now total × (m ≤ n) × (n ≤ 64) × (length costs.now ≡ m * n) × (length list.old ≡ m) × (length cols.old ≡ m) × (10 * m + 8 * n + 8 ≤ length slip.now) }
-    ensures { result ≡ auditedBy m n slip.now (failsIf SlipWrong 0 (differ (slipTotal m n slip.now) total)) }
+    ensures { result ≡ audited_by m n slip.now (fails_if SlipWrong 0 (differ (slip_total m n slip.now) total)) }
 {
     let least = second(m, n, total, costs, bars, list, cols);
     let said = said::total_of(slip, m, n);
@@ -167,7 +167,7 @@ fn held(
     vs: &mut [i64],
 ) -> Audited
     requires { Lies m n costs.now bars.now × Roomy m n cols.old list.old us.old vs.old × (10 * m + 8 * n + 8 ≤ length slip.now) }
-    ensures { result ≡ auditedBy m n slip.now (slipTests m n costs.now bars.now slip.now then totalRight m n costs.now bars.now slip.now) }
+    ensures { result ≡ audited_by m n slip.now (slip_tests m n costs.now bars.now slip.now then total_right m n costs.now bars.now slip.now) }
 {
     said::read_columns(slip, m, cols);
     said::read_prices(slip, 2 * m, m, us);
@@ -185,7 +185,7 @@ fn held(
 // The same, in rooms of its own.
 fn held_apart(m: usize, n: usize, costs: &[i32], bars: &[u64], slip: &[u8]) -> Audited
     requires { Lies m n costs.now bars.now × (10 * m + 8 * n + 8 ≤ length slip.now) }
-    ensures { result ≡ auditedBy m n slip.now (slipTests m n costs.now bars.now slip.now then totalRight m n costs.now bars.now slip.now) }
+    ensures { result ≡ audited_by m n slip.now (slip_tests m n costs.now bars.now slip.now then total_right m n costs.now bars.now slip.now) }
 {
     let mut cols = [0u32; 64];
     let mut list = [0u32; 64];
@@ -224,7 +224,7 @@ fn night_held(
     slip: &[u8],
 ) -> Audited
     requires { Lies m n costs.now bars.now }
-    ensures { result ≡ auditedAs slip.now (nightTested (record { edition = edition; rowCount = m; side = n; costs = costs.now; bars = bars.now })) }
+    ensures { result ≡ audited_as slip.now (night_tested (record { edition = edition; row_count = m; side = n; costs = costs.now; bars = bars.now })) }
 {
     let within = matrix::tests::costs_in(Verdict::Passed, reading::cost_most(edition), costs);
     let night = bars::tests::bars_clear(within, n, bars);
@@ -240,8 +240,8 @@ fn night_held(
 
 // The bars of n rows are read into a room, where the edition has some.
 fn read_bars(sheet: &[u8], edition: usize, m: usize, n: usize, bars: &mut [u64])
-    requires { (n ≤ sheetSide) × (distanceDue edition m n + 12 ≤ length sheet.now) × (bars.old ≡ replicate n 0) }
-    ensures { bars.new ≡ barsIn edition n sheet.now }
+    requires { (n ≤ sheet_side) × (distance_due edition m n + 12 ≤ length sheet.now) × (bars.old ≡ replicate n 0) }
+    ensures { bars.new ≡ bars_in edition n sheet.now }
 {
     if edition != 2 {
         return;
@@ -260,8 +260,8 @@ fn audit_night(
     costs: &mut [i32],
     bars: &mut [u64],
 ) -> Audited
-    requires { (m ≤ n) × (n ≤ sheetSide) × (distanceDue edition m n + 12 ≤ length sheet.now) × (length costs.old ≡ m * n) × (bars.old ≡ replicate n 0) }
-    ensures { result ≡ auditedAs slip.now (nightTested (laidAt edition m n (distanceDue edition m n) sheet.now)) }
+    requires { (m ≤ n) × (n ≤ sheet_side) × (distance_due edition m n + 12 ≤ length sheet.now) × (length costs.old ≡ m * n) × (bars.old ≡ replicate n 0) }
+    ensures { result ≡ audited_as slip.now (night_tested (laid_at edition m n (distance_due edition m n) sheet.now)) }
 {
     let first = sheet.len() - 12 - reading::distance_due(edition, m, n);
     layout::sheet::read_costs(sheet, first, m * n, costs);
@@ -272,7 +272,7 @@ fn audit_night(
 // The tool: a sheet is read, and the slip held against its night. A slip room for 64 rows and columns of edition 3 is said to be there, so that 16 does
 // not arise.
 pub fn audit(sheet: &[u8], slip: &[u8]) -> Audited
-    ensures { auditedValues result ≡ auditedValues (audit sheet.now slip.now) }
+    ensures { audited_values result ≡ audited_values (audit sheet.now slip.now) }
 {
     match reading::tests(sheet, 1174) {
         Verdict::Fails(refusal) => {

@@ -3,14 +3,14 @@
 ghost use Rattle.std.specs.Prelude.{◌≤◌, length};
 ghost use Rattle.lines.specs.Put.{Put};
 ghost use Rattle.audit.specs.Audit.{audit};
-ghost use Rattle.auditor.specs.Line.{auditLine};
+ghost use Rattle.auditor.specs.Line.{audit_line};
 
 use audit::Audited;
 
 // The line of a sheet and a slip, at the front of a room; how many bytes it is.
 fn print(sheet: &[u8], slip: &[u8], out: &mut [u8]) -> usize
     requires { 80 ≤ length out.old }
-    ensures { Put out.old 0 (auditLine (audit sheet.now slip.now)) out.new result × (result ≤ 80) }
+    ensures { Put out.old 0 (audit_line (audit sheet.now slip.now)) out.new result × (result ≤ 80) }
 {
     match audit::audit(sheet, slip) {
         Audited::Refused(refusal) => lines::put_refused(out, refusal),

@@ -7,13 +7,13 @@ use native.Mathlib.Numerals.{add-one}
 use native.Mathlib.Omega.{arith}
 use lib.IntN.{ℤ}
 use lib.ListN.{length, get_or}
-use Rattle.lists.proofs.Runs.{upward-none, upward-last}
+use Rattle.lists.proofs.Runs.{upward_none, upward-last}
 use Rattle.lists.specs.Permutations.{at}
 use Rattle.lists.proofs.Parts.{part_at}
 use Rattle.assignment.specs.Pairings.{square}
 use Rattle.matrix.proofs.SmallLimits.{side-small}
 use Rattle.rules.specs.Augmentation.{Progress, augment, augments, augmentation}
-use Rattle.augmentation.specs.Room.{freesIn, marksIn}
+use Rattle.augmentation.specs.Room.{frees_in, marks_in}
 use Rattle.augmentation.specs.Augmentation.{state_of, CanTurn, CanAugmentRow, RowAugmented, CanAugment, Augmented}
 
 -- The first k rows of the list have their columns.
@@ -21,9 +21,9 @@ pub record Augmenting (n : ℕ) (costs : List ℤ) (count : ℕ) (cols₀ rows�
     (scanned k : ℕ) : Type 0 where
   pub can : CanAugment n costs count cols₀ rows₀ v₀ d₀ room₀
   pub reach : k ≤ count
-  pub same : state_of cols rows v scanned ≡ augments n (square n costs).cost (freesIn n room₀) k (state_of cols₀ rows₀ v₀ 0)
-  pub frees-same : freesIn n room ≡ freesIn n room₀
-  pub marks-same : marksIn n room ≡ marksIn n room₀
+  pub same : state_of cols rows v scanned ≡ augments n (square n costs).cost (frees_in n room₀) k (state_of cols₀ rows₀ v₀ 0)
+  pub frees-same : frees_in n room ≡ frees_in n room₀
+  pub marks-same : marks_in n room ≡ marks_in n room₀
   pub room-size : length room ≡ n + n + n + n
   pub distances-size : length d ≡ n
   pub few : scanned ≤ k * 2 ^ 16
@@ -34,7 +34,7 @@ unfolding augments
 first-turn {n} {costs} {count} {cols} {rows} {v} {d} {room} C = record {
   can = C;
   reach = omega arith;
-  same = sym (upward-none 0 0 (λ k y. augment n (square n costs).cost y (at (freesIn n room) k)) (state_of cols rows v 0) (omega arith));
+  same = sym (upward_none 0 0 (λ k y. augment n (square n costs).cost y (at (frees_in n room) k)) (state_of cols rows v 0) (omega arith));
   frees-same = refl;
   marks-same = refl;
   room-size = C.room-size;
@@ -49,14 +49,14 @@ module _ {n : ℕ} {costs : List ℤ} {count : ℕ} {cols₀ rows₀ : List ℕ}
   augmented l =
       let e : k ≡ count = omega (arith, A.reach) in
       record {
-        same = A.same ∙ ap (λ (m : ℕ). augments n (square n costs).cost (freesIn n room₀) m (state_of cols₀ rows₀ v₀ 0)) e;
+        same = A.same ∙ ap (λ (m : ℕ). augments n (square n costs).cost (frees_in n room₀) m (state_of cols₀ rows₀ v₀ 0)) e;
         frees-kept = A.frees-same;
         marks-kept = A.marks-same;
       }
 
   module _ (l : k < count) where
     -- The row that code reads is the list's.
-    start_is : get_or room k 0 ≡ at (freesIn n room₀) k
+    start_is : get_or room k 0 ≡ at (frees_in n room₀) k
     start_is =
         ap (λ (m : ℕ). get_or room m 0) (sym (zero-add k)) ∙ sym (part_at 0 n room k 0 (omega (arith, A.can.few)))
         ∙ ap (λ (r : List ℕ). at r k) A.frees-same
@@ -64,10 +64,10 @@ module _ {n : ℕ} {costs : List ℤ} {count : ℕ} {cols₀ rows₀ : List ℕ}
     turn : CanTurn n costs (state_of cols rows v scanned) (get_or room k 0)
     turn =
         subst (CanTurn n costs (state_of cols rows v scanned)) (sym start_is)
-        (subst (λ (y : Progress). CanTurn n costs y (at (freesIn n room₀) k)) (sym A.same) (A.can.turn k l))
+        (subst (λ (y : Progress). CanTurn n costs y (at (frees_in n room₀) k)) (sym A.same) (A.can.turn k l))
 
-    pub can-augment-row : CanAugmentRow n costs (get_or room k 0) cols rows v d room
-    can-augment-row =
+    pub can_augment_row : CanAugmentRow n costs (get_or room k 0) cols rows v d room
+    can_augment_row =
         let C = turn.can in
         record {
           small = A.can.small;
@@ -76,21 +76,21 @@ module _ {n : ℕ} {costs : List ℤ} {count : ℕ} {cols₀ rows₀ : List ℕ}
           distances-size = A.distances-size;
           room-size = A.room-size;
           turn = record {
-            can = record { agree = C.agree; prices-size = C.prices-size; fair = C.fair; start-below = C.start-below; start-unpaired = C.start-unpaired };
+            can = record { agree = C.agree; prices-size = C.prices-size; fair = C.fair; start_below = C.start_below; start_unpaired = C.start_unpaired };
             prices-near = turn.prices-near;
           };
         }
 
-    pub next-turn : {cols' rows' : List ℕ} {v' d' : List ℤ} {room' : List ℕ} {r : ℕ} → RowAugmented n costs (get_or room k 0) cols rows v room cols' rows' v' room' r
+    pub next_turn : {cols' rows' : List ℕ} {v' d' : List ℤ} {room' : List ℕ} {r : ℕ} → RowAugmented n costs (get_or room k 0) cols rows v room cols' rows' v' room' r
         → length d' ≡ n → length room' ≡ n + n + n + n → Augmenting n costs count cols₀ rows₀ v₀ d₀ room₀ cols' rows' v' d' room' (scanned + r) (k + 1)
     unfolding augments
-    next-turn {r = r} N size long = record {
+    next_turn {r = r} N size long = record {
       can = A.can;
       reach = omega arith;
       same =
           N.same scanned ∙ ap₂ (augment n (square n costs).cost) A.same start_is
-          ∙ sym (upward-last 0 k (λ m y. augment n (square n costs).cost y (at (freesIn n room₀) m)) (state_of cols₀ rows₀ v₀ 0) (omega arith))
-          ∙ ap (λ (m : ℕ). augments n (square n costs).cost (freesIn n room₀) m (state_of cols₀ rows₀ v₀ 0)) (sym (add-one k));
+          ∙ sym (upward-last 0 k (λ m y. augment n (square n costs).cost y (at (frees_in n room₀) m)) (state_of cols₀ rows₀ v₀ 0) (omega arith))
+          ∙ ap (λ (m : ℕ). augments n (square n costs).cost (frees_in n room₀) m (state_of cols₀ rows₀ v₀ 0)) (sym (add-one k));
       frees-same = N.frees-kept ∙ A.frees-same;
       marks-same = N.marks-kept ∙ A.marks-same;
       room-size = long;

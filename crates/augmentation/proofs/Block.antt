@@ -13,14 +13,14 @@ use lib.IntN.{ℤ}
 use lib.Signed.{lt_z, le_z}
 use Rattle.ints.proofs.Shapes.{zlin}
 use Rattle.lists.specs.Runs.{upward}
-use Rattle.lists.proofs.Runs.{upward-none, upward-last, upward-stays}
+use Rattle.lists.proofs.Runs.{upward_none, upward-last, upward_stays}
 use Rattle.lists.specs.Permutations.{at, exchange, Permutation}
-use Rattle.lists.proofs.Permutations.{exchange-permutation}
-use Rattle.assignment.specs.Pairings.{signedAt}
+use Rattle.lists.proofs.Permutations.{exchange_permutation}
+use Rattle.assignment.specs.Pairings.{signed_at}
 use Rattle.rules.specs.declared.LastFree.{LastFree}
 use Rattle.rules.specs.declared.LastFree.TheVariants.{NoneYet, At}
-use Rattle.rules.specs.Block.{Block, blockStep, blockStart, block}
-use Rattle.rules.specs.Search.{lastFree}
+use Rattle.rules.specs.Block.{Block, block_step, block_start, block}
+use Rattle.rules.specs.Search.{last_free}
 use Rattle.augmentation.specs.Near.{distance_at, NextNear}
 
 abbrev block_of : ℕ → ℤ → List ℕ → Block
@@ -32,83 +32,83 @@ pub record Blocked (n lo : ℕ) (d : List ℤ) (list₀ list : List ℕ) (hi : �
   pub within : k ≤ n
   pub listed : Permutation n list
   pub block-end : (lo < hi) × (hi ≤ k)
-  pub same : block_of hi minimum list ≡ upward (lo + 1) k (blockStep d lo) (blockStart d lo list₀)
+  pub same : block_of hi minimum list ≡ upward (lo + 1) k (block_step d lo) (block_start d lo list₀)
 
-pub first_block : (n lo : ℕ) (d : List ℤ) (list : List ℕ) (minimum : ℤ) → Permutation n list → lo < n → minimum ≡ signedAt d (at list lo)
+pub first_block : (n lo : ℕ) (d : List ℤ) (list : List ℕ) (minimum : ℤ) → Permutation n list → lo < n → minimum ≡ signed_at d (at list lo)
     → Blocked n lo d list list (lo + 1) minimum (lo + 1)
 first_block n lo d list minimum p l e = record {
   past = omega arith;
   within = omega arith;
   listed = p;
   block-end = omega arith;
-  same = ap (λ (x : ℤ). block_of (lo + 1) x list) e ∙ sym (upward-none (lo + 1) (lo + 1) (blockStep d lo) (blockStart d lo list) (omega arith));
+  same = ap (λ (x : ℤ). block_of (lo + 1) x list) e ∙ sym (upward_none (lo + 1) (lo + 1) (block_step d lo) (block_start d lo list) (omega arith));
 }
 
 module _ {n lo : ℕ} {d : List ℤ} {list₀ list : List ℕ} {hi : ℕ} {minimum : ℤ} {k : ℕ} (B : Blocked n lo d list₀ list hi minimum k) where
   -- After the last place.
   pub whole-block : n ≤ k → block_of hi minimum list ≡ block n d lo list₀
   unfolding block
-  whole-block l = let e : k ≡ n = omega (arith, B.within) in B.same ∙ ap (λ (m : ℕ). upward (lo + 1) m (blockStep d lo) (blockStart d lo list₀)) e
+  whole-block l = let e : k ≡ n = omega (arith, B.within) in B.same ∙ ap (λ (m : ℕ). upward (lo + 1) m (block_step d lo) (block_start d lo list₀)) e
 
   -- The places up to r are above the minimum.
-  pub pass-by : {r : ℕ} → NextNear (distance_at d list) minimum k n r → Blocked n lo d list₀ list hi minimum r
-  pass-by {r} N = record {
+  pub pass_by : {r : ℕ} → NextNear (distance_at d list) minimum k n r → Blocked n lo d list₀ list hi minimum r
+  pass_by {r} N = record {
     past = omega (arith, B.past, N.on);
     within = N.most;
     listed = B.listed;
     block-end = omega (arith, B.block-end, N.on);
     same =
-        upward-stays (lo + 1) k r (blockStep d lo) (blockStart d lo list₀) (block_of hi minimum list) (omega (arith, B.past)) N.on B.same
+        upward_stays (lo + 1) k r (block_step d lo) (block_start d lo list₀) (block_of hi minimum list) (omega (arith, B.past)) N.on B.same
         (λ m l h. rw (N.passed m h l));
   }
 
   module _ (l : k < n) where
-    pub here-below : at list k < n
-    here-below = B.listed.injective.below k l
+    pub here_below : at list k < n
+    here_below = B.listed.injective.below k l
 
-    turn : blockStep d lo k (block_of hi minimum list) ≡ upward (lo + 1) (k + 1) (blockStep d lo) (blockStart d lo list₀)
+    turn : block_step d lo k (block_of hi minimum list) ≡ upward (lo + 1) (k + 1) (block_step d lo) (block_start d lo list₀)
     turn =
-        ap (blockStep d lo k) B.same ∙ sym (upward-last (lo + 1) k (blockStep d lo) (blockStart d lo list₀) (omega (arith, B.past)))
-        ∙ ap (λ (m : ℕ). upward (lo + 1) m (blockStep d lo) (blockStart d lo list₀)) (sym (add-one k))
+        ap (block_step d lo k) B.same ∙ sym (upward-last (lo + 1) k (block_step d lo) (block_start d lo list₀) (omega (arith, B.past)))
+        ∙ ap (λ (m : ℕ). upward (lo + 1) m (block_step d lo) (block_start d lo list₀)) (sym (add-one k))
 
-    pub restart : lt_z (signedAt d (at list k)) minimum ≡ true → le_z (signedAt d (at list k)) minimum ≡ true
-        → Blocked n lo d list₀ (exchange list k lo) (lo + 1) (signedAt d (at list k)) (k + 1)
+    pub restart : lt_z (signed_at d (at list k)) minimum ≡ true → le_z (signed_at d (at list k)) minimum ≡ true
+        → Blocked n lo d list₀ (exchange list k lo) (lo + 1) (signed_at d (at list k)) (k + 1)
     restart e f = record {
       past = omega (arith, B.past);
       within = omega arith;
-      listed = exchange-permutation B.listed k lo l (omega (arith, B.past));
+      listed = exchange_permutation B.listed k lo l (omega (arith, B.past));
       block-end = omega (arith, B.past);
       same = rw (f, e) at turn;
     }
 
-    pub join : lt_z (signedAt d (at list k)) minimum ≡ false → le_z (signedAt d (at list k)) minimum ≡ true
+    pub join : lt_z (signed_at d (at list k)) minimum ≡ false → le_z (signed_at d (at list k)) minimum ≡ true
         → Blocked n lo d list₀ (exchange list k hi) (hi + 1) minimum (k + 1)
     join e f =
-        let z : signedAt d (at list k) ≡ minimum = omega zlin in
+        let z : signed_at d (at list k) ≡ minimum = omega zlin in
         record {
           past = omega (arith, B.past);
           within = omega arith;
-          listed = exchange-permutation B.listed k hi l (omega (arith, B.block-end));
+          listed = exchange_permutation B.listed k hi l (omega (arith, B.block-end));
           block-end = omega (arith, B.block-end);
           same = ap (λ (x : ℤ). block_of (hi + 1) x (exchange list k hi)) (sym z) ∙ (rw (f, e) at turn);
         }
 
 -- The same, at equal values.
-pub blocked-at : {n lo : ℕ} {d : List ℤ} {list₀ list : List ℕ} {hi : ℕ} {minimum : ℤ} {k : ℕ} → Blocked n lo d list₀ list hi minimum k
+pub blocked_at : {n lo : ℕ} {d : List ℤ} {list₀ list : List ℕ} {hi : ℕ} {minimum : ℤ} {k : ℕ} → Blocked n lo d list₀ list hi minimum k
     → {list' : List ℕ} {hi' : ℕ} {minimum' : ℤ} → list' ≡ list → hi' ≡ hi → minimum' ≡ minimum → Blocked n lo d list₀ list' hi' minimum' k
-blocked-at B a b c = rw (a, b, c) B
+blocked_at B a b c = rw (a, b, c) B
 
 -- ---- the last free column
 
 module _ (n : ℕ) (row : ℕ → ℕ) (list : List ℕ) (lo : ℕ) where
-  pub last_none : NoneYet ≡ lastFree n row list lo lo
-  unfolding lastFree
-  last_none = sym (upward-none lo lo _ NoneYet (omega arith))
+  pub last_none : NoneYet ≡ last_free n row list lo lo
+  unfolding last_free
+  last_none = sym (upward_none lo lo _ NoneYet (omega arith))
 
   -- One place more: its column where that is free, and else what was found before.
-  pub last_more : (k : ℕ) (found : LastFree) → lo ≤ k → found ≡ lastFree n row list lo k
-      → cond (leb n (row (at list k))) (At (at list k)) found ≡ lastFree n row list lo (k + 1)
-  unfolding lastFree
+  pub last_more : (k : ℕ) (found : LastFree) → lo ≤ k → found ≡ last_free n row list lo k
+      → cond (leb n (row (at list k))) (At (at list k)) found ≡ last_free n row list lo (k + 1)
+  unfolding last_free
   last_more k found l e = elim (dec_le n (row (at list k))) [
     | yes h ↦ sym (rw (add-one k, upward-last lo k, le-ltb (row (at list k)) n h, le-leb n (row (at list k)) h))
     | no h ↦ let t : row (at list k) < n = omega arith in

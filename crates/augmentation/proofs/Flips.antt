@@ -15,52 +15,52 @@ use Rattle.rules.specs.Columns.{Pairs}
 use Rattle.rules.specs.Augmentation.{Open, flip, flips, flipped}
 use Rattle.rules.proofs.Pairs.{taken-below}
 use Rattle.rules.proofs.Turns.{flips-first}
-use Rattle.augmentation.specs.Augmentation.{pairsOf, open_at, CanFlip}
+use Rattle.augmentation.specs.Augmentation.{pairs_of, open_at, CanFlip}
 
 -- ---- how many flips are left
 
-isLeft : Turn Open Pairs → Bool
-isLeft (on o) = false
-isLeft (left p) = true
+is_left : Turn Open Pairs → Bool
+is_left (on o) = false
+is_left (left p) = true
 
 module _ (n s : ℕ) (predecessors : List ℕ) where
-  flips-none : (o : Open) → flips 0 s predecessors o ≡ on o
+  flips_none : (o : Open) → flips 0 s predecessors o ≡ on o
   unfolding flips
-  flips-none o = until_none 0 0 (λ k. flip s predecessors) o (omega arith)
+  flips_none o = until_none 0 0 (λ k. flip s predecessors) o (omega arith)
 
   abbrev whole-after : Open → ℕ → Bool
-  whole-after o k = isLeft (flips k s predecessors o)
+  whole-after o k = is_left (flips k s predecessors o)
 
   -- The flips that are left from o on; n + 1 where more than n are.
   pub togo : Open → ℕ
   togo o = first (suc n) (whole-after o)
 
-  togo-le : (o : Open) (m : ℕ) → whole-after o m ≡ true → togo o ≤ m
+  togo_le : (o : Open) (m : ℕ) → whole-after o m ≡ true → togo o ≤ m
   unfolding togo
-  togo-le o m e = by (dec_lt m (first (suc n) (whole-after o)))
+  togo_le o m e = by (dec_lt m (first (suc n) (whole-after o)))
     where
       by : Dec (m < first (suc n) (whole-after o)) → first (suc n) (whole-after o) ≤ m
       by (yes l) = absurd (true≢false (sym e ∙ first-before (whole-after o) (suc n) m l))
       by (no l) = omega arith
 
   -- One flip makes them fewer.
-  togo-less : (o x : Open) → flip s predecessors o ≡ on x → (m : ℕ) (p : Pairs) → m ≤ n → flips m s predecessors o ≡ left p → togo x < togo o
-  unfolding isLeft togo
-  togo-less o x e m p l q = by (togo o) refl
+  togo_less : (o x : Open) → flip s predecessors o ≡ on x → (m : ℕ) (p : Pairs) → m ≤ n → flips m s predecessors o ≡ left p → togo x < togo o
+  unfolding is_left togo
+  togo_less o x e m p l q = by (togo o) refl
     where
       few : togo o ≤ m
-      few = togo-le o m (ap isLeft q)
+      few = togo_le o m (ap is_left q)
 
       reached : whole-after o (togo o) ≡ true
       reached = first_holds (whole-after o) (suc n) (omega (arith, few))
 
       by : (a : ℕ) → togo o ≡ a → togo x < a
-      by zero z = absurd (true≢false (sym reached ∙ ap (whole-after o) z ∙ ap isLeft (flips-none o)))
+      by zero z = absurd (true≢false (sym reached ∙ ap (whole-after o) z ∙ ap is_left (flips_none o)))
       by (suc a) z =
           let t : whole-after x a ≡ true =
-          sym (ap isLeft (flips-first a s predecessors o ∙ ap (λ (y : Turn Open Pairs). and_then y (flips a s predecessors)) e))
+          sym (ap is_left (flips-first a s predecessors o ∙ ap (λ (y : Turn Open Pairs). and_then y (flips a s predecessors)) e))
           ∙ sym (ap (whole-after o) z) ∙ reached in
-          omega (arith, togo-le x a t)
+          omega (arith, togo_le x a t)
 
 -- ---- the turns
 
@@ -101,9 +101,9 @@ module _ {n s : ℕ} {predecessors : List ℕ} {j₀ : ℕ} {cols₀ rows₀ col
   ends = F.same ∙ F.can.ends
 
   spare : (f : ℕ) → F.fuel ≡ f → (g : ℕ) × (f ≡ suc g)
-  unfolding isLeft
+  unfolding is_left
   spare zero e =
-      absurd (true≢false (sym (ap isLeft ends) ∙ ap (λ (m : ℕ). isLeft (flips m s predecessors o)) e ∙ ap isLeft (flips-none n s predecessors o)))
+      absurd (true≢false (sym (ap is_left ends) ∙ ap (λ (m : ℕ). is_left (flips m s predecessors o)) e ∙ ap is_left (flips_none n s predecessors o)))
   spare (suc g) e = (g, refl)
 
   -- One flip, and the rest.
@@ -113,21 +113,21 @@ module _ {n s : ℕ} {predecessors : List ℕ} {j₀ : ℕ} {cols₀ rows₀ col
       ∙ F.same
 
   -- The row is the start: the pairs are whole.
-  pub last-flip : i ≡ s → pairsOf (set cols i j) (set rows j i) ≡ flipped (flips n s predecessors (open_at j₀ cols₀ rows₀))
+  pub last-flip : i ≡ s → pairs_of (set cols i j) (set rows j i) ≡ flipped (flips n s predecessors (open_at j₀ cols₀ rows₀))
   last-flip e = ap flipped (rw (eq-eqb i s e) at turn)
 
   -- Its old column stands open.
-  pub next-flip : i ≢ s → Flipping n s predecessors j₀ cols₀ rows₀ (set cols i j) (set rows j i) (at cols i)
-  next-flip d = record {
+  pub next_flip : i ≢ s → Flipping n s predecessors j₀ cols₀ rows₀ (set cols i j) (set rows j i) (at cols i)
+  next_flip d = record {
     can = F.can;
     column-below = F.cols-below i row_below;
     cols-size = length-set cols i j ∙ F.cols-size;
     rows-size = length-set rows j i ∙ F.rows-size;
-    cols-below = taken-below n (pairsOf cols rows) F.cols-size F.rows-size i j row_below F.column-below F.cols-below;
+    cols-below = taken-below n (pairs_of cols rows) F.cols-size F.rows-size i j row_below F.column-below F.cols-below;
     fuel = (spare F.fuel refl).0;
     few = omega (arith, F.few, (spare F.fuel refl).1);
     same = rw (ne_eqb i s d) at turn;
   }
 
   pub fewer : i ≢ s → togo n s predecessors (open_at (at cols i) (set cols i j) (set rows j i)) < togo n s predecessors (open_at j cols rows)
-  fewer d = togo-less n s predecessors o (open_at (at cols i) (set cols i j) (set rows j i)) (rw (ne_eqb i s d)) F.fuel F.can.whole F.few ends
+  fewer d = togo_less n s predecessors o (open_at (at cols i) (set cols i j) (set rows j i)) (rw (ne_eqb i s d)) F.fuel F.can.whole F.few ends

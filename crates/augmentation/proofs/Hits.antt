@@ -12,11 +12,11 @@ use mir.Syntax.{w32, w64}
 use mir.Val.{to_z, of_z}
 use Rattle.ints.proofs.Bits.{read_back}
 use Rattle.ints.proofs.Ranges.{zarith}
-use Rattle.lists.proofs.Runs.{upward-none, upward-last}
+use Rattle.lists.proofs.Runs.{upward_none, upward-last}
 use Rattle.lists.proofs.Cases.{cond_cases}
 use Rattle.rules.specs.declared.Low.{Low}
 use Rattle.rules.specs.Lowest.{low, lower, lowest}
-use Rattle.augmentation.specs.DirectHit.{lesser, leastOfFour, LastOf}
+use Rattle.augmentation.specs.DirectHit.{lesser, least_of_four, LastOf}
 
 -- r is what `reduced_cost` answers at a cost x and a price y that were read from slices.
 pub reduced-back : (x y r : ℤ) → mag x < 2 ^ 31 → mag y < 2 ^ 63 → mag r < 2 ^ 63 → r ≡ to_z w32 (of_z w32 x) -ℤ to_z w64 (of_z w64 y)
@@ -31,23 +31,23 @@ lesser-first a h = cond_cases (lt_z h a) (λ z. z ≤ℤ a) h a (λ t. omega zar
 lesser-second : (a h : ℤ) → lesser a h ≤ℤ h
 lesser-second a h = cond_cases (lt_z h a) (λ z. z ≤ℤ h) h a (λ t. omega zarith) (λ t. omega zarith)
 
-lesser-greatest : (z a h : ℤ) → z ≤ℤ a → z ≤ℤ h → z ≤ℤ lesser a h
-lesser-greatest z a h p q = cond_cases (lt_z h a) (λ y. z ≤ℤ y) h a (λ t. q) (λ t. p)
+lesser_greatest : (z a h : ℤ) → z ≤ℤ a → z ≤ℤ h → z ≤ℤ lesser a h
+lesser_greatest z a h p q = cond_cases (lt_z h a) (λ y. z ≤ℤ y) h a (λ t. q) (λ t. p)
 
-lesser-assoc : (a b c : ℤ) → lesser (lesser a b) c ≡ lesser a (lesser b c)
-lesser-assoc a b c =
+lesser_assoc : (a b c : ℤ) → lesser (lesser a b) c ≡ lesser a (lesser b c)
+lesser_assoc a b c =
     let l = lesser (lesser a b) c in
     let r = lesser a (lesser b c) in
-    let x : l ≤ℤ r = lesser-greatest l a (lesser b c) (omega (zarith, lesser-first (lesser a b) c, lesser-first a b))
-    (lesser-greatest l b c (omega (zarith, lesser-first (lesser a b) c, lesser-second a b)) (lesser-second (lesser a b) c)) in
-    let y : r ≤ℤ l = lesser-greatest r (lesser a b) c (lesser-greatest r a b (lesser-first a (lesser b c)) (omega (zarith, lesser-second a (lesser b c), lesser-first b c)))
+    let x : l ≤ℤ r = lesser_greatest l a (lesser b c) (omega (zarith, lesser-first (lesser a b) c, lesser-first a b))
+    (lesser_greatest l b c (omega (zarith, lesser-first (lesser a b) c, lesser-second a b)) (lesser-second (lesser a b) c)) in
+    let y : r ≤ℤ l = lesser_greatest r (lesser a b) c (lesser_greatest r a b (lesser-first a (lesser b c)) (omega (zarith, lesser-second a (lesser b c), lesser-first b c)))
     (omega (zarith, lesser-second a (lesser b c), lesser-second b c)) in
     omega (zarith, x, y)
 
 module _ (f : ℕ → ℤ) where
   pub least_first : (lowest 1 f).value ≡ f 0
   unfolding lowest
-  least_first = ap (λ (a : Low). a.value) (upward-none 1 1 (λ i found. lower found (low (f i) i)) (low (f 0) 0) (omega arith))
+  least_first = ap (λ (a : Low). a.value) (upward_none 1 1 (λ i found. lower found (low (f i) i)) (low (f 0) 0) (omega arith))
 
   value_of : (t : Bool) (h a : Low) → (cond t h a).value ≡ cond t h.value a.value
   value_of true h a = refl
@@ -61,8 +61,8 @@ module _ (f : ℕ → ℤ) where
       ∙ value_of (lt_z (f j) (lowest j f).value) (low (f j) j) (lowest j f)
 
   -- Four values at once.
-  pub least-four-more : (j : ℕ) → 1 ≤ j → (lowest (j + 4) f).value ≡ lesser (lowest j f).value (leastOfFour f j)
-  least-four-more j l =
+  pub least_four_more : (j : ℕ) → 1 ≤ j → (lowest (j + 4) f).value ≡ lesser (lowest j f).value (least_of_four f j)
+  least_four_more j l =
       let m = (lowest j f).value in
       let a = f j in
       let b = f (j + 1) in
@@ -77,7 +77,7 @@ module _ (f : ℕ → ℤ) where
       ap (λ (k : ℕ). (lowest k f).value) s3 ∙ least_more (j + 2) (omega arith) ∙ ap (λ (z : ℤ). lesser z c) e2 in
       let e4 : (lowest (j + 4) f).value ≡ lesser (lesser (lesser (lesser m a) b) c) d =
       ap (λ (k : ℕ). (lowest k f).value) s4 ∙ least_more (j + 3) (omega arith) ∙ ap (λ (z : ℤ). lesser z d) e3 in
-      e4 ∙ lesser-assoc (lesser (lesser m a) b) c d ∙ ap (λ (z : ℤ). lesser z (lesser c d)) (lesser-assoc m a b) ∙ lesser-assoc m (lesser a b) (lesser c d)
+      e4 ∙ lesser_assoc (lesser (lesser m a) b) c d ∙ ap (λ (z : ℤ). lesser z (lesser c d)) (lesser_assoc m a b) ∙ lesser_assoc m (lesser a b) (lesser c d)
 
 -- ---- the last place of a test
 
@@ -92,8 +92,8 @@ module _ (n : ℕ) (test : ℕ → Bool) where
 
   -- Column j comes before the last `count` places.
   module _ (count : ℕ) (P : Passed count) (j : ℕ) (before : j + count + 1 ≡ n) where
-    pub one-more-passed : test j ≡ false → Passed (count + 1)
-    one-more-passed e = record {
+    pub one_more_passed : test j ≡ false → Passed (count + 1)
+    one_more_passed e = record {
       most = omega arith;
       fails = λ k m h. elim (ℕ_discrete k j) [ yes z ↦ ap test z ∙ e | no z ↦ P.fails k m (omega arith) ];
     }

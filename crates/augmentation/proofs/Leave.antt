@@ -6,14 +6,14 @@ use lib.IntN.{ℤ}
 use lib.ListN.{length, take, drop}
 use Rattle.lists.specs.Runs.{Turn, left}
 use Rattle.lists.specs.Permutations.{at, Permutation}
-use Rattle.assignment.specs.Pairings.{signedAt, square}
+use Rattle.assignment.specs.Pairings.{signed_at, square}
 use Rattle.rules.specs.Lowest.{reduced, lowest}
-use Rattle.rules.specs.Search.{Work, workOf, Found, found, searchBlocks, search, found_at, newPrices}
+use Rattle.rules.specs.Search.{Work, work_of, Found, found, search_blocks, search, found_at, new_prices}
 use Rattle.rules.proofs.Scan.{Sound}
-use Rattle.rules.proofs.Search.{Good, search-left, search-good}
-use Rattle.rules.proofs.Augment.{floor-under}
-use Rattle.augmentation.specs.Room.{listIn, predecessorsIn, roomWith}
-use Rattle.augmentation.specs.Search.{CanSearch, CanChange, Started, Searched, readyAt}
+use Rattle.rules.proofs.Search.{Good, search-left, search_good}
+use Rattle.rules.proofs.Augment.{floor_under}
+use Rattle.augmentation.specs.Room.{list_in, predecessors_in, room_with}
+use Rattle.augmentation.specs.Search.{CanSearch, CanChange, Started, Searched, ready_at}
 use Rattle.augmentation.proofs.Room.{list_length, predecessors-length, room-length, list_of, room-room, lent-list}
 use Rattle.augmentation.proofs.Loops.{one, distances-near, Leaving}
 
@@ -22,69 +22,69 @@ module _ (n : ℕ) (costs : List ℤ) (rows : List ℕ) (start : ℕ) (v : List 
   cost = (square n costs).cost
 
   abbrev floor : ℤ
-  floor = (lowest n (reduced cost (signedAt v) start)).value
+  floor = (lowest n (reduced cost (signed_at v) start)).value
 
   abbrev blocks : ℕ → Work → Turn Work Found
-  blocks m w = searchBlocks n cost (signedAt v) (at rows) m w
+  blocks m w = search_blocks n cost (signed_at v) (at rows) m w
 
   module _ (C : CanSearch n costs rows start v) where
     module _ {room₀ : List ℕ} {d₁ : List ℤ} {room₁ : List ℕ} (size : length room₀ ≡ n + n + n + n) (T : Started n costs start v room₀ d₁ room₁)
         {d : List ℤ} {room : List ℕ} {lo m column : ℕ} (L : Leaving n costs rows start v d₁ room₁ d room lo m column) where
       abbrev f : Found
-      f = found lo (record { lo = lo; hi = L.end }) column (workOf L.hi L.list d L.predecessors m)
+      f = found lo (record { lo = lo; hi = L.end }) column (work_of L.hi L.list d L.predecessors m)
 
       left-same : (x y : Found) → ◌≡◌ {A = Turn Work Found} (left x) (left y) → x ≡ y
       left-same x y e = ap (found_at) e
 
       -- What was found is what the search finds.
-      found-is : f ≡ search n cost (signedAt v) (at rows) start
-      found-is =
-          left-same f (search n cost (signedAt v) (at rows) start)
+      found_is : f ≡ search n cost (signed_at v) (at rows) start
+      found_is =
+          left-same f (search n cost (signed_at v) (at rows) start)
           (sym L.same ∙ ap (blocks n) T.same
-          ∙ search-left n cost (signedAt v) (at rows) start floor C.fair C.has-free.column C.has-free.below C.has-free.free
-          (floor-under n cost (signedAt v) start (one n costs rows start v C)))
+          ∙ search-left n cost (signed_at v) (at rows) start floor C.fair C.has-free.column C.has-free.below C.has-free.free
+          (floor_under n cost (signed_at v) start (one n costs rows start v C)))
 
-      good : Good n cost (signedAt v) (at rows) start floor f
+      good : Good n cost (signed_at v) (at rows) start floor f
       good =
-          subst (Good n cost (signedAt v) (at rows) start floor) (sym found-is)
-          (search-good n cost (signedAt v) (at rows) start floor C.fair C.has-free.column C.has-free.below C.has-free.free
-          (floor-under n cost (signedAt v) start (one n costs rows start v C)))
+          subst (Good n cost (signed_at v) (at rows) start floor) (sym found_is)
+          (search_good n cost (signed_at v) (at rows) start floor C.fair C.has-free.column C.has-free.below C.has-free.free
+          (floor_under n cost (signed_at v) start (one n costs rows start v C)))
 
-      S : Sound n cost (signedAt v) (at rows) start floor f.work
+      S : Sound n cost (signed_at v) (at rows) start floor f.work
       S = good.1.sound
 
-      pub leave-long : length room ≡ n + n + n + n
-      leave-long = ap length L.room-is ∙ room-length n room₁ L.room-size L.list L.predecessors S.permutation.size S.predecessors-size
+      pub leave_long : length room ≡ n + n + n + n
+      leave_long = ap length L.room_is ∙ room-length n room₁ L.room-size L.list L.predecessors S.permutation.size S.predecessors-size
 
-      pub leave-distances : length d ≡ n
-      leave-distances = S.distances-size
+      pub leave_distances : length d ≡ n
+      leave_distances = S.distances-size
 
-      lent-list-is : take (n + n - n) (drop n room) ≡ L.list
-      lent-list-is =
-          lent-list n room ∙ ap (listIn n) L.room-is ∙ list_of n room₁ L.room-size L.list L.predecessors S.permutation.size S.predecessors-size
+      lent_list_is : take (n + n - n) (drop n room) ≡ L.list
+      lent_list_is =
+          lent-list n room ∙ ap (list_in n) L.room_is ∙ list_of n room₁ L.room-size L.list L.predecessors S.permutation.size S.predecessors-size
 
       -- The prices can be changed.
-      pub can-change : CanChange (length v) lo (take (n + n - n) (drop n room)) d v
-      can-change = rw C.prices-size (record {
+      pub can_change : CanChange (length v) lo (take (n + n - n) (drop n room)) d v
+      can_change = rw C.prices-size (record {
         small = C.small;
         ready-below = good.1.ready-below;
-        listed = subst (Permutation n) (sym lent-list-is) S.permutation;
+        listed = subst (Permutation n) (sym lent_list_is) S.permutation;
         distances-size = S.distances-size;
         distances-near = distances-near n costs rows start v C f.work S;
         prices-near = C.prices-near;
       })
 
-      pub searched : (v' : List ℤ) → v' ≡ newPrices (readyAt lo (take (n + n - n) (drop n room)) d) v
-          → Searched n (search n cost (signedAt v) (at rows) start) v room₀ (record { column = column; scanned = m }) v' d room
-      unfolding newPrices
+      pub searched : (v' : List ℤ) → v' ≡ new_prices (ready_at lo (take (n + n - n) (drop n room)) d) v
+          → Searched n (search n cost (signed_at v) (at rows) start) v room₀ (record { column = column; scanned = m }) v' d room
+      unfolding new_prices
       searched v' e = record {
-        column = ap (λ (x : Found). x.column) found-is;
-        scanned = ap (λ (x : Found). x.work.scanned) found-is;
-        prices = e ∙ ap (λ (l : List ℕ). newPrices (readyAt lo l d) v) lent-list-is ∙ ap (λ (x : Found). newPrices x v) found-is;
-        distances = ap (λ (x : Found). x.work.distances) found-is;
-        room-is =
-            L.room-is ∙ ap (roomWith n L.list L.predecessors) T.frame
-            ∙ room-room n room₀ size (listIn n room₁) (predecessorsIn n room₁) L.list L.predecessors (list_length n room₁ L.room-size)
+        column = ap (λ (x : Found). x.column) found_is;
+        scanned = ap (λ (x : Found). x.work.scanned) found_is;
+        prices = e ∙ ap (λ (l : List ℕ). new_prices (ready_at lo l d) v) lent_list_is ∙ ap (λ (x : Found). new_prices x v) found_is;
+        distances = ap (λ (x : Found). x.work.distances) found_is;
+        room_is =
+            L.room_is ∙ ap (room_with n L.list L.predecessors) T.frame
+            ∙ room-room n room₀ size (list_in n room₁) (predecessors_in n room₁) L.list L.predecessors (list_length n room₁ L.room-size)
             (predecessors-length n room₁ L.room-size) S.permutation.size S.predecessors-size
-            ∙ ap (λ (x : Found). roomWith n x.work.list x.work.predecessors room₀) found-is;
+            ∙ ap (λ (x : Found). room_with n x.work.list x.work.predecessors room₀) found_is;
       }

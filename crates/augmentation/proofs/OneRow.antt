@@ -12,11 +12,11 @@ use lib.IntN.{ℤ, ◌-ℤ◌}
 use lib.Signed.{◌≤ℤ◌, le_z}
 use lib.ListN.{length, set, take, drop}
 use lib.Dec.{ltb}
-use Rattle.ints.proofs.Orders.{leZ-true, leZ-false}
+use Rattle.ints.proofs.Orders.{le_z_true, le_z_false}
 use Rattle.ints.proofs.Ranges.{zarith}
 use Rattle.lists.specs.Permutations.{at}
 use Rattle.lists.proofs.Injections.{reached}
-use Rattle.assignment.specs.Pairings.{signedAt, square}
+use Rattle.assignment.specs.Pairings.{signed_at, square}
 use Rattle.rules.specs.declared.Reached.{Reached}
 use Rattle.rules.specs.Lowest.{reduced, lowest}
 use Rattle.rules.specs.Columns.{Pairs}
@@ -24,17 +24,17 @@ use Rattle.rules.specs.Search.{Found}
 use Rattle.rules.specs.Augmentation.{flips, flipped, Progress}
 use Rattle.rules.specs.Asked.{Can}
 use Rattle.rules.proofs.Pairs.{free-column}
-use Rattle.rules.proofs.Lowest.{lowest-is}
+use Rattle.rules.proofs.Lowest.{lowest_is}
 use Rattle.rules.proofs.Scan.{place}
 use Rattle.rules.proofs.Search.{Ended}
 use Rattle.rules.proofs.Flips.{flips-left}
-use Rattle.rules.proofs.Augment.{one, floorOf, found-good, Tree, rank, rooted, flipping, column-below}
-use Rattle.rules.proofs.DirectHit.{Hits, augment-hits}
-use Rattle.augmentation.specs.Room.{freesIn, predecessorsIn, marksIn}
+use Rattle.rules.proofs.Augment.{one, floor_of, found_good, Tree, rank, rooted, flipping, column-below}
+use Rattle.rules.proofs.DirectHit.{Hits, augment_hits}
+use Rattle.augmentation.specs.Room.{frees_in, predecessors_in, marks_in}
 use Rattle.augmentation.specs.Search.{CanSearch, Searched, found_from}
-use Rattle.augmentation.specs.DirectHit.{reducedOf, freeAt, LastOf}
-use Rattle.augmentation.specs.Augmentation.{pairsOf, open_at, CanFlip, state_of, CanAugmentRow, RowAugmented}
-use Rattle.augmentation.proofs.Room.{predecessors-of, frees-kept, marks-kept}
+use Rattle.augmentation.specs.DirectHit.{reduced_of, free_at, LastOf}
+use Rattle.augmentation.specs.Augmentation.{pairs_of, open_at, CanFlip, state_of, CanAugmentRow, RowAugmented}
+use Rattle.augmentation.proofs.Room.{predecessors_of, frees-kept, marks-kept}
 use Rattle.augmentation.proofs.Scan.{row-cost}
 use Rattle.augmentation.proofs.Start.{lent-predecessors}
 
@@ -43,9 +43,9 @@ both : (t u : Bool) → cond t false u ≡ true → (t ≡ false) × (u ≡ true
 both true u e = absurd (true≢false (sym e))
 both false u e = (refl, e)
 
-second-fails : (t u : Bool) → cond t false u ≡ false → t ≡ false → u ≡ false
-second-fails true u e q = absurd (true≢false q)
-second-fails false u e q = e
+second_fails : (t u : Bool) → cond t false u ≡ false → t ≡ false → u ≡ false
+second_fails true u e q = absurd (true≢false q)
+second_fails false u e q = e
 
 module _ {n : ℕ} {costs : List ℤ} {s : ℕ} {cols rows : List ℕ} {v d : List ℤ} {room : List ℕ} (R : CanAugmentRow n costs s cols rows v d room) where
   abbrev cost : ℕ → ℕ → ℤ
@@ -62,10 +62,10 @@ module _ {n : ℕ} {costs : List ℤ} {s : ℕ} {cols rows : List ℕ} {v d : Li
 
   pub can-search : CanSearch n costs rows s v
   can-search =
-      let y = free-column n (pairsOf cols rows) C.agree s C.start-below C.start-unpaired in
+      let y = free-column n (pairs_of cols rows) C.agree s C.start_below C.start_unpaired in
       record {
         small = R.small;
-        start-below = C.start-below;
+        start_below = C.start_below;
         costs-size = R.costs-size;
         prices-size = C.prices-size;
         rows-size = C.agree.rows-size;
@@ -78,13 +78,13 @@ module _ {n : ℕ} {costs : List ℤ} {s : ℕ} {cols rows : List ℕ} {v d : Li
   -- ---- by a search
 
   abbrev μ : ℤ
-  μ = (found-good n cost x s C).0
+  μ = (found_good n cost x s C).0
 
   abbrev fl : ℤ
-  fl = floorOf n cost (signedAt v) s (one n cost x s C)
+  fl = floor_of n cost (signed_at v) s (one n cost x s C)
 
-  E : Ended n cost (signedAt v) (at rows) s fl f μ
-  E = (found-good n cost x s C).1
+  E : Ended n cost (signed_at v) (at rows) s fl f μ
+  E = (found_good n cost x s C).1
 
   list-size : length f.work.list ≡ n
   list-size = E.sound.permutation.size
@@ -93,31 +93,31 @@ module _ {n : ℕ} {costs : List ℤ} {s : ℕ} {cols rows : List ℕ} {v d : Li
   predecessors-size = E.sound.predecessors-size
 
   -- The row that leads to a column is the start row, or that of a column.
-  leads-below : (k : ℕ) → k < n → at f.work.predecessors k < n
-  leads-below k l =
+  leads_below : (k : ℕ) → k < n → at f.work.predecessors k < n
+  leads_below k l =
       let r = reached E.sound.permutation.injective k l in
       subst (λ (y : ℕ). at f.work.predecessors y < n) r.2 (go r.0 r.1)
     where
       go : (t : ℕ) → t < n → at f.work.predecessors (place f.work t) < n
-      go t m = ⊎_elim (λ a. omega (arith, a.leads, C.start-below)) (λ a. omega (arith, a.3.leads, a.2.0)) (E.root t m)
+      go t m = ⊎_elim (λ a. omega (arith, a.leads, C.start_below)) (λ a. omega (arith, a.3.leads, a.2.0)) (E.root t m)
 
   -- The pairs can flip back.
   can-flip : CanFlip n s f.column f.work.predecessors cols rows
   can-flip =
-      let p = pairsOf cols rows in
-      let ls = C.start-below in
+      let p = pairs_of cols rows in
+      let ls = C.start_below in
       record {
         small = R.small;
-        column-below = column-below n cost (signedAt v) p s fl ls f μ E;
+        column-below = column-below n cost (signed_at v) p s fl ls f μ E;
         predecessors-size = predecessors-size;
         cols-size = C.agree.cols-size;
         rows-size = C.agree.rows-size;
-        predecessors-below = leads-below;
+        predecessors-below = leads_below;
         cols-below = C.agree.cols-below;
         whole = flipped (flips n s f.work.predecessors (open_at f.column cols rows));
         ends =
-            flips-left n s ls f.work.predecessors p (Tree n cost (signedAt v) p s fl ls f μ E) (rank n cost (signedAt v) p s fl ls f μ E)
-            (rooted n cost (signedAt v) p s fl ls f μ E) (open_at f.column cols rows) (flipping n cost (signedAt v) p s fl ls f μ E C.agree C.start-unpaired);
+            flips-left n s ls f.work.predecessors p (Tree n cost (signed_at v) p s fl ls f μ E) (rank n cost (signed_at v) p s fl ls f μ E)
+            (rooted n cost (signed_at v) p s fl ls f μ E) (open_at f.column cols rows) (flipping n cost (signed_at v) p s fl ls f μ E C.agree C.start_unpaired);
       }
 
   -- What a search leaves.
@@ -128,33 +128,33 @@ module _ {n : ℕ} {costs : List ℤ} {s : ℕ} {cols rows : List ℕ} {v d : Li
 
     lent_is : lent ≡ f.work.predecessors
     lent_is =
-        lent-predecessors n room' ∙ ap (predecessorsIn n) S.room-is
-        ∙ predecessors-of n room R.room-size f.work.list f.work.predecessors list-size predecessors-size
+        lent-predecessors n room' ∙ ap (predecessors_in n) S.room_is
+        ∙ predecessors_of n room R.room-size f.work.list f.work.predecessors list-size predecessors-size
 
     pub way_back : CanFlip n s r.column lent cols rows
     way_back = rw (lent_is, S.column) can-flip
 
-    pub searched-row : {cols' rows' : List ℕ} → pairsOf cols' rows' ≡ flipped (flips n s lent (open_at r.column cols rows))
+    pub searched-row : {cols' rows' : List ℕ} → pairs_of cols' rows' ≡ flipped (flips n s lent (open_at r.column cols rows))
         → RowAugmented n costs s cols rows v room cols' rows' v' room' r.scanned
     searched-row {cols'} {rows'} e =
-        let q : pairsOf cols' rows' ≡ flipped (flips n s f.work.predecessors (open_at f.column cols rows)) = rw (lent_is, S.column) at e in
+        let q : pairs_of cols' rows' ≡ flipped (flips n s f.work.predecessors (open_at f.column cols rows)) = rw (lent_is, S.column) at e in
         record {
           same = λ m.
               ap₂ (λ (p : Pairs) (k : ℕ). record { pairs = p; prices = v'; scanned = m + k }) q S.scanned
               ∙ ap (λ (y : List ℤ). record { pairs = flipped (flips n s f.work.predecessors (open_at f.column cols rows)); prices = y; scanned = m + f.work.scanned }) S.prices;
           few = omega (arith, S.scanned, E.counted-few);
-          frees-kept = ap (freesIn n) S.room-is ∙ frees-kept n room R.room-size f.work.list f.work.predecessors list-size predecessors-size;
-          marks-kept = ap (marksIn n) S.room-is ∙ marks-kept n room R.room-size f.work.list f.work.predecessors list-size predecessors-size;
+          frees-kept = ap (frees_in n) S.room_is ∙ frees-kept n room R.room-size f.work.list f.work.predecessors list-size predecessors-size;
+          marks-kept = ap (marks_in n) S.room_is ∙ marks-kept n room R.room-size f.work.list f.work.predecessors list-size predecessors-size;
         }
 
   -- ---- by a direct hit
 
   abbrev g : ℕ → ℤ
-  g = reducedOf n costs v s
+  g = reduced_of n costs v s
 
-  module _ {j : ℕ} (H : LastOf n (freeAt n g (at rows) (lowest n g).value) j) (l : j < n) where
-    g-is : (k : ℕ) → k < n → g k ≡ reduced cost (signedAt v) s k
-    g-is k m = ap (λ (z : ℤ). z -ℤ signedAt v k) (sym (row-cost n costs s k m))
+  module _ {j : ℕ} (H : LastOf n (free_at n g (at rows) (lowest n g).value) j) (l : j < n) where
+    g_is : (k : ℕ) → k < n → g k ≡ reduced cost (signed_at v) s k
+    g_is k m = ap (λ (z : ℤ). z -ℤ signed_at v k) (sym (row-cost n costs s k m))
 
     abbrev low : ℤ
     low = (lowest n g).value
@@ -163,21 +163,21 @@ module _ {n : ℕ} {costs : List ℤ} {s : ℕ} {cols rows : List ℕ} {v d : Li
     held = both (ltb (at rows j) n) (le_z (g j) low) (H.holds l)
 
     at_low : g j ≤ℤ low
-    at_low = omega (zarith, leZ-true (g j) low held.1)
+    at_low = omega (zarith, le_z_true (g j) low held.1)
 
-    hits : Hits n cost (signedAt v) (at rows) s j
+    hits : Hits n cost (signed_at v) (at rows) s j
     hits = record {
       below = l;
       free = ltb-false (at rows j) n held.0;
-      least = λ k m. omega (zarith, at_low, (lowest-is n g (omega arith)).no_lower k m, g-is j l, g-is k m);
+      least = λ k m. omega (zarith, at_low, (lowest_is n g (omega arith)).no_lower k m, g_is j l, g_is k m);
       last = λ k a m q.
-          let e = second-fails (ltb (at rows k) n) (le_z (g k) low) (H.after k m (λ z. a)) (le-ltb (at rows k) n q) in
-          omega (zarith, at_low, leZ-false (g k) low e, g-is j l, g-is k m);
+          let e = second_fails (ltb (at rows k) n) (le_z (g k) low) (H.after k m (λ z. a)) (le-ltb (at rows k) n q) in
+          omega (zarith, at_low, le_z_false (g k) low e, g_is j l, g_is k m);
     }
 
-    pub hit-row : RowAugmented n costs s cols rows v room (set cols s j) (set rows j s) v room 0
-    hit-row = record {
-      same = λ m. ap (λ (k : ℕ). state_of (set cols s j) (set rows j s) v k) (add-zero m) ∙ sym (augment-hits n cost (state_of cols rows v m) s j hits);
+    pub hit_row : RowAugmented n costs s cols rows v room (set cols s j) (set rows j s) v room 0
+    hit_row = record {
+      same = λ m. ap (λ (k : ℕ). state_of (set cols s j) (set rows j s) v k) (add-zero m) ∙ sym (augment_hits n cost (state_of cols rows v m) s j hits);
       few = omega arith;
       frees-kept = refl;
       marks-kept = refl;

@@ -14,40 +14,40 @@ use Rattle.ints.specs.Parts.{Within}
 use Rattle.ints.proofs.Sums.{sum, dif}
 use Rattle.ints.proofs.Shapes.{zlin}
 use Rattle.lists.specs.Runs.{upward}
-use Rattle.lists.proofs.Runs.{upward-none, upward-last, upward-keeps}
+use Rattle.lists.proofs.Runs.{upward_none, upward-last, upward_keeps}
 use Rattle.lists.specs.Permutations.{at}
-use Rattle.lists.proofs.Cases.{here-or-elsewhere}
-use Rattle.assignment.specs.Pairings.{signedAt}
+use Rattle.lists.proofs.Cases.{here_or_elsewhere}
+use Rattle.assignment.specs.Pairings.{signed_at}
 use Rattle.matrix.specs.Limits.{near}
 use Rattle.matrix.proofs.SmallLimits.{side-small}
-use Rattle.rules.specs.Search.{addDistance, newPrices}
-use Rattle.rules.proofs.Sizes.{within-everywhere}
-use Rattle.augmentation.specs.Search.{readyAt, CanChange}
+use Rattle.rules.specs.Search.{add_distance, new_prices}
+use Rattle.rules.proofs.Sizes.{within_everywhere}
+use Rattle.augmentation.specs.Search.{ready_at, CanChange}
 
 -- A store of a near number in a list of near numbers.
-set-within : (b : ℕ) (l : List ℤ) (j : ℕ) (x : ℤ) → ((k : ℕ) → Within b (signedAt l k)) → Within b x → (k : ℕ) → Within b (signedAt (set l j x) k)
+set-within : (b : ℕ) (l : List ℤ) (j : ℕ) (x : ℤ) → ((k : ℕ) → Within b (signed_at l k)) → Within b x → (k : ℕ) → Within b (signed_at (set l j x) k)
 set-within b l j x h w =
-    within-everywhere b (set l j x)
-    (here-or-elsewhere (λ k. k < length (set l j x) → Within b (signedAt (set l j x) k)) j
+    within_everywhere b (set l j x)
+    (here_or_elsewhere (λ k. k < length (set l j x) → Within b (signed_at (set l j x) k)) j
     (λ s. let a : j < length l = omega (arith, length-set l j x) in rw (get_or-set_same l j x (pos 0) a) w)
     (λ k d s. rw (get_or-set_other l j k x (pos 0) d) (h k)))
 
 module _ (list : List ℕ) (d : List ℤ) (minimum : ℤ) (v₀ : List ℤ) where
   -- The prices after the first k columns.
   abbrev pub prices : ℕ → List ℤ
-  prices k = upward 0 k (λ k. addDistance d minimum (at list k)) v₀
+  prices k = upward 0 k (λ k. add_distance d minimum (at list k)) v₀
 
   prices-length : (k : ℕ) → length (prices k) ≡ length v₀
   prices-length k =
-      upward-keeps (λ m v. length v ≡ length v₀) 0 k (λ m. addDistance d minimum (at list m)) v₀ (omega arith) refl
-      (λ m v l g e. length-set v (at list m) (signedAt v (at list m) +ℤ (signedAt d (at list m) -ℤ minimum)) ∙ e)
+      upward_keeps (λ m v. length v ≡ length v₀) 0 k (λ m. add_distance d minimum (at list m)) v₀ (omega arith) refl
+      (λ m v l g e. length-set v (at list m) (signed_at v (at list m) +ℤ (signed_at d (at list m) -ℤ minimum)) ∙ e)
 
-  prices-within : ((j : ℕ) → Within near (signedAt v₀ j)) → ((j : ℕ) → Within (2 * near) (signedAt d j)) → Within (2 * near) minimum
-      → (k j : ℕ) → Within (near * (4 * k + 1)) (signedAt (prices k) j)
+  prices-within : ((j : ℕ) → Within near (signed_at v₀ j)) → ((j : ℕ) → Within (2 * near) (signed_at d j)) → Within (2 * near) minimum
+      → (k j : ℕ) → Within (near * (4 * k + 1)) (signed_at (prices k) j)
   prices-within h g m k =
-      upward-keeps (λ i v. (j : ℕ) → Within (near * (4 * i + 1)) (signedAt v j)) 0 k (λ i. addDistance d minimum (at list i)) v₀ (omega arith) (λ j. h j)
-      (λ i v l u w. set-within (near * (4 * suc i + 1)) v (at list i) (signedAt v (at list i) +ℤ (signedAt d (at list i) -ℤ minimum))
-      (λ j. let x = w j in omega arith) (added-within i (signedAt v (at list i)) (signedAt d (at list i)) (w (at list i)) (g (at list i))))
+      upward_keeps (λ i v. (j : ℕ) → Within (near * (4 * i + 1)) (signed_at v j)) 0 k (λ i. add_distance d minimum (at list i)) v₀ (omega arith) (λ j. h j)
+      (λ i v l u w. set-within (near * (4 * suc i + 1)) v (at list i) (signed_at v (at list i) +ℤ (signed_at d (at list i) -ℤ minimum))
+      (λ j. let x = w j in omega arith) (added-within i (signed_at v (at list i)) (signed_at d (at list i)) (w (at list i)) (g (at list i))))
     where
       added-within : (i : ℕ) (x y : ℤ) → Within (near * (4 * i + 1)) x → Within (2 * near) y → Within (near * (4 * suc i + 1)) (x +ℤ (y -ℤ minimum))
       added-within i x y a b = omega (zlin, dif y minimum, sum x (y -ℤ minimum), m)
@@ -62,8 +62,8 @@ module _ (x y m : ℤ) (a : Within (2 * near) y) (b : Within (2 * near) m) where
   near-sum : Within (2 ^ 60) x → SFits w64 (x +ℤ (y -ℤ m))
   near-sum w = omega (zlin, a, b, dif y m)
 
-prices-wide : (k : ℕ) (z : ℤ) → k < 2 ^ 16 → Within (near * (4 * k + 1)) z → Within (2 ^ 60) z
-prices-wide k z s w = omega arith
+prices_wide : (k : ℕ) (z : ℤ) → k < 2 ^ 16 → Within (near * (4 * k + 1)) z → Within (2 ^ 60) z
+prices_wide k z s w = omega arith
 
 -- The first k ready columns have their new prices.
 pub record Changing (n lo : ℕ) (list : List ℕ) (d v₀ : List ℤ) (minimum : ℤ) (v : List ℤ) (k : ℕ) : Type 0 where
@@ -73,22 +73,22 @@ pub record Changing (n lo : ℕ) (list : List ℕ) (d v₀ : List ℤ) (minimum 
   pub reach : k ≤ lo
   pub so_far : v ≡ prices list d minimum v₀ k
 
-pub first-change : (n lo : ℕ) (list : List ℕ) (d v : List ℤ) (minimum : ℤ) → CanChange n lo list d v → length v ≡ n → minimum ≡ signedAt d (at list lo)
+pub first_change : (n lo : ℕ) (list : List ℕ) (d v : List ℤ) (minimum : ℤ) → CanChange n lo list d v → length v ≡ n → minimum ≡ signed_at d (at list lo)
     → Changing n lo list d v minimum v 0
-first-change n lo list d v minimum can size e = record {
+first_change n lo list d v minimum can size e = record {
   can = can;
   prices-size = size;
   minimum-within = subst (Within (2 * near)) (sym e) (can.distances-near (at list lo));
   reach = omega arith;
-  so_far = sym (upward-none 0 0 (λ k. addDistance d minimum (at list k)) v (omega arith));
+  so_far = sym (upward_none 0 0 (λ k. add_distance d minimum (at list k)) v (omega arith));
 }
 
 module _ {n lo : ℕ} {list : List ℕ} {d v₀ : List ℤ} {minimum : ℤ} {v : List ℤ} {k : ℕ} (C : Changing n lo list d v₀ minimum v k) where
   pub size : length v ≡ n
   size = ap length C.so_far ∙ prices-length list d minimum v₀ k ∙ C.prices-size
 
-  pub changed : lo ≤ k → minimum ≡ signedAt d (at list lo) → v ≡ newPrices (readyAt lo list d) v₀
-  unfolding newPrices
+  pub changed : lo ≤ k → minimum ≡ signed_at d (at list lo) → v ≡ new_prices (ready_at lo list d) v₀
+  unfolding new_prices
   changed l e =
       let z : k ≡ lo = omega (arith, C.reach) in
       C.so_far ∙ ap (prices list d minimum v₀) z ∙ ap (λ (m : ℤ). prices list d m v₀ lo) e
@@ -98,37 +98,37 @@ module _ {n lo : ℕ} {list : List ℕ} {d v₀ : List ℤ} {minimum : ℤ} {v :
     j = at list k
 
     abbrev x : ℤ
-    x = signedAt v j
+    x = signed_at v j
 
     abbrev y : ℤ
-    y = signedAt d j
+    y = signed_at d j
 
     pub column-below : at list k < n
     column-below = C.can.listed.injective.below k (omega (arith, C.can.ready-below))
 
-    x-within : Within (2 ^ 60) x
-    x-within =
-        subst (λ (s : List ℤ). Within (2 ^ 60) (signedAt s j)) (sym C.so_far)
-        (prices-wide k (signedAt (prices list d minimum v₀ k) j) (omega (arith, C.can.ready-below, C.can.small, side-small))
+    x_within : Within (2 ^ 60) x
+    x_within =
+        subst (λ (s : List ℤ). Within (2 ^ 60) (signed_at s j)) (sym C.so_far)
+        (prices_wide k (signed_at (prices list d minimum v₀ k) j) (omega (arith, C.can.ready-below, C.can.small, side-small))
         (prices-within list d minimum v₀ C.can.prices-near C.can.distances-near C.minimum-within k j))
 
     x_fits : SFits w64 x
-    x_fits = omega (zlin, x-within)
+    x_fits = omega (zlin, x_within)
 
-    y-fits : SFits w64 y
-    y-fits = near_fits x y minimum (C.can.distances-near j) C.minimum-within
+    y_fits : SFits w64 y
+    y_fits = near_fits x y minimum (C.can.distances-near j) C.minimum-within
 
-    difference-fits : SFits w64 (y -ℤ minimum)
-    difference-fits = near_difference x y minimum (C.can.distances-near j) C.minimum-within
+    difference_fits : SFits w64 (y -ℤ minimum)
+    difference_fits = near_difference x y minimum (C.can.distances-near j) C.minimum-within
 
     sum_fits : SFits w64 (x +ℤ (y -ℤ minimum))
-    sum_fits = near-sum x y minimum (C.can.distances-near j) C.minimum-within x-within
+    sum_fits = near-sum x y minimum (C.can.distances-near j) C.minimum-within x_within
 
-    pub sub-fits : SFits w64 (to_z w64 (of_z w64 y) -ℤ minimum)
-    sub-fits = rw (to_z-of_z y-fits) difference-fits
+    pub sub_fits : SFits w64 (to_z w64 (of_z w64 y) -ℤ minimum)
+    sub_fits = rw (to_z-of_z y_fits) difference_fits
 
-    pub add-fits : SFits w64 (to_z w64 (of_z w64 x) +ℤ to_z w64 (of_z w64 (to_z w64 (of_z w64 y) -ℤ minimum)))
-    add-fits = rw (to_z-of_z x_fits, to_z-of_z y-fits, to_z-of_z difference-fits) sum_fits
+    pub add_fits : SFits w64 (to_z w64 (of_z w64 x) +ℤ to_z w64 (of_z w64 (to_z w64 (of_z w64 y) -ℤ minimum)))
+    add_fits = rw (to_z-of_z x_fits, to_z-of_z y_fits, to_z-of_z difference_fits) sum_fits
 
     pub next : Changing n lo list d v₀ minimum (set v j (to_z w64 (of_z w64 (to_z w64 (of_z w64 x) +ℤ to_z w64 (of_z w64 (to_z w64 (of_z w64 y) -ℤ minimum)))))) (k + 1)
     next = record {
@@ -137,6 +137,6 @@ module _ {n lo : ℕ} {list : List ℕ} {d v₀ : List ℤ} {minimum : ℤ} {v :
       minimum-within = C.minimum-within;
       reach = omega arith;
       so_far =
-          rw (to_z-of_z x_fits, to_z-of_z y-fits, to_z-of_z difference-fits, to_z-of_z sum_fits, add-one k)
-          (ap (addDistance d minimum j) C.so_far ∙ sym (upward-last 0 k (λ i. addDistance d minimum (at list i)) v₀ (omega arith)));
+          rw (to_z-of_z x_fits, to_z-of_z y_fits, to_z-of_z difference_fits, to_z-of_z sum_fits, add-one k)
+          (ap (add_distance d minimum j) C.so_far ∙ sym (upward-last 0 k (λ i. add_distance d minimum (at list i)) v₀ (omega arith)));
     }

@@ -14,33 +14,33 @@ use Rattle.ints.proofs.Shapes.{zlin}
 use Rattle.lists.specs.Runs.{until}
 use Rattle.lists.proofs.Parts.{part_length, part_at}
 use Rattle.lists.specs.Permutations.{at}
-use Rattle.assignment.specs.Pairings.{signedAt, square}
+use Rattle.assignment.specs.Pairings.{signed_at, square}
 use Rattle.matrix.specs.Limits.{near}
 use Rattle.rules.specs.declared.ScanEnd.{ScanEnd}
-use Rattle.rules.specs.Search.{scanRow, scanColumn}
-use Rattle.augmentation.specs.Room.{listIn}
-use Rattle.augmentation.specs.Scan.{workIn, seen, ColumnsLowered, Scanned}
+use Rattle.rules.specs.Search.{scan_row, scan_column}
+use Rattle.augmentation.specs.Room.{list_in}
+use Rattle.augmentation.specs.Scan.{work_in, seen, ColumnsLowered, Scanned}
 
 -- Row i of n * n costs in row order.
-abbrev pub rowOf : ℕ → List ℤ → ℕ → List ℤ
-rowOf n costs i = take n (drop (i * n) costs)
+abbrev pub costs_of_row : ℕ → List ℤ → ℕ → List ℤ
+costs_of_row n costs i = take n (drop (i * n) costs)
 
-pub row-length : (n : ℕ) (costs : List ℤ) (i : ℕ) → i < n → length costs ≡ n * n → length (rowOf n costs i) ≡ n
+pub row-length : (n : ℕ) (costs : List ℤ) (i : ℕ) → i < n → length costs ≡ n * n → length (costs_of_row n costs i) ≡ n
 row-length n costs i l e = part_length (i * n) n costs (omega (arith, mul-le-mul_right n l))
 
-pub row-cost : (n : ℕ) (costs : List ℤ) (i j : ℕ) → j < n → (square n costs).cost i j ≡ signedAt (rowOf n costs i) j
+pub row-cost : (n : ℕ) (costs : List ℤ) (i j : ℕ) → j < n → (square n costs).cost i j ≡ signed_at (costs_of_row n costs i) j
 row-cost n costs i j l = sym (part_at (i * n) n costs j (pos 0) l)
 
 -- What a row has to spare is near.
-pub spare-near : (c p m : ℤ) → SFits w32 c → Within near p → Within (2 * near) m → Within (4 * near) ((c -ℤ p) -ℤ m)
-spare-near c p m f a b = omega (zlin, f, dif c p, dif (c -ℤ p) m)
+pub spare_near : (c p m : ℤ) → SFits w32 c → Within near p → Within (2 * near) m → Within (4 * near) ((c -ℤ p) -ℤ m)
+spare_near c p m f a b = omega (zlin, f, dif c p, dif (c -ℤ p) m)
 
-pub column-at : (n : ℕ) (room : List ℕ) (k : ℕ) → k < n → get_or room (n + k) 0 ≡ at (listIn n room) k
+pub column-at : (n : ℕ) (room : List ℕ) (k : ℕ) → k < n → get_or room (n + k) 0 ≡ at (list_in n room) k
 column-at n room k l = sym (part_at n n room k 0 l)
 
 module _ (n : ℕ) (costs v : List ℤ) (rows : List ℕ) (lo hi : ℕ) (d₀ : List ℤ) (room₀ : List ℕ) (j i : ℕ) (row : List ℤ) (minimum h : ℤ)
-    (column : j ≡ at (listIn n room₀) lo) (below : j < n) (row_of : i ≡ at rows j) (row_is : row ≡ rowOf n costs i) (least : minimum ≡ signedAt d₀ j)
-    (spare : h ≡ (signedAt row j -ℤ signedAt v j) -ℤ minimum) where
+    (column : j ≡ at (list_in n room₀) lo) (below : j < n) (row_of : i ≡ at rows j) (row_is : row ≡ costs_of_row n costs i) (least : minimum ≡ signed_at d₀ j)
+    (spare : h ≡ (signed_at row j -ℤ signed_at v j) -ℤ minimum) where
   -- What the row of the column at place lo leaves is the scan of that column.
   pub scanned : {r : ScanEnd} {d : List ℤ} {room : List ℕ} → ColumnsLowered n i row v rows h minimum hi d₀ room₀ r d room → Scanned n costs v rows lo hi d₀ room₀ r d room
   scanned {r} {d} {room} L = record { same = λ m. L.same cost agrees (m + 1) ∙ ap seen (as_row m); frame = L.frame }
@@ -48,15 +48,15 @@ module _ (n : ℕ) (costs v : List ℤ) (rows : List ℕ) (lo hi : ℕ) (d₀ : 
       cost : ℕ → ℕ → ℤ
       cost = (square n costs).cost
 
-      agrees : (k : ℕ) → k < n → cost i k ≡ signedAt row k
-      agrees k l = row-cost n costs i k l ∙ ap (λ (s : List ℤ). signedAt s k) (sym row_is)
+      agrees : (k : ℕ) → k < n → cost i k ≡ signed_at row k
+      agrees k l = row-cost n costs i k l ∙ ap (λ (s : List ℤ). signed_at s k) (sym row_is)
 
-      spare-is : h ≡ (cost i j -ℤ signedAt v j) -ℤ minimum
-      spare-is = spare ∙ ap (λ (x : ℤ). (x -ℤ signedAt v j) -ℤ minimum) (sym (agrees j below))
+      spare_is : h ≡ (cost i j -ℤ signed_at v j) -ℤ minimum
+      spare_is = spare ∙ ap (λ (x : ℤ). (x -ℤ signed_at v j) -ℤ minimum) (sym (agrees j below))
 
-      as_row : (m : ℕ) → until hi n (scanColumn n cost (signedAt v) (at rows) minimum h i) (workIn n hi d₀ room₀ (m + 1)) ≡ scanRow n cost (signedAt v) (at rows) lo (workIn n hi d₀ room₀ m)
+      as_row : (m : ℕ) → until hi n (scan_column n cost (signed_at v) (at rows) minimum h i) (work_in n hi d₀ room₀ (m + 1)) ≡ scan_row n cost (signed_at v) (at rows) lo (work_in n hi d₀ room₀ m)
       as_row m =
-          ap (λ (x : ℤ). until hi n (scanColumn n cost (signedAt v) (at rows) minimum x i) (workIn n hi d₀ room₀ (m + 1))) spare-is
-          ∙ ap (λ (x : ℤ). until hi n (scanColumn n cost (signedAt v) (at rows) x ((cost i j -ℤ signedAt v j) -ℤ x) i) (workIn n hi d₀ room₀ (m + 1))) least
-          ∙ ap (λ (y : ℕ). until hi n (scanColumn n cost (signedAt v) (at rows) (signedAt d₀ j) ((cost y j -ℤ signedAt v j) -ℤ signedAt d₀ j) y) (workIn n hi d₀ room₀ (m + 1))) row_of
-          ∙ ap (λ (y : ℕ). until hi n (scanColumn n cost (signedAt v) (at rows) (signedAt d₀ y) ((cost (at rows y) y -ℤ signedAt v y) -ℤ signedAt d₀ y) (at rows y)) (workIn n hi d₀ room₀ (m + 1))) column
+          ap (λ (x : ℤ). until hi n (scan_column n cost (signed_at v) (at rows) minimum x i) (work_in n hi d₀ room₀ (m + 1))) spare_is
+          ∙ ap (λ (x : ℤ). until hi n (scan_column n cost (signed_at v) (at rows) x ((cost i j -ℤ signed_at v j) -ℤ x) i) (work_in n hi d₀ room₀ (m + 1))) least
+          ∙ ap (λ (y : ℕ). until hi n (scan_column n cost (signed_at v) (at rows) (signed_at d₀ j) ((cost y j -ℤ signed_at v j) -ℤ signed_at d₀ j) y) (work_in n hi d₀ room₀ (m + 1))) row_of
+          ∙ ap (λ (y : ℕ). until hi n (scan_column n cost (signed_at v) (at rows) (signed_at d₀ y) ((cost (at rows y) y -ℤ signed_at v y) -ℤ signed_at d₀ y) (at rows y)) (work_in n hi d₀ room₀ (m + 1))) column

@@ -2,11 +2,11 @@
 use Rattle.std.specs.Prelude.{◌≡◌, true, false, List, ℕ, ◌≤◌, ◌<◌, ℤ}
 use Rattle.std.specs.Int.Signed.{le_z}
 use Rattle.lists.specs.Permutations.{at}
-use Rattle.assignment.specs.Pairings.{signedAt}
+use Rattle.assignment.specs.Pairings.{signed_at}
 
 -- The distance of the column at place k.
 abbrev pub distance_at : List ℤ → List ℕ → ℕ → ℤ
-distance_at d list k = signedAt d (at list k)
+distance_at d list k = signed_at d (at list k)
 
 -- r is the first place from `from` on, and below n, at which f is not above the minimum; n where there is none.
 pub record NextNear (f : ℕ → ℤ) (minimum : ℤ) (from n r : ℕ) : Type 0 where

@@ -3,21 +3,21 @@ use Rattle.std.specs.Prelude.{List, ℕ, ◌+◌}
 use Rattle.lists.specs.Parts.{part, replaced}
 
 -- The free rows of a room.
-abbrev pub freesIn : ℕ → List ℕ → List ℕ
-freesIn n room = part 0 n room
+abbrev pub frees_in : ℕ → List ℕ → List ℕ
+frees_in n room = part 0 n room
 
 -- The column list of a room.
-abbrev pub listIn : ℕ → List ℕ → List ℕ
-listIn n room = part n n room
+abbrev pub list_in : ℕ → List ℕ → List ℕ
+list_in n room = part n n room
 
 -- The predecessors of a room.
-abbrev pub predecessorsIn : ℕ → List ℕ → List ℕ
-predecessorsIn n room = part (n + n) n room
+abbrev pub predecessors_in : ℕ → List ℕ → List ℕ
+predecessors_in n room = part (n + n) n room
 
 -- The marks of a room.
-abbrev pub marksIn : ℕ → List ℕ → List ℕ
-marksIn n room = part (n + n + n) n room
+abbrev pub marks_in : ℕ → List ℕ → List ℕ
+marks_in n room = part (n + n + n) n room
 
 -- The room with its column list and its predecessors written over.
-unfoldable pub roomWith : ℕ → List ℕ → List ℕ → List ℕ → List ℕ
-roomWith n list predecessors room = replaced n list (replaced (n + n) predecessors room)
+unfoldable pub room_with : ℕ → List ℕ → List ℕ → List ℕ → List ℕ
+room_with n list predecessors room = replaced n list (replaced (n + n) predecessors room)

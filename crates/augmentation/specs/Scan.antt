@@ -3,16 +3,16 @@ use Rattle.std.specs.Prelude.{◌≡◌, List, ℕ, ◌+◌, ◌≤◌, ◌<◌,
 use Rattle.ints.specs.Parts.{Within}
 use Rattle.lists.specs.Runs.{Turn, on, left, until}
 use Rattle.lists.specs.Permutations.{at, Permutation}
-use Rattle.assignment.specs.Pairings.{signedAt, square}
+use Rattle.assignment.specs.Pairings.{signed_at, square}
 use Rattle.matrix.specs.Limits.{side, near}
 use Rattle.rules.specs.declared.ScanEnd.{ScanEnd}
-use Rattle.rules.specs.Search.{Work, workOf, Hit, scanColumn, scanRow}
+use Rattle.rules.specs.Search.{Work, work_of, Hit, scan_column, scan_row}
 use Rattle.rules.specs.declared.ScanEnd.TheVariants as ends
-use Rattle.augmentation.specs.Room.{listIn, predecessorsIn, roomWith}
+use Rattle.augmentation.specs.Room.{list_in, predecessors_in, room_with}
 
 -- The work whose list and predecessors are parts of a room.
-abbrev pub workIn : ℕ → ℕ → List ℤ → List ℕ → ℕ → Work
-workIn n hi distances room scanned = workOf hi (listIn n room) distances (predecessorsIn n room) scanned
+abbrev pub work_in : ℕ → ℕ → List ℤ → List ℕ → ℕ → Work
+work_in n hi distances room scanned = work_of hi (list_in n room) distances (predecessors_in n room) scanned
 
 -- What one row leaves: the code's answer, and the work but for the block's end where a column was hit.
 pub record Seen : Type 0 where
@@ -23,12 +23,12 @@ pub record Seen : Type 0 where
   pub scanned : ℕ
 
 -- What the code leaves.
-abbrev pub seenIn : ScanEnd → ℕ → List ℤ → List ℕ → ℕ → Seen
-seenIn answer n distances room scanned = record {
+abbrev pub seen_in : ScanEnd → ℕ → List ℤ → List ℕ → ℕ → Seen
+seen_in answer n distances room scanned = record {
   answer = answer;
-  list = listIn n room;
+  list = list_in n room;
   distances = distances;
-  predecessors = predecessorsIn n room;
+  predecessors = predecessors_in n room;
   scanned = scanned;
 }
 
@@ -56,19 +56,19 @@ pub record ScanRoom (n : ℕ) (v : List ℤ) (rows : List ℕ) (d : List ℤ) (r
   pub rows-size : length rows ≡ n
   pub distances-size : length d ≡ n
   pub room-size : length room ≡ n + n + n + n
-  pub listed : Permutation n (listIn n room)
-  pub prices-near : (j : ℕ) → Within near (signedAt v j)
+  pub listed : Permutation n (list_in n room)
+  pub prices-near : (j : ℕ) → Within near (signed_at v j)
 
 -- Row i, whose costs are given, sees the columns from place hi on; `scanned` columns were scanned. The costs of other rows do not
 -- count.
 pub record ColumnsLowered (n i : ℕ) (row v : List ℤ) (rows : List ℕ) (h minimum : ℤ) (hi : ℕ) (d₀ : List ℤ) (room₀ : List ℕ) (r : ScanEnd)
     (d : List ℤ) (room : List ℕ) : Type 0 where
-  pub same : (cost : ℕ → ℕ → ℤ) → ((j : ℕ) → j < n → cost i j ≡ signedAt row j) → (scanned : ℕ)
-      → seenIn r n d room scanned ≡ seen (until hi n (scanColumn n cost (signedAt v) (at rows) minimum h i) (workIn n hi d₀ room₀ scanned))
-  pub frame : room ≡ roomWith n (listIn n room) (predecessorsIn n room) room₀
+  pub same : (cost : ℕ → ℕ → ℤ) → ((j : ℕ) → j < n → cost i j ≡ signed_at row j) → (scanned : ℕ)
+      → seen_in r n d room scanned ≡ seen (until hi n (scan_column n cost (signed_at v) (at rows) minimum h i) (work_in n hi d₀ room₀ scanned))
+  pub frame : room ≡ room_with n (list_in n room) (predecessors_in n room) room₀
 
 -- The row of the column at place lo sees the columns from place hi on.
 pub record Scanned (n : ℕ) (costs v : List ℤ) (rows : List ℕ) (lo hi : ℕ) (d₀ : List ℤ) (room₀ : List ℕ) (r : ScanEnd) (d : List ℤ)
     (room : List ℕ) : Type 0 where
-  pub same : (scanned : ℕ) → seenIn r n d room (scanned + 1) ≡ seen (scanRow n (square n costs).cost (signedAt v) (at rows) lo (workIn n hi d₀ room₀ scanned))
-  pub frame : room ≡ roomWith n (listIn n room) (predecessorsIn n room) room₀
+  pub same : (scanned : ℕ) → seen_in r n d room (scanned + 1) ≡ seen (scan_row n (square n costs).cost (signed_at v) (at rows) lo (work_in n hi d₀ room₀ scanned))
+  pub frame : room ≡ room_with n (list_in n room) (predecessors_in n room) room₀

@@ -2,40 +2,40 @@
 use Rattle.std.specs.Prelude.{◌≡◌, List, [], ℕ, ◌+◌, ◌*◌, ◌≤◌, ◌<◌, ℤ, length}
 use Rattle.ints.specs.Parts.{Within}
 use Rattle.lists.specs.Permutations.{at, Permutation}
-use Rattle.assignment.specs.Pairings.{signedAt, square}
+use Rattle.assignment.specs.Pairings.{signed_at, square}
 use Rattle.matrix.specs.Limits.{side, near}
 use Rattle.rules.specs.declared.Reached.{Reached}
-use Rattle.rules.specs.Search.{Found, searchStart, search, newPrices, workOf}
+use Rattle.rules.specs.Search.{Found, search_start, search, new_prices, work_of}
 use Rattle.rules.specs.Asked.{Fair}
-use Rattle.augmentation.specs.Room.{listIn, predecessorsIn, roomWith}
-use Rattle.augmentation.specs.Scan.{ScanRoom, workIn}
+use Rattle.augmentation.specs.Room.{list_in, predecessors_in, room_with}
+use Rattle.augmentation.specs.Scan.{ScanRoom, work_in}
 
 -- Before a search starts.
 pub record CanStart (n : ℕ) (costs : List ℤ) (start : ℕ) (v d : List ℤ) (room : List ℕ) : Type 0 where
   pub small : n ≤ side
-  pub start-below : start < n
+  pub start_below : start < n
   pub costs-size : length costs ≡ n * n
   pub prices-size : length v ≡ n
   pub distances-size : length d ≡ n
   pub room-size : length room ≡ n + n + n + n
-  pub prices-near : (j : ℕ) → Within near (signedAt v j)
+  pub prices-near : (j : ℕ) → Within near (signed_at v j)
 
 -- A search has started: the columns in their order, each as far as the start row makes it. No column's row is asked.
 pub record Started (n : ℕ) (costs : List ℤ) (start : ℕ) (v : List ℤ) (room₀ : List ℕ) (d : List ℤ) (room : List ℕ) : Type 0 where
-  pub same : workIn n 0 d room 0 ≡ searchStart n (square n costs).cost (signedAt v) (λ j. n) start
-  pub frame : room ≡ roomWith n (listIn n room) (predecessorsIn n room) room₀
+  pub same : work_in n 0 d room 0 ≡ search_start n (square n costs).cost (signed_at v) (λ j. n) start
+  pub frame : room ≡ room_with n (list_in n room) (predecessors_in n room) room₀
 
 -- The column at place lo has a row, and its distance is within twice near.
 pub record CanScan (n : ℕ) (costs : List ℤ) (rows : List ℕ) (lo hi : ℕ) (v d : List ℤ) (room : List ℕ) : Type 0 where
   pub lent : ScanRoom n v rows d room
   pub costs-size : length costs ≡ n * n
   pub place : (lo < n) × (hi ≤ n)
-  pub taken : at rows (at (listIn n room) lo) < n
-  pub minimum-near : Within (2 * near) (signedAt d (at (listIn n room) lo))
+  pub taken : at rows (at (list_in n room) lo) < n
+  pub minimum-near : Within (2 * near) (signed_at d (at (list_in n room) lo))
 
 -- What was found, as far as the prices ask: the first lo columns of the list are ready, and the last block starts at lo.
-abbrev pub readyAt : ℕ → List ℕ → List ℤ → Found
-readyAt lo list d = record { column = 0; ready = lo; cursor = record { lo = lo; hi = lo }; work = workOf lo list d [] 0 }
+abbrev pub ready_at : ℕ → List ℕ → List ℤ → Found
+ready_at lo list d = record { column = 0; ready = lo; cursor = record { lo = lo; hi = lo }; work = work_of lo list d [] 0 }
 
 -- The first lo columns of a list of n are ready; distances and prices are near.
 pub record CanChange (n lo : ℕ) (list : List ℕ) (d v : List ℤ) : Type 0 where
@@ -43,8 +43,8 @@ pub record CanChange (n lo : ℕ) (list : List ℕ) (d v : List ℤ) : Type 0 wh
   pub ready-below : lo < n
   pub listed : Permutation n list
   pub distances-size : length d ≡ n
-  pub distances-near : (j : ℕ) → Within (2 * near) (signedAt d j)
-  pub prices-near : (j : ℕ) → Within near (signedAt v j)
+  pub distances-near : (j : ℕ) → Within (2 * near) (signed_at d j)
+  pub prices-near : (j : ℕ) → Within near (signed_at v j)
 
 -- Some column is free.
 pub record HasFree (n : ℕ) (rows : List ℕ) : Type 0 where
@@ -55,23 +55,23 @@ pub record HasFree (n : ℕ) (rows : List ℕ) : Type 0 where
 -- A search can be made from row `start`: fair prices, and a column that is free.
 pub record CanSearch (n : ℕ) (costs : List ℤ) (rows : List ℕ) (start : ℕ) (v : List ℤ) : Type 0 where
   pub small : n ≤ side
-  pub start-below : start < n
+  pub start_below : start < n
   pub costs-size : length costs ≡ n * n
   pub prices-size : length v ≡ n
   pub rows-size : length rows ≡ n
-  pub costs-near : (k : ℕ) → Within near (signedAt costs k)
-  pub prices-near : (j : ℕ) → Within near (signedAt v j)
-  pub fair : Fair n (square n costs).cost (signedAt v) (at rows)
+  pub costs-near : (k : ℕ) → Within near (signed_at costs k)
+  pub prices-near : (j : ℕ) → Within near (signed_at v j)
+  pub fair : Fair n (square n costs).cost (signed_at v) (at rows)
   pub has-free : HasFree n rows
 
 -- What a search finds.
 abbrev pub found_from : ℕ → List ℤ → List ℕ → ℕ → List ℤ → Found
-found_from n costs rows start v = search n (square n costs).cost (signedAt v) (at rows) start
+found_from n costs rows start v = search n (square n costs).cost (signed_at v) (at rows) start
 
 -- What a search leaves: its answer, the new prices, the distances, and the column list and the predecessors in the room.
 pub record Searched (n : ℕ) (f : Found) (v₀ : List ℤ) (room₀ : List ℕ) (r : Reached) (v d : List ℤ) (room : List ℕ) : Type 0 where
   pub column : r.column ≡ f.column
   pub scanned : r.scanned ≡ f.work.scanned
-  pub prices : v ≡ newPrices f v₀
+  pub prices : v ≡ new_prices f v₀
   pub distances : d ≡ f.work.distances
-  pub room-is : room ≡ roomWith n f.work.list f.work.predecessors room₀
+  pub room_is : room ≡ room_with n f.work.list f.work.predecessors room₀

@@ -5,7 +5,7 @@ ghost use Rattle.std.specs.Prelude.{◌≡◌, ◌+◌, ◌≤◌, ◌<◌, leng
 ghost use Rattle.lists.specs.Permutations.{at};
 ghost use Rattle.rules.specs.Lowest.{lowest};
 ghost use Rattle.augmentation.specs.Search.{CanSearch};
-ghost use Rattle.augmentation.specs.DirectHit.{lesser, reducedIn, reducedOf, Priced, leastOfFour, CanLook, freeAt, LastOf};
+ghost use Rattle.augmentation.specs.DirectHit.{lesser, reduced_in, reduced_of, Priced, least_of_four, CanLook, free_at, LastOf};
 
 use matrix::rows::{reduced_cost, row};
 
@@ -19,7 +19,7 @@ fn lesser(a: i64, h: i64) -> i64
 // The reduced cost of column j.
 fn reduced_at(row: &[i32], v: &[i64], j: usize) -> i64
     requires { Priced row.now v.now × (j < length row.now) }
-    ensures { result ≡ reducedIn row.now v.now j }
+    ensures { result ≡ reduced_in row.now v.now j }
 {
     reduced_cost(row[j], v[j])
 }
@@ -27,7 +27,7 @@ fn reduced_at(row: &[i32], v: &[i64], j: usize) -> i64
 // The least reduced cost of the four columns from j on.
 fn least_of_four(row: &[i32], v: &[i64], j: usize) -> i64
     requires { Priced row.now v.now × (j + 4 ≤ length row.now) }
-    ensures { result ≡ leastOfFour (reducedIn row.now v.now) j }
+    ensures { result ≡ least_of_four (reduced_in row.now v.now) j }
 {
     let first = lesser(reduced_at(row, v, j), reduced_at(row, v, j + 1));
     let second = lesser(reduced_at(row, v, j + 2), reduced_at(row, v, j + 3));
@@ -37,7 +37,7 @@ fn least_of_four(row: &[i32], v: &[i64], j: usize) -> i64
 // The least reduced cost of a row that has a column. Four columns a turn while there are four.
 fn least_of(row: &[i32], v: &[i64]) -> i64
     requires { Priced row.now v.now × (1 ≤ length row.now) }
-    ensures { result ≡ (lowest (length row.now) (reducedIn row.now v.now)).value }
+    ensures { result ≡ (lowest (length row.now) (reduced_in row.now v.now)).value }
 {
     let mut least = reduced_at(row, v, 0);
     let mut j = 1;
@@ -55,7 +55,7 @@ fn least_of(row: &[i32], v: &[i64]) -> i64
 // Whether column j is free, and its reduced cost not above h.
 fn is_free_at(n: usize, row: &[i32], v: &[i64], rows: &[u32], h: i64, j: usize) -> bool
     requires { CanLook n row.now v.now rows.now × (j < n) }
-    ensures { result ≡ freeAt n (reducedIn row.now v.now) (at rows.now) h j }
+    ensures { result ≡ free_at n (reduced_in row.now v.now) (at rows.now) h j }
 {
     if (rows[j] as usize) < n {
         return false;
@@ -66,7 +66,7 @@ fn is_free_at(n: usize, row: &[i32], v: &[i64], rows: &[u32], h: i64, j: usize) 
 // The last column that is free and whose reduced cost is not above h; n where there is none.
 fn last_free_at(n: usize, row: &[i32], v: &[i64], rows: &[u32], h: i64) -> usize
     requires { CanLook n row.now v.now rows.now × (1 ≤ n) }
-    ensures { LastOf n (freeAt n (reducedIn row.now v.now) (at rows.now) h) result }
+    ensures { LastOf n (free_at n (reduced_in row.now v.now) (at rows.now) h) result }
 {
     let last = n - 1;
     let mut passed = 0;
@@ -83,7 +83,7 @@ fn last_free_at(n: usize, row: &[i32], v: &[i64], rows: &[u32], h: i64) -> usize
 // The last free column at the least reduced cost of row `start`; n where there is none.
 pub fn hit(n: usize, costs: &[i32], rows: &[u32], start: u32, v: &[i64]) -> usize
     requires { CanSearch n costs.now rows.now start v.now }
-    ensures { LastOf n (freeAt n (reducedOf n costs.now v.now start) (at rows.now) (lowest n (reducedOf n costs.now v.now start)).value) result }
+    ensures { LastOf n (free_at n (reduced_of n costs.now v.now start) (at rows.now) (lowest n (reduced_of n costs.now v.now start)).value) result }
 {
     let own = row(costs, n, start as usize);
     let least = least_of(own, v);

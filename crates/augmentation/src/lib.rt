@@ -2,15 +2,15 @@
 ghost use Rattle.std.specs.Prelude.{◌≡◌, cond, ℕ, ◌+◌, ◌*◌, ◌<◌, ◌≤◌, ◌-ℤ◌, length};
 ghost use Rattle.ints.specs.Parts.{Within};
 ghost use Rattle.lists.specs.Permutations.{at, table, exchange, Permutation};
-ghost use Rattle.assignment.specs.Pairings.{signedAt};
+ghost use Rattle.assignment.specs.Pairings.{signed_at};
 ghost use Rattle.matrix.specs.Limits.{side, near};
 ghost use Rattle.rules.specs.declared.LastFree.TheVariants.{At};
 ghost use Rattle.rules.specs.Block.{block};
-ghost use Rattle.rules.specs.Search.{lastFree, newPrices};
+ghost use Rattle.rules.specs.Search.{last_free, new_prices};
 ghost use Rattle.rules.specs.Augmentation.{flips, flipped};
 ghost use Rattle.augmentation.specs.Scan.{ScanRoom, ColumnsLowered, Scanned};
-ghost use Rattle.augmentation.specs.Search.{CanStart, Started, CanScan, CanChange, readyAt, CanSearch, Searched, found_from};
-ghost use Rattle.augmentation.specs.Augmentation.{CanFlip, CanAugmentRow, RowAugmented, CanAugment, Augmented, pairsOf, open_at};
+ghost use Rattle.augmentation.specs.Search.{CanStart, Started, CanScan, CanChange, ready_at, CanSearch, Searched, found_from};
+ghost use Rattle.augmentation.specs.Augmentation.{CanFlip, CanAugmentRow, RowAugmented, CanAugment, Augmented, pairs_of, open_at};
 
 mod direct;
 mod near;
@@ -79,7 +79,7 @@ fn later(found: LastFree, j: usize, free: bool) -> LastFree
 // Rule 5: the last free column of a fresh block.
 fn last_free(n: usize, lo: usize, hi: usize, list: &[u32], rows: &[u32]) -> LastFree
     requires { (lo ≤ hi) × (hi ≤ n) × (length rows.now ≡ n) × Permutation n list.now }
-    ensures { result ≡ lastFree n (at rows.now) list.now lo hi }
+    ensures { result ≡ last_free n (at rows.now) list.now lo hi }
 {
     let mut last = LastFree::NoneYet;
     let mut k = lo;
@@ -105,8 +105,8 @@ fn number_columns(list: &mut [u32])
 
 // Each column as far as a row makes it: its reduced cost there.
 fn first_distances(n: usize, row: &[i32], v: &[i64], d: &mut [i64])
-    requires { (length row.now ≡ n) × (length v.now ≡ n) × (length d.old ≡ n) × ((j : ℕ) → Within near (signedAt v.now j)) }
-    ensures { d.new ≡ table n (λ j. signedAt row.now j -ℤ signedAt v.now j) }
+    requires { (length row.now ≡ n) × (length v.now ≡ n) × (length d.old ≡ n) × ((j : ℕ) → Within near (signed_at v.now j)) }
+    ensures { d.new ≡ table n (λ j. signed_at row.now j -ℤ signed_at v.now j) }
 {
     let mut j = 0;
     while j < n {
@@ -193,7 +193,7 @@ fn start_search(n: usize, costs: &[i32], start: u32, v: &[i64], d: &mut [i64], r
 // Each ready column, those listed before lo, has its distance minus the last block's minimum added to its price.
 fn change_prices(lo: usize, list: &[u32], d: &[i64], v: &mut [i64])
     requires { CanChange (length v.old) lo list.now d.now v.old }
-    ensures { v.new ≡ newPrices (readyAt lo list.now d.now) v.old }
+    ensures { v.new ≡ new_prices (ready_at lo list.now d.now) v.old }
 {
     let first = list[lo] as usize;
     let minimum = d[first];
@@ -263,7 +263,7 @@ fn flip_back(
     rows: &mut [u32],
 )
     requires { CanFlip n start column predecessors.now cols.old rows.old }
-    ensures { pairsOf cols.new rows.new ≡ flipped (flips n start predecessors.now (open_at column cols.old rows.old)) }
+    ensures { pairs_of cols.new rows.new ≡ flipped (flips n start predecessors.now (open_at column cols.old rows.old)) }
 {
     let mut j = column;
     loop {

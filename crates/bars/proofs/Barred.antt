@@ -18,125 +18,125 @@ use Rattle.ints.proofs.Shapes.{zlin}
 use Rattle.lists.specs.Runs.{first}
 use Rattle.lists.specs.Permutations.{at}
 use Rattle.lists.specs.Counts.{bit_of}
-use Rattle.lists.proofs.Runs.{upward-cong, first-none}
-use Rattle.lists.proofs.Sums.{sum-cong}
-use Rattle.lists.proofs.BitSets.{clear-iff, bit-none}
-use Rattle.assignment.specs.Pairings.{Night, Pairing, total, Least, signedAt, square}
+use Rattle.lists.proofs.Runs.{upward_cong, first_none}
+use Rattle.lists.proofs.Sums.{sum_cong}
+use Rattle.lists.proofs.BitSets.{clear_iff, bit_none}
+use Rattle.assignment.specs.Pairings.{Night, Pairing, total, Least, signed_at, square}
 use Rattle.assignment.specs.Prices.{Feasible, Tight, SparesNotBelow}
 use Rattle.assignment.proofs.Square.{square-spares}
-use Rattle.bars.specs.Blocked.{Blocked, filled, barredRow, has, reachedFrom}
-use Rattle.bars.specs.Barred.{barred, firstBarred, bitsAbove, filledCosts}
-use Rattle.bars.specs.Masks.{columnsMask, shownRows}
-use Rattle.bars.proofs.FilledCosts.{filled-place, filled-costs-at}
-use Rattle.bars.proofs.Filled.{permitted-total, unbarred-pairing, unbarred-tight, unbarred-least, filled-feasible, filled-blocked, filled-iff}
-use Rattle.bars.proofs.Masks.{mask-blocked, mask-ones}
+use Rattle.bars.specs.Blocked.{Blocked, filled, barred_row, has, reached_from}
+use Rattle.bars.specs.Barred.{barred, first_barred, bits_above, filled_costs}
+use Rattle.bars.specs.Masks.{columns_mask, shown_rows}
+use Rattle.bars.proofs.FilledCosts.{filled-place, filled_costs_at}
+use Rattle.bars.proofs.Filled.{permitted-total, unbarred-pairing, unbarred-tight, unbarred-least, filled-feasible, filled_blocked, filled_iff}
+use Rattle.bars.proofs.Masks.{mask_blocked, mask_ones}
 
 -- The first row at a barred place, as code finds it.
-pub first-barred : (n : ℕ) (costs : List ℤ) (bars cols : List ℕ) → barredRow (barred n costs bars) cols ≡ firstBarred n bars cols
+pub first-barred : (n : ℕ) (costs : List ℤ) (bars cols : List ℕ) → barred_row (barred n costs bars) cols ≡ first_barred n bars cols
 unfolding first
 first-barred n costs bars cols =
-    upward-cong 0 n _ _ 0
+    upward_cong 0 n _ _ 0
     (λ k found h l. ap (λ (t : Bool). cond (ltb found k) found (cond t k (suc k))) (not-not (bit_of (at bars k) (at cols k))))
 
 -- Where nothing is barred no pair is.
-pub no-pair-barred : (n : ℕ) (cols : List ℕ) → firstBarred n (replicate n 0) cols ≡ n
-no-pair-barred n cols =
-    first-none (λ i. bit_of (at (replicate n 0) i) (at cols i)) n (λ i l. rw (get_or-replicate {A = ℕ} n i 0 0 l) (bit-none (at cols i)))
+pub no_pair_barred : (n : ℕ) (cols : List ℕ) → first_barred n (replicate n 0) cols ≡ n
+no_pair_barred n cols =
+    first_none (λ i. bit_of (at (replicate n 0) i) (at cols i)) n (λ i l. rw (get_or-replicate {A = ℕ} n i 0 0 l) (bit_none (at cols i)))
 
 -- "bits from n up must be clear", of the bits of a u64
-pub bits-above-iff : (n bits : ℕ) → bits < 2 ^ 64 → (bitsAbove n bits ≡ false) ↔ ((j : ℕ) → n ≤ j → bit_of bits j ≡ false)
-bits-above-iff n bits l = (
-  λ e. (clear-iff 64 n bits l).0 (leb-false (2 ^ n) bits e),
-  λ clear. lt-leb (2 ^ n) bits ((clear-iff 64 n bits l).1 clear),
+pub bits_above_iff : (n bits : ℕ) → bits < 2 ^ 64 → (bits_above n bits ≡ false) ↔ ((j : ℕ) → n ≤ j → bit_of bits j ≡ false)
+bits_above_iff n bits l = (
+  λ e. (clear_iff 64 n bits l).0 (leb-false (2 ^ n) bits e),
+  λ clear. lt-leb (2 ^ n) bits ((clear_iff 64 n bits l).1 clear),
 )
 
 module _ (n : ℕ) (dear : ℤ) (costs : List ℤ) (bars : List ℕ) where
   abbrev night : Night
   night = barred n costs bars
 
-  abbrev pub filledSquare : Night
-  filledSquare = square n (filledCosts n dear costs bars)
+  abbrev pub filled_square : Night
+  filled_square = square n (filled_costs n dear costs bars)
 
   swapped : (t : Bool) (x y : ℤ) → cond t x y ≡ cond (not t) y x
   swapped true x y = refl
   swapped false x y = refl
 
   -- The filled costs are those of the filled night.
-  pub filled-cost : (i j : ℕ) → i < n → j < n → filledSquare.cost i j ≡ (filled dear night).cost i j
+  pub filled-cost : (i j : ℕ) → i < n → j < n → filled_square.cost i j ≡ (filled dear night).cost i j
   filled-cost i j hi hj =
-      filled-costs-at n dear costs bars (i * n + j) (omega (arith, mul-le-mul_right n hi))
-      ∙ filled-place n dear costs bars i j hj ∙ swapped (bit_of (at bars i) j) dear (signedAt costs (i * n + j))
+      filled_costs_at n dear costs bars (i * n + j) (omega (arith, mul-le-mul_right n hi))
+      ∙ filled-place n dear costs bars i j hj ∙ swapped (bit_of (at bars i) j) dear (signed_at costs (i * n + j))
 
-  pub filled-fair : (us vs : List ℤ) → Feasible filledSquare us vs → Feasible (filled dear night) us vs
+  pub filled-fair : (us vs : List ℤ) → Feasible filled_square us vs → Feasible (filled dear night) us vs
   filled-fair us vs fair = record { under = λ i j hi hj a. rw (filled-cost i j hi hj) at (fair.under i j hi hj refl) }
 
-  module _ (cols : List ℕ) (p : Pairing filledSquare cols) where
+  module _ (cols : List ℕ) (p : Pairing filled_square cols) where
     pub filled-pairing : Pairing (filled dear night) cols
     filled-pairing = record { size = p.size; inside = p.inside; apart = p.apart; permitted = λ i l. refl }
 
-    pub filled-tight : (us vs : List ℤ) → Tight filledSquare us vs cols → Tight (filled dear night) us vs cols
+    pub filled-tight : (us vs : List ℤ) → Tight filled_square us vs cols → Tight (filled dear night) us vs cols
     filled-tight us vs tight = record { met = λ i l. rw (filled-cost i (at cols i) l (p.inside i l)) at (tight.met i l) }
 
     filled-spares : (vs : List ℤ) → SparesNotBelow (filled dear night) vs cols
-    filled-spares vs = record { not-below = (square-spares n (filledCosts n dear costs bars) vs cols p).not-below }
+    filled-spares vs = record { not_below = (square-spares n (filled_costs n dear costs bars) vs cols p).not_below }
 
-    filled-total : total (filled dear night) cols ≡ total filledSquare cols
+    filled-total : total (filled dear night) cols ≡ total filled_square cols
     filled-total =
-        sum-cong n (λ i. (filled dear night).cost i (at cols i)) (λ i. filledSquare.cost i (at cols i))
+        sum_cong n (λ i. (filled dear night).cost i (at cols i)) (λ i. filled_square.cost i (at cols i))
         (λ i l. sym (filled-cost i (at cols i) l (p.inside i l)))
 
     -- No pair is barred: the pairing is one of the night, and prices that are tight on it for the filled costs are so for the night.
-    module _ (free : n ≤ firstBarred n bars cols) where
-      row-free : n ≤ barredRow night cols
+    module _ (free : n ≤ first_barred n bars cols) where
+      row-free : n ≤ barred_row night cols
       row-free = omega (arith, first-barred n costs bars cols)
 
       pub barred-pairing : Pairing night cols
       barred-pairing = unbarred-pairing night dear cols row-free filled-pairing
 
-      pub barred-total : total filledSquare cols ≡ total night cols
+      pub barred-total : total filled_square cols ≡ total night cols
       barred-total = sym filled-total ∙ permitted-total night dear cols barred-pairing
 
-      pub barred-tight : (us vs : List ℤ) → Tight filledSquare us vs cols → Tight night us vs cols
+      pub barred-tight : (us vs : List ℤ) → Tight filled_square us vs cols → Tight night us vs cols
       barred-tight us vs tight = unbarred-tight night dear cols row-free us vs (filled-tight us vs tight)
 
   -- Where no pair of a least pairing of the filled costs is barred, no pairing without a barred place costs less.
-  pub barred-least : (cols : List ℕ) → Least filledSquare cols → n ≤ firstBarred n bars cols → Least night cols
+  pub barred-least : (cols : List ℕ) → Least filled_square cols → n ≤ first_barred n bars cols → Least night cols
   barred-least cols o free = unbarred-least night dear cols (row-free cols o.pairing free) (record {
     pairing = filled-pairing cols o.pairing;
     least = λ other q.
-        let r : Pairing filledSquare other = record { size = q.size; inside = q.inside; apart = q.apart; permitted = λ i l. refl } in
+        let r : Pairing filled_square other = record { size = q.size; inside = q.inside; apart = q.apart; permitted = λ i l. refl } in
         omega (zlin, filled-total cols o.pairing, filled-total other r, o.least other r);
   })
 
-  pub barred-feasible : (us vs : List ℤ) → Feasible filledSquare us vs → Feasible night us vs
+  pub barred-feasible : (us vs : List ℤ) → Feasible filled_square us vs → Feasible night us vs
   barred-feasible us vs fair = filled-feasible night dear us vs (filled-fair us vs fair)
 
   -- Costs within c, and barred places that cost more than (2n + 1)c. The filled costs are paired, with prices that show it.
-  module _ (c : ℕ) (small : (k : ℕ) → k < n * n → Within c (signedAt costs k)) (margin : pos (c + n * (2 * c)) <ℤ dear) (us vs : List ℤ)
-      (fair : Feasible filledSquare us vs) (cols : List ℕ) (p : Pairing filledSquare cols) (tight : Tight filledSquare us vs cols) where
+  module _ (c : ℕ) (small : (k : ℕ) → k < n * n → Within c (signed_at costs k)) (margin : pos (c + n * (2 * c)) <ℤ dear) (us vs : List ℤ)
+      (fair : Feasible filled_square us vs) (cols : List ℕ) (p : Pairing filled_square cols) (tight : Tight filled_square us vs cols) where
     small-costs : (i j : ℕ) → i < n → j < n → Within c (night.cost i j)
     small-costs i j hi hj = small (i * n + j) (omega (arith, mul-le-mul_right n hi))
 
     -- "Refuse with 20 exactly if there is none"
-    pub barred-iff : (firstBarred n bars cols < n) ↔ ((other : List ℕ) → Pairing night other → ⊥)
-    barred-iff =
-        let i = filled-iff night dear us vs (filled-fair us vs fair) cols (filled-pairing cols p) (filled-tight cols p us vs tight) (filled-spares cols p vs) c small-costs margin in
+    pub barred_iff : (first_barred n bars cols < n) ↔ ((other : List ℕ) → Pairing night other → ⊥)
+    barred_iff =
+        let i = filled_iff night dear us vs (filled-fair us vs fair) cols (filled-pairing cols p) (filled-tight cols p us vs tight) (filled-spares cols p vs) c small-costs margin in
         (λ l. i.0 (omega (arith, first-barred n costs bars cols)), λ none. let l = i.1 none in omega (arith, first-barred n costs bars cols))
 
-    reached-blocked : firstBarred n bars cols < n → Blocked night (has (reachedFrom night cols (firstBarred n bars cols)))
-    reached-blocked l =
-        subst (λ (i : ℕ). Blocked night (has (reachedFrom night cols i))) (first-barred n costs bars cols)
-        (filled-blocked night dear us vs (filled-fair us vs fair) cols (filled-pairing cols p) (filled-tight cols p us vs tight) (filled-spares cols p vs) c small-costs margin
+    reached_blocked : first_barred n bars cols < n → Blocked night (has (reached_from night cols (first_barred n bars cols)))
+    reached_blocked l =
+        subst (λ (i : ℕ). Blocked night (has (reached_from night cols i))) (first-barred n costs bars cols)
+        (filled_blocked night dear us vs (filled-fair us vs fair) cols (filled-pairing cols p) (filled-tight cols p us vs tight) (filled-spares cols p vs) c small-costs margin
         (omega (arith, first-barred n costs bars cols)))
 
     -- "a set of rows whose allowed columns are fewer than the rows"
-    pub shown-blocked : firstBarred n bars cols < n → Blocked night (bit_of (shownRows n bars cols))
-    shown-blocked l = mask-blocked n costs bars cols p.inside (firstBarred n bars cols) (reached-blocked l)
+    pub shown_blocked : first_barred n bars cols < n → Blocked night (bit_of (shown_rows n bars cols))
+    shown_blocked l = mask_blocked n costs bars cols p.inside (first_barred n bars cols) (reached_blocked l)
 
     -- "by counting ones"
-    pub shown-ones : ((i : ℕ) → i < n → at bars i < 2 ^ n) → firstBarred n bars cols < n → ones (columnsMask n bars (shownRows n bars cols)) < ones (shownRows n bars cols)
-    shown-ones clear l = mask-ones n costs bars cols p.inside (firstBarred n bars cols) l clear (reached-blocked l)
+    pub shown_ones : ((i : ℕ) → i < n → at bars i < 2 ^ n) → first_barred n bars cols < n → ones (columns_mask n bars (shown_rows n bars cols)) < ones (shown_rows n bars cols)
+    shown_ones clear l = mask_ones n costs bars cols p.inside (first_barred n bars cols) l clear (reached_blocked l)
 
 -- At sides to 64, with costs within 1,000,000 and K on barred places, the margin is wide.
-pub wide-margin : (n : ℕ) → n ≤ 64 → pos (1000000 + n * (2 * 1000000)) <ℤ pos 1000000000
-wide-margin n h = omega zlin
+pub wide_margin : (n : ℕ) → n ≤ 64 → pos (1000000 + n * (2 * 1000000)) <ℤ pos 1000000000
+wide_margin n h = omega zlin

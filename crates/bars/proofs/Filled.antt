@@ -18,25 +18,25 @@ use Rattle.ints.specs.Parts.{Within}
 use Rattle.ints.proofs.Sums as ints
 use Rattle.ints.proofs.Ranges.{zarith}
 use Rattle.ints.proofs.Shapes.{zlin}
-use Rattle.ints.proofs.Tests.{not-true-false}
+use Rattle.ints.proofs.Tests.{not_true_false}
 use Rattle.lists.specs.Sums.{sum}
 use Rattle.lists.specs.Permutations.{at, table}
-use Rattle.lists.proofs.Cases.{or-either}
-use Rattle.lists.proofs.Runs.{upward-keeps, first_holds, first-before}
-use Rattle.lists.proofs.Sums.{sum-cong, sum-le, sum-zero, sum_ones}
-use Rattle.lists.proofs.Tables.{length-table, getD-table}
-use Rattle.lists.proofs.Injections.{sum-injection}
-use Rattle.lists.proofs.Counts.{one, one-le, one-most, count-sum, but, but-least, sum-but}
-use Rattle.assignment.specs.Pairings.{Night, Pairing, total, Least, signedAt}
+use Rattle.lists.proofs.Cases.{or_either}
+use Rattle.lists.proofs.Runs.{upward_keeps, first_holds, first-before}
+use Rattle.lists.proofs.Sums.{sum_cong, sum_le, sum_zero, sum_ones}
+use Rattle.lists.proofs.Tables.{length-table, get_d_table}
+use Rattle.lists.proofs.Injections.{sum_injection}
+use Rattle.lists.proofs.Counts.{one, one_le, one_most, count-sum, but, but-least, sum-but}
+use Rattle.assignment.specs.Pairings.{Night, Pairing, total, Least, signed_at}
 use Rattle.assignment.specs.Prices.{priced, Feasible, Tight, SparesNotBelow}
 use Rattle.assignment.proofs.Pairings.{pairing-injective}
-use Rattle.bars.specs.Blocked.{columnsOf, Blocked, filled, barredRow, has, grow, reachedFrom}
-use Rattle.bars.proofs.Blocked.{columns-read, blocked-none}
-use Rattle.bars.proofs.Rounds.{Shut, number, grow-at, grow-length, grow-keeps, grows}
+use Rattle.bars.specs.Blocked.{columns_of, Blocked, filled, barred_row, has, grow, reached_from}
+use Rattle.bars.proofs.Blocked.{columns-read, blocked_none}
+use Rattle.bars.proofs.Rounds.{Shut, number, grow-at, grow-length, grow_keeps, grows}
 
 module _ (night : Night) (dear : ℤ) where
   abbrev m : ℕ
-  m = night.rowCount
+  m = night.row_count
 
   -- A pairing of the night is one of the filled night, and costs the same there.
   pub permitted-filled : (cols : List ℕ) → Pairing night cols → Pairing (filled dear night) cols
@@ -44,11 +44,11 @@ module _ (night : Night) (dear : ℤ) where
 
   pub permitted-total : (cols : List ℕ) → Pairing night cols → total (filled dear night) cols ≡ total night cols
   permitted-total cols p =
-      sum-cong m (λ i. (filled dear night).cost i (at cols i)) (λ i. night.cost i (at cols i)) (λ i l. rw (p.permitted i l))
+      sum_cong m (λ i. (filled dear night).cost i (at cols i)) (λ i. night.cost i (at cols i)) (λ i l. rw (p.permitted i l))
 
   -- ---- no pair is barred
 
-  module _ (cols : List ℕ) (free : m ≤ barredRow night cols) where
+  module _ (cols : List ℕ) (free : m ≤ barred_row night cols) where
     allowed : (i : ℕ) → i < m → night.allowed i (at cols i) ≡ true
     allowed i l = not-false (night.allowed i (at cols i)) (first-before (λ k. not (night.allowed k (at cols k))) m i (omega arith))
 
@@ -75,8 +75,8 @@ module _ (night : Night) (dear : ℤ) where
 
   module _ (us vs : List ℤ) (fair : Feasible (filled dear night) us vs) (cols : List ℕ) (p : Pairing (filled dear night) cols)
       (tight : Tight (filled dear night) us vs cols) (spares : SparesNotBelow (filled dear night) vs cols) (c : ℕ)
-      (small : (i j : ℕ) → i < m → j < night.columnCount → Within c (night.cost i j)) (margin : pos (c + m * (2 * c)) <ℤ dear) where
-    under : (i j : ℕ) → i < m → j < night.columnCount → night.allowed i j ≡ true → priced us vs i j ≤ℤ night.cost i j
+      (small : (i j : ℕ) → i < m → j < night.column_count → Within c (night.cost i j)) (margin : pos (c + m * (2 * c)) <ℤ dear) where
+    under : (i j : ℕ) → i < m → j < night.column_count → night.allowed i j ≡ true → priced us vs i j ≤ℤ night.cost i j
     under = (filled-feasible us vs fair).under
 
     met-barred : (i : ℕ) → i < m → night.allowed i (at cols i) ≡ false → priced us vs i (at cols i) ≡ dear
@@ -89,15 +89,15 @@ module _ (night : Night) (dear : ℤ) where
         by : (t : Bool) → night.allowed i (at cols i) ≡ t → pos 0 ≤ℤ (priced us vs i (at cols i) +ℤ pos c)
         by true e =
             let met : priced us vs i (at cols i) ≡ night.cost i (at cols i) = rw e at (tight.met i l) in
-            omega (zlin, ints.sum (signedAt us i) (signedAt vs (at cols i)), small i (at cols i) l (p.inside i l))
-        by false e = omega (zlin, ints.sum (signedAt us i) (signedAt vs (at cols i)), met-barred i l e)
+            omega (zlin, ints.sum (signed_at us i) (signed_at vs (at cols i)), small i (at cols i) l (p.inside i l))
+        by false e = omega (zlin, ints.sum (signed_at us i) (signed_at vs (at cols i)), met-barred i l e)
 
     -- Over an allowed place and back over the pairing a row's price falls by at most 2c.
-    falls : (i k : ℕ) → i < m → k < m → night.allowed i (at cols k) ≡ true → signedAt us i ≤ℤ (signedAt us k +ℤ pos (2 * c))
+    falls : (i k : ℕ) → i < m → k < m → night.allowed i (at cols k) ≡ true → signed_at us i ≤ℤ (signed_at us k +ℤ pos (2 * c))
     falls i k hi hk a =
         omega (
           zlin,
-          ints.sum (signedAt us k) (signedAt vs (at cols k)),
+          ints.sum (signed_at us k) (signed_at vs (at cols k)),
           not_low k hk,
           under i (at cols k) hi (p.inside k hk) a,
           small i (at cols k) hi (p.inside k hk),
@@ -108,7 +108,7 @@ module _ (night : Night) (dear : ℤ) where
       record Reached (r : ℕ) (set : List Bool) : Type 0 where
         size : length set ≡ m
         base : has set i ≡ true
-        near : (k : ℕ) → k < m → has set k ≡ true → signedAt us i ≤ℤ (signedAt us k +ℤ pos (r * (2 * c)))
+        near : (k : ℕ) → k < m → has set k ≡ true → signed_at us i ≤ℤ (signed_at us k +ℤ pos (r * (2 * c)))
         grown : (pos (suc r) ≤ℤ number night cols set) ⊎ Shut night cols set
 
       abbrev alone : List Bool
@@ -116,85 +116,85 @@ module _ (night : Night) (dear : ℤ) where
 
       start : Reached 0 alone
       start =
-          let b : has alone i ≡ true = getD-table m (λ k. eqb k i) false i hi ∙ eq-eqb i i refl in
+          let b : has alone i ≡ true = get_d_table m (λ k. eqb k i) false i hi ∙ eq-eqb i i refl in
           record {
             size = length-table m (λ k. eqb k i);
             base = b;
-            near = λ k l e. let q = eqb-true k i (sym (getD-table m (λ a. eqb a i) false k l) ∙ e) in omega (zlin, ap (signedAt us) q);
+            near = λ k l e. let q = eqb-true k i (sym (get_d_table m (λ a. eqb a i) false k l) ∙ e) in omega (zlin, ap (signed_at us) q);
             grown = inl (omega (
               zlin,
               sum-but m i (has alone) hi b,
-              sum-le m (λ k. pos 0) (but i (has alone)) (λ k l. but-least i (has alone) k),
-              sum-zero m (λ k. pos 0) (λ k l. refl),
+              sum_le m (λ k. pos 0) (but i (has alone)) (λ k l. but-least i (has alone) k),
+              sum_zero m (λ k. pos 0) (λ k l. refl),
             ));
           }
 
       round : (r : ℕ) (set : List Bool) → Reached r set → Reached (suc r) (grow night cols set)
       round r set R = record {
         size = grow-length night cols set;
-        base = grow-keeps night cols set i hi R.base;
+        base = grow_keeps night cols set i hi R.base;
         near = λ k l e. ⊎_elim (λ a. omega (zlin, R.near k l a)) (λ a. from k l (columns-read night (has set) (at cols k) a))
-            (or-either (has set k) (columnsOf night (has set) (at cols k)) (sym (grow-at night cols set k l) ∙ e));
+            (or_either (has set k) (columns_of night (has set) (at cols k)) (sym (grow-at night cols set k l) ∙ e));
         grown = grows night cols set R.size (suc r) R.grown;
       }
         where
           from : (k : ℕ) → k < m → (a : ℕ) × (a < m) × (has set a ≡ true) × (night.allowed a (at cols k) ≡ true)
-              → signedAt us i ≤ℤ (signedAt us k +ℤ pos (suc r * (2 * c)))
+              → signed_at us i ≤ℤ (signed_at us k +ℤ pos (suc r * (2 * c)))
           from k l (a, h, s, o) = omega (zlin, R.near a h s, falls a k h l o)
 
-      reached-ok : Reached m (reachedFrom night cols i)
-      unfolding reachedFrom
-      reached-ok = upward-keeps Reached 0 m (λ r. grow night cols) alone (omega arith) start (λ r set a b R. round r set R)
+      reached_ok : Reached m (reached_from night cols i)
+      unfolding reached_from
+      reached_ok = upward_keeps Reached 0 m (λ r. grow night cols) alone (omega arith) start (λ r set a b R. round r set R)
 
       abbrev rows : ℕ → Bool
-      rows = has (reachedFrom night cols i)
+      rows = has (reached_from night cols i)
 
       abbrev columns : ℕ → Bool
-      columns j = columnsOf night rows j
+      columns j = columns_of night rows j
 
       -- There are no more rows to come.
-      shut : Shut night cols (reachedFrom night cols i)
+      shut : Shut night cols (reached_from night cols i)
       shut =
-          ⊎_elim (λ g. absurd (omega (zlin, g, sum_ones m, sum-le m (λ k. one (rows k)) (λ k. pos 1) (λ k l. one-most (rows k))))) (λ s. s)
-          reached-ok.grown
+          ⊎_elim (λ g. absurd (omega (zlin, g, sum_ones m, sum_le m (λ k. one (rows k)) (λ k. pos 1) (λ k l. one_most (rows k))))) (λ s. s)
+          reached_ok.grown
 
       -- The column of row i, and one whose price is not below it, is too dear for every row that is reached.
-      too-dear : (j : ℕ) → j < night.columnCount → signedAt vs (at cols i) ≤ℤ signedAt vs j → columns j ≡ false
-      too-dear j l h =
-          not-true-false (λ e.
+      too_dear : (j : ℕ) → j < night.column_count → signed_at vs (at cols i) ≤ℤ signed_at vs j → columns j ≡ false
+      too_dear j l h =
+          not_true_false (λ e.
           let s = columns-read night rows j e in
-          omega (zlin, margin, h, reached-ok.near s.0 s.1 s.2, met-barred i hi at-barred, under s.0 j s.1 l s.3, small s.0 j s.1 l))
+          omega (zlin, margin, h, reached_ok.near s.0 s.1 s.2, met-barred i hi at-barred, under s.0 j s.1 l s.3, small s.0 j s.1 l))
 
       -- So each column allowed to them is that of another row among them.
-      pub barred-blocked : Blocked night rows
-      barred-blocked = record {
-        fewer = omega (zlin, count-sum m rows, count-sum night.columnCount columns, used, others, sum-but m i rows hi reached-ok.base);
+      pub barred_blocked : Blocked night rows
+      barred_blocked = record {
+        fewer = omega (zlin, count-sum m rows, count-sum night.column_count columns, used, others, sum-but m i rows hi reached_ok.base);
       }
         where
-          used : sum night.columnCount (λ j. one (columns j)) ≡ sum m (λ k. one (columns (at cols k)))
+          used : sum night.column_count (λ j. one (columns j)) ≡ sum m (λ k. one (columns (at cols k)))
           used =
-              sum-injection m (at cols) (λ j. one (columns j)) (pairing-injective (filled dear night) cols p)
-              (λ j l u. ap one (too-dear j l (spares.not-below i j hi l u)))
+              sum_injection m (at cols) (λ j. one (columns j)) (pairing-injective (filled dear night) cols p)
+              (λ j l u. ap one (too_dear j l (spares.not_below i j hi l u)))
 
           others : sum m (λ k. one (columns (at cols k))) ≤ℤ sum m (but i rows)
-          others = sum-le m (λ k. one (columns (at cols k))) (but i rows) (λ k l. by k l (ℕ_discrete k i))
+          others = sum_le m (λ k. one (columns (at cols k))) (but i rows) (λ k l. by k l (ℕ_discrete k i))
             where
               by : (k : ℕ) → k < m → Dec (k ≡ i) → one (columns (at cols k)) ≤ℤ but i rows k
               by k l (yes e) =
                   rw (eq-eqb k i e)
-                  (omega (zarith, ap one (too-dear (at cols k) (p.inside k l) (omega (zarith, ap (λ (a : ℕ). signedAt vs (at cols a)) e)))))
-              by k l (no d) = rw (ne_eqb k i d) (one-le (columns (at cols k)) (rows k) (shut k l))
+                  (omega (zarith, ap one (too_dear (at cols k) (p.inside k l) (omega (zarith, ap (λ (a : ℕ). signed_at vs (at cols a)) e)))))
+              by k l (no d) = rw (ne_eqb k i d) (one_le (columns (at cols k)) (rows k) (shut k l))
 
     -- The rows reached from the first row at a barred place are a set to show.
-    pub filled-blocked : barredRow night cols < m → Blocked night (has (reachedFrom night cols (barredRow night cols)))
-    filled-blocked l =
-        barred-blocked (barredRow night cols) l
-        (not-true (night.allowed (barredRow night cols) (at cols (barredRow night cols)))
+    pub filled_blocked : barred_row night cols < m → Blocked night (has (reached_from night cols (barred_row night cols)))
+    filled_blocked l =
+        barred_blocked (barred_row night cols) l
+        (not-true (night.allowed (barred_row night cols) (at cols (barred_row night cols)))
         (first_holds (λ k. not (night.allowed k (at cols k))) m l))
 
     -- "exactly if there is none"
-    pub filled-iff : (barredRow night cols < m) ↔ ((other : List ℕ) → Pairing night other → ⊥)
-    filled-iff = (
-      λ l. blocked-none night (has (reachedFrom night cols (barredRow night cols))) (filled-blocked l),
-      λ none. elim (dec_lt (barredRow night cols) m) [ yes l ↦ l | no l ↦ absurd (none cols (unbarred-pairing cols (omega arith) p)) ],
+    pub filled_iff : (barred_row night cols < m) ↔ ((other : List ℕ) → Pairing night other → ⊥)
+    filled_iff = (
+      λ l. blocked_none night (has (reached_from night cols (barred_row night cols))) (filled_blocked l),
+      λ none. elim (dec_lt (barred_row night cols) m) [ yes l ↦ l | no l ↦ absurd (none cols (unbarred-pairing cols (omega arith) p)) ],
     )

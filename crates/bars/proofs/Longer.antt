@@ -8,34 +8,34 @@ use lib.Dec.{ltb}
 use Rattle.lists.specs.Runs.{first}
 use Rattle.lists.specs.Permutations.{at}
 use Rattle.lists.specs.Counts.{bit_of}
-use Rattle.lists.proofs.Runs.{upward-cong}
-use Rattle.bars.specs.Barred.{firstBarred}
-use Rattle.bars.specs.Masks.{allowedMask, columnsMask, pairedMask, reachedMask, shownRows}
+use Rattle.lists.proofs.Runs.{upward_cong}
+use Rattle.bars.specs.Barred.{first_barred}
+use Rattle.bars.specs.Masks.{allowed_mask, columns_mask, paired_mask, reached_mask, shown_rows}
 
 module _ (n : ℕ) (cols cols' : List ℕ) (same-cols : (i : ℕ) → i < n → at cols i ≡ at cols' i) where
-  pub paired-mask-same : (columns rows : ℕ) → pairedMask n cols columns rows ≡ pairedMask n cols' columns rows
-  unfolding pairedMask
-  paired-mask-same columns rows =
-      upward-cong 0 n _ _ rows (λ i s h l. ap (λ (j : ℕ). cond (bit_of columns j) (bit_or s (2 ^ i)) s) (same-cols i l))
+  pub paired_mask_same : (columns rows : ℕ) → paired_mask n cols columns rows ≡ paired_mask n cols' columns rows
+  unfolding paired_mask
+  paired_mask_same columns rows =
+      upward_cong 0 n _ _ rows (λ i s h l. ap (λ (j : ℕ). cond (bit_of columns j) (bit_or s (2 ^ i)) s) (same-cols i l))
 
 module _ (n : ℕ) (bars bars' : List ℕ) (same-bars : (i : ℕ) → i < n → at bars i ≡ at bars' i) where
-  pub columns-mask-same : (rows : ℕ) → columnsMask n bars rows ≡ columnsMask n bars' rows
-  unfolding columnsMask
-  columns-mask-same rows =
-      upward-cong 0 n _ _ 0 (λ i c h l. ap (λ (b : ℕ). cond (bit_of rows i) (bit_or c (allowedMask n b)) c) (same-bars i l))
+  pub columns_mask_same : (rows : ℕ) → columns_mask n bars rows ≡ columns_mask n bars' rows
+  unfolding columns_mask
+  columns_mask_same rows =
+      upward_cong 0 n _ _ 0 (λ i c h l. ap (λ (b : ℕ). cond (bit_of rows i) (bit_or c (allowed_mask n b)) c) (same-bars i l))
 
   module _ (cols cols' : List ℕ) (same-cols : (i : ℕ) → i < n → at cols i ≡ at cols' i) where
-    pub first-barred-same : firstBarred n bars cols ≡ firstBarred n bars' cols'
+    pub first_barred_same : first_barred n bars cols ≡ first_barred n bars' cols'
     unfolding first
-    first-barred-same =
-        upward-cong 0 n _ _ 0
+    first_barred_same =
+        upward_cong 0 n _ _ 0
         (λ i found h l. ap (λ (t : Bool). cond (ltb found i) found (cond t i (suc i))) (ap₂ bit_of (same-bars i l) (same-cols i l)))
 
-    pub reached-mask-same : (i : ℕ) → reachedMask n bars cols i ≡ reachedMask n bars' cols' i
-    unfolding reachedMask
-    reached-mask-same i =
-        upward-cong 0 n _ _ (2 ^ i)
-        (λ r rows h l. paired-mask-same n cols cols' same-cols (columnsMask n bars rows) rows ∙ ap (λ (c : ℕ). pairedMask n cols' c rows) (columns-mask-same rows))
+    pub reached_mask_same : (i : ℕ) → reached_mask n bars cols i ≡ reached_mask n bars' cols' i
+    unfolding reached_mask
+    reached_mask_same i =
+        upward_cong 0 n _ _ (2 ^ i)
+        (λ r rows h l. paired_mask_same n cols cols' same-cols (columns_mask n bars rows) rows ∙ ap (λ (c : ℕ). paired_mask n cols' c rows) (columns_mask_same rows))
 
-    pub shown-rows-same : shownRows n bars cols ≡ shownRows n bars' cols'
-    shown-rows-same = reached-mask-same (firstBarred n bars cols) ∙ ap (reachedMask n bars' cols') first-barred-same
+    pub shown_rows_same : shown_rows n bars cols ≡ shown_rows n bars' cols'
+    shown_rows_same = reached_mask_same (first_barred n bars cols) ∙ ap (reached_mask n bars' cols') first_barred_same

@@ -12,17 +12,17 @@ use lib.IntN.{ℤ, pos}
 use lib.ListN.{length, take, get_or-eq_default}
 use Rattle.lists.specs.Permutations.{at}
 use Rattle.lists.specs.Counts.{bit_of}
-use Rattle.lists.proofs.BitSets.{bit-none}
-use Rattle.lists.proofs.Sums.{sum-cong}
+use Rattle.lists.proofs.BitSets.{bit_none}
+use Rattle.lists.proofs.Sums.{sum_cong}
 use Rattle.assignment.specs.Pairings.{Night, Pairing, Least, total}
 use Rattle.assignment.specs.Prices.{Feasible, Tight, SparesNotBelow}
 use Rattle.assignment.specs.Padded.{padded}
 use Rattle.assignment.proofs.Padded.{padded-feasible, padded-pairing, padded-total, padded-tight, padded-spares, padded-least}
-use Rattle.bars.specs.Barred.{nightOf, barred}
+use Rattle.bars.specs.Barred.{night_of, barred}
 
 module _ (m n : ℕ) (costs : List ℤ) (bars : List ℕ) (filled : length costs ≡ m * n) (fewer : m ≤ n) (clear : (i : ℕ) → m ≤ i → i < n → at bars i ≡ 0) where
   abbrev night : Night
-  night = nightOf m n costs bars
+  night = night_of m n costs bars
 
   abbrev wide : Night
   wide = barred n costs bars
@@ -41,7 +41,7 @@ module _ (m n : ℕ) (costs : List ℤ) (bars : List ℕ) (filled : length costs
     where
       by : Dec (i < m) → wide.allowed i j ≡ (padded night).allowed i j
       by (yes l) = rw (lt-ltb i m l)
-      by (no l) = rw (le-ltb i m (omega arith)) (ap (λ (b : ℕ). not (bit_of b j)) (clear i (omega arith) hi) ∙ ap not (bit-none j))
+      by (no l) = rw (le-ltb i m (omega arith)) (ap (λ (b : ℕ). not (bit_of b j)) (clear i (omega arith) hi) ∙ ap not (bit_none j))
 
   module _ (us vs : List ℤ) (fair : Feasible wide us vs) where
     fair-padded : Feasible (padded night) us vs
@@ -71,5 +71,5 @@ module _ (m n : ℕ) (costs : List ℤ) (bars : List ℕ) (filled : length costs
 
       pub rows-total : total wide cols ≡ total night (take m cols)
       rows-total =
-          sum-cong n (λ i. wide.cost i (at cols i)) (λ i. (padded night).cost i (at cols i)) (λ i l. cost-padded i (at cols i) l (p.inside i l))
+          sum_cong n (λ i. wide.cost i (at cols i)) (λ i. (padded night).cost i (at cols i)) (λ i l. cost-padded i (at cols i) l (p.inside i l))
           ∙ padded-total night fewer cols

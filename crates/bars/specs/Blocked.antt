@@ -7,25 +7,25 @@ use Rattle.lists.specs.Counts.{count, some}
 use Rattle.assignment.specs.Pairings.{Night}
 
 -- The columns that are allowed to a row of the set.
-abbrev pub columnsOf : Night → (ℕ → Bool) → ℕ → Bool
-columnsOf night rows j = some night.rowCount (λ i. rows i && night.allowed i j)
+abbrev pub columns_of : Night → (ℕ → Bool) → ℕ → Bool
+columns_of night rows j = some night.row_count (λ i. rows i && night.allowed i j)
 
 -- "a set of rows whose allowed columns are fewer than the rows, by counting ones"
 pub record Blocked (night : Night) (rows : ℕ → Bool) : Type 0 where
-  pub fewer : count night.columnCount (columnsOf night rows) < count night.rowCount rows
+  pub fewer : count night.column_count (columns_of night rows) < count night.row_count rows
 
 -- The night with every place allowed, and this cost on barred places.
 abbrev pub filled : ℤ → Night → Night
 filled dear night = record {
-  rowCount = night.rowCount;
-  columnCount = night.columnCount;
+  row_count = night.row_count;
+  column_count = night.column_count;
   cost = λ i j. cond (night.allowed i j) (night.cost i j) dear;
   allowed = λ i j. true;
 }
 
 -- The first row that is paired at a barred place; the number of rows where none is.
-abbrev pub barredRow : Night → List ℕ → ℕ
-barredRow night cols = first night.rowCount (λ i. not (night.allowed i (at cols i)))
+abbrev pub barred_row : Night → List ℕ → ℕ
+barred_row night cols = first night.row_count (λ i. not (night.allowed i (at cols i)))
 
 -- Whether row i is in a set.
 abbrev pub has : List Bool → ℕ → Bool
@@ -33,8 +33,8 @@ has set i = get_or set i false
 
 -- With the rows of a set, those that are paired with a column allowed to one of them.
 abbrev pub grow : Night → List ℕ → List Bool → List Bool
-grow night cols set = table night.rowCount (λ k. has set k || columnsOf night (has set) (at cols k))
+grow night cols set = table night.row_count (λ k. has set k || columns_of night (has set) (at cols k))
 
 -- The rows reached from row i, over allowed places and back over the pairing. (That as many rounds as rows are enough is a law.)
-unfoldable pub reachedFrom : Night → List ℕ → ℕ → List Bool
-reachedFrom night cols i = upward 0 night.rowCount (λ r. grow night cols) (table night.rowCount (λ k. eqb k i))
+unfoldable pub reached_from : Night → List ℕ → ℕ → List Bool
+reached_from night cols i = upward 0 night.row_count (λ r. grow night cols) (table night.row_count (λ k. eqb k i))

@@ -3,7 +3,7 @@ ghost use Rattle.std.specs.Prelude.{◌≡◌, ◌++◌, ◌*◌, ◌≤◌, len
 ghost use Rattle.lists.specs.Runs.{first};
 ghost use Rattle.lists.specs.Permutations.{at, table};
 ghost use Rattle.bars.specs.Asked.{BarsListed};
-ghost use Rattle.bars.specs.Barred.{bitsAbove, firstBarred, filledIn, filledCosts};
+ghost use Rattle.bars.specs.Barred.{bits_above, first_barred, filled_in, filled_costs};
 
 use crate::bits::{full, has};
 
@@ -24,7 +24,7 @@ pub fn bits_at(bars: &[u64], i: usize) -> u64
 // The first row that has a bit from n up, or n where there is none.
 pub fn first_bits_above(n: usize, bars: &[u64]) -> usize
     requires { (n ≤ 64) × (n ≤ length bars.now) }
-    ensures { result ≡ first n (λ i. bitsAbove n (at bars.now i)) }
+    ensures { result ≡ first n (λ i. bits_above n (at bars.now i)) }
 {
     let all = full(n);
     let mut i = 0;
@@ -40,7 +40,7 @@ pub fn first_bits_above(n: usize, bars: &[u64]) -> usize
 // The first row that is paired at a barred place, or n where there is none.
 pub fn first_barred(n: usize, bars: &[u64], cols: &[u32]) -> usize
     requires { BarsListed n bars.now cols.now }
-    ensures { result ≡ firstBarred n bars.now cols.now }
+    ensures { result ≡ first_barred n bars.now cols.now }
 {
     let mut i = 0;
     while i < n {
@@ -55,7 +55,7 @@ pub fn first_barred(n: usize, bars: &[u64], cols: &[u32]) -> usize
 // A row of costs, with this cost on its barred places.
 fn fill_row(row: &mut [i32], bits: u64, dear: i32)
     requires { length row.old ≤ 64 }
-    ensures { row.new ≡ table (length row.old) (filledIn bits dear row.old) }
+    ensures { row.new ≡ table (length row.old) (filled_in bits dear row.old) }
 {
     if bits == 0 {
         return;
@@ -72,7 +72,7 @@ fn fill_row(row: &mut [i32], bits: u64, dear: i32)
 // The first n * n costs, with this cost on barred places; what stands behind them stays.
 pub fn fill(n: usize, costs: &mut [i32], bars: &[u64], dear: i32)
     requires { (n ≤ 64) × (n * n ≤ length costs.old) × (n ≤ length bars.now) }
-    ensures { costs.new ≡ filledCosts n dear costs.old bars.now ++ drop (n * n) costs.old }
+    ensures { costs.new ≡ filled_costs n dear costs.old bars.now ++ drop (n * n) costs.old }
 {
     let mut start = 0;
     let mut i = 0;

@@ -2,14 +2,14 @@
 ghost use Rattle.std.specs.Prelude.{◌≡◌, ℕ, ◌<◌, ◌≤◌, length};
 ghost use Rattle.lists.specs.Permutations.{at};
 ghost use Rattle.bars.specs.Asked.{BarsListed};
-ghost use Rattle.bars.specs.Masks.{columnsMask, pairedMask, reachedMask};
+ghost use Rattle.bars.specs.Masks.{columns_mask, paired_mask, reached_mask};
 
 use crate::bits::{full, has, with_bit};
 
 // The columns allowed to the rows of a set.
 pub fn columns_mask(n: usize, bars: &[u64], rows: u64) -> u64
     requires { (n ≤ 64) × (n ≤ length bars.now) }
-    ensures { result ≡ columnsMask n bars.now rows }
+    ensures { result ≡ columns_mask n bars.now rows }
 {
     let all = full(n);
     let mut columns = 0u64;
@@ -26,7 +26,7 @@ pub fn columns_mask(n: usize, bars: &[u64], rows: u64) -> u64
 // With the rows, those that are paired with one of the columns.
 pub fn paired_mask(n: usize, cols: &[u32], columns: u64, rows: u64) -> u64
     requires { (n ≤ 64) × (n ≤ length cols.now) × ((i : ℕ) → i < n → at cols.now i < 64) }
-    ensures { result ≡ pairedMask n cols.now columns rows }
+    ensures { result ≡ paired_mask n cols.now columns rows }
 {
     let mut set = rows;
     let mut i = 0;
@@ -42,7 +42,7 @@ pub fn paired_mask(n: usize, cols: &[u32], columns: u64, rows: u64) -> u64
 // The rows reached from row i. As many rounds as rows are enough.
 pub fn reached_mask(n: usize, bars: &[u64], cols: &[u32], i: usize) -> u64
     requires { BarsListed n bars.now cols.now × (i < n) }
-    ensures { result ≡ reachedMask n bars.now cols.now i }
+    ensures { result ≡ reached_mask n bars.now cols.now i }
 {
     let mut rows = with_bit(0, i);
     let mut round = 0;

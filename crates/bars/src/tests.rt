@@ -2,21 +2,21 @@
 ghost use Rattle.std.specs.Prelude.{◌≡◌, ◌≤◌, pos, length};
 ghost use Rattle.matrix.specs.Verdicts.{Passes, ◌then◌};
 ghost use Rattle.bars.specs.Asked.{BarsListed};
-ghost use Rattle.bars.specs.Tests.{barredMost, costsSmall, barsClear, unbarred};
+ghost use Rattle.bars.specs.Tests.{barred_most, costs_small, bars_clear, unbarred};
 
 use matrix::tests::fails_if;
 use matrix::{Verdict, refusals};
 
 // The number once more, beside specs/Tests.antt: code cannot read a definition. The promise holds the two together.
 pub fn barred_most() -> i64
-    ensures { result ≡ pos barredMost }
+    ensures { result ≡ pos barred_most }
 {
     1000000
 }
 
 // Test 5, of costs with bars.
 pub fn costs_small(before: Verdict, costs: &[i32]) -> Verdict
-    ensures { result ≡ (before then costsSmall costs.now) }
+    ensures { result ≡ (before then costs_small costs.now) }
 {
     matrix::tests::costs_in(before, barred_most(), costs)
 }
@@ -24,7 +24,7 @@ pub fn costs_small(before: Verdict, costs: &[i32]) -> Verdict
 // Test 22.
 pub fn bars_clear(before: Verdict, n: usize, bars: &[u64]) -> Verdict
     requires { Passes before → (n ≤ 64) × (n ≤ length bars.now) }
-    ensures { result ≡ (before then barsClear n bars.now) }
+    ensures { result ≡ (before then bars_clear n bars.now) }
 {
     match before {
         Verdict::Fails(refusal) => {

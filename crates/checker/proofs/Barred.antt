@@ -14,54 +14,54 @@ use Rattle.assignment.specs.Pairings.{Night, Pairing, total, Least}
 use Rattle.assignment.specs.Prices.{Tight, SparesNotBelow}
 use Rattle.assignment.proofs.Pairings.{pairing-injective, named-pairing}
 use Rattle.assignment.proofs.Longer.{at_first, total_first, named-first, spares-first}
-use Rattle.matrix.specs.Limits.{sheetSide}
+use Rattle.matrix.specs.Limits.{sheet_side}
 use Rattle.matrix.specs.Verdicts.{Passes}
 use Rattle.matrix.specs.declared.Refusal.{Refusal}
 use Rattle.matrix.specs.declared.Answer.TheVariants.{Total, Refused}
-use Rattle.matrix.proofs.Verdicts.{then-iff, totalled-iff}
-use Rattle.matrix.proofs.Passed.{side-within, costs-fill, lists-long, list-long, columns-inside}
+use Rattle.matrix.proofs.Verdicts.{then_iff, totalled_iff}
+use Rattle.matrix.proofs.Passed.{side-within, costs_fill_lem, lists_long_lem, list-long, columns-inside}
 use Rattle.bars.specs.Barred.{barred}
-use Rattle.bars.proofs.Passed.{costs-small, bars-clear, unbarred-iff}
-use Rattle.checker.specs.Check.{shapedBarred, pairedBarred, checksBarred, checkBarred}
+use Rattle.bars.proofs.Passed.{costs-small, bars-clear, unbarred_iff}
+use Rattle.checker.specs.Check.{shaped_barred, paired_barred, checks_barred, check_barred}
 use Rattle.checker.specs.Proven.{Accepts, Shown, Fair, BarredPaired}
-use Rattle.checker.proofs.Tests.{rows_named, price-tests-iff}
-use Rattle.checker.proofs.Shown.{answer-least, answer-refused, answer-iff-least}
+use Rattle.checker.proofs.Tests.{rows_named_lem, price_tests_iff}
+use Rattle.checker.proofs.Shown.{answer-least, answer-refused, answer_iff_least}
 
-pub shaped-barred-iff : (n : ℕ) (costs : List ℤ) (a b c d e : ℕ) → Passes (shapedBarred n costs (a ∷ b ∷ c ∷ d ∷ []) e)
-    ↔ ((n ≤ sheetSide) × (length costs ≡ n * n) × (n ≤ a) × (n ≤ b) × (n ≤ c) × (n ≤ d) × (n ≤ e))
-shaped-barred-iff n costs a b c d e = (
+pub shaped_barred_iff : (n : ℕ) (costs : List ℤ) (a b c d e : ℕ) → Passes (shaped_barred n costs (a ∷ b ∷ c ∷ d ∷ []) e)
+    ↔ ((n ≤ sheet_side) × (length costs ≡ n * n) × (n ≤ a) × (n ≤ b) × (n ≤ c) × (n ≤ d) × (n ≤ e))
+shaped_barred_iff n costs a b c d e = (
   λ passed.
-      let t5 = (then-iff _ _).0 passed in
-      let t3 = (then-iff _ _).0 t5.0 in
-      let t2 = (then-iff _ _).0 t3.0 in
-      let long = (lists-long n a b c d).0 t3.1 in
-      ((side-within sheetSide n).0 t2.0, (costs-fill n n costs).0 t2.1, long.first-long, long.second-long, long.third-long, long.fourth-long, (list-long 5 n e).0 t5.1),
+      let t5 = (then_iff _ _).0 passed in
+      let t3 = (then_iff _ _).0 t5.0 in
+      let t2 = (then_iff _ _).0 t3.0 in
+      let long = (lists_long_lem n a b c d).0 t3.1 in
+      ((side-within sheet_side n).0 t2.0, (costs_fill_lem n n costs).0 t2.1, long.first-long, long.second-long, long.third_long, long.fourth_long, (list-long 5 n e).0 t5.1),
   λ h.
-      let t2 = (then-iff _ _).1 ((side-within sheetSide n).1 h.0, (costs-fill n n costs).1 h.1) in
-      let t3 = (then-iff _ _).1 (t2, (lists-long n a b c d).1 (record { first-long = h.2; second-long = h.3; third-long = h.4; fourth-long = h.5 })) in
-      (then-iff _ _).1 (t3, (list-long 5 n e).1 h.6),
+      let t2 = (then_iff _ _).1 ((side-within sheet_side n).1 h.0, (costs_fill_lem n n costs).1 h.1) in
+      let t3 = (then_iff _ _).1 (t2, (lists_long_lem n a b c d).1 (record { first-long = h.2; second-long = h.3; third_long = h.4; fourth_long = h.5 })) in
+      (then_iff _ _).1 (t3, (list-long 5 n e).1 h.6),
 )
 
-pub paired-inside : (n : ℕ) (costs : List ℤ) (cols rows bars : List ℕ) → Passes (pairedBarred n costs cols rows bars) → (i : ℕ) → i < n → at cols i < n
-paired-inside n costs cols rows bars passed = (columns-inside n n cols).0 ((then-iff _ _).0 ((then-iff _ _).0 ((then-iff _ _).0 passed).0).0).1
+pub paired-inside : (n : ℕ) (costs : List ℤ) (cols rows bars : List ℕ) → Passes (paired_barred n costs cols rows bars) → (i : ℕ) → i < n → at cols i < n
+paired-inside n costs cols rows bars passed = (columns-inside n n cols).0 ((then_iff _ _).0 ((then_iff _ _).0 ((then_iff _ _).0 passed).0).0).1
 
 module _ (n : ℕ) (costs : List ℤ) (bars : List ℕ) where
   abbrev night : Night
   night = barred n costs bars
 
   module _ (cols rows : List ℕ) (us vs : List ℤ) where
-    pub checks-barred-iff : Passes (checksBarred n costs cols rows us vs bars) ↔ (BarredPaired n costs bars cols rows × Fair night us vs × Tight night us vs cols)
-    unfolding checksBarred
-    checks-barred-iff = (
+    pub checks_barred_iff : Passes (checks_barred n costs cols rows us vs bars) ↔ (BarredPaired n costs bars cols rows × Fair night us vs × Tight night us vs cols)
+    unfolding checks_barred
+    checks_barred_iff = (
       λ e.
-          let t = (then-iff _ _).0 e in
-          let p = (then-iff _ _).0 t.0 in
-          let t26 = (then-iff _ _).0 p.1 in
-          let t7 = (then-iff _ _).0 t26.0 in
-          let t6 = (then-iff _ _).0 t7.0 in
-          let t5 = (then-iff _ _).0 t6.0 in
-          let s = (shaped-barred-iff n costs (length cols) (length rows) (length us) (length vs) (length bars)).0 p.0 in
-          let prices = (price-tests-iff night cols us vs s.4 s.5).0 t.1 in (
+          let t = (then_iff _ _).0 e in
+          let p = (then_iff _ _).0 t.0 in
+          let t26 = (then_iff _ _).0 p.1 in
+          let t7 = (then_iff _ _).0 t26.0 in
+          let t6 = (then_iff _ _).0 t7.0 in
+          let t5 = (then_iff _ _).0 t6.0 in
+          let s = (shaped_barred_iff n costs (length cols) (length rows) (length us) (length vs) (length bars)).0 p.0 in
+          let prices = (price_tests_iff night cols us vs s.4 s.5).0 t.1 in (
             record {
               small = s.0;
               squared = s.1;
@@ -70,8 +70,8 @@ module _ (n : ℕ) (costs : List ℤ) (bars : List ℕ) where
               bars-listed = s.6;
               within = (costs-small costs).0 t5.0;
               clear = (bars-clear n bars).0 t5.1;
-              named = record { inside = (columns-inside n n cols).0 t6.1; back = (rows_named n cols rows).0 t7.1 };
-              permitted = (unbarred-iff n costs bars cols).0 t26.1;
+              named = record { inside = (columns-inside n n cols).0 t6.1; back = (rows_named_lem n cols rows).0 t7.1 };
+              permitted = (unbarred_iff n costs bars cols).0 t26.1;
             },
             prices.0,
             prices.1,
@@ -80,22 +80,22 @@ module _ (n : ℕ) (costs : List ℤ) (bars : List ℕ) where
           let f = h.0 in
           let us-long = h.1.row-prices.enough in
           let vs-long = h.1.column-prices.enough in
-          let s = (shaped-barred-iff n costs (length cols) (length rows) (length us) (length vs) (length bars)).1
+          let s = (shaped_barred_iff n costs (length cols) (length rows) (length us) (length vs) (length bars)).1
           (f.small, f.squared, f.columns-listed, f.rows-listed, us-long, vs-long, f.bars-listed) in
-          let t5 = (then-iff _ _).1 ((costs-small costs).1 f.within, (bars-clear n bars).1 f.clear) in
-          let t6 = (then-iff _ _).1 (t5, (columns-inside n n cols).1 f.named.inside) in
-          let t7 = (then-iff _ _).1 (t6, (rows_named n cols rows).1 f.named.back) in
-          let t26 = (then-iff _ _).1 (t7, (unbarred-iff n costs bars cols).1 f.permitted) in
-          (then-iff _ _).1 ((then-iff _ _).1 (s, t26), (price-tests-iff night cols us vs us-long vs-long).1 (h.1, h.2)),
+          let t5 = (then_iff _ _).1 ((costs-small costs).1 f.within, (bars-clear n bars).1 f.clear) in
+          let t6 = (then_iff _ _).1 (t5, (columns-inside n n cols).1 f.named.inside) in
+          let t7 = (then_iff _ _).1 (t6, (rows_named_lem n cols rows).1 f.named.back) in
+          let t26 = (then_iff _ _).1 (t7, (unbarred_iff n costs bars cols).1 f.permitted) in
+          (then_iff _ _).1 ((then_iff _ _).1 (s, t26), (price_tests_iff night cols us vs us-long vs-long).1 (h.1, h.2)),
     )
 
     -- It accepts, with the total, exactly what is well-formed and shown by its prices.
-    pub accepted-barred-iff : {t : ℤ} → (checkBarred n costs cols rows us vs bars ≡ Total t)
+    pub accepted_barred_iff : {t : ℤ} → (check_barred n costs cols rows us vs bars ≡ Total t)
         ↔ (BarredPaired n costs bars cols rows × Fair night us vs × Tight night us vs cols × (t ≡ total night cols))
-    unfolding checkBarred
-    accepted-barred-iff {t} = (
-      λ e. let h = (totalled-iff _ _).0 e in let p = checks-barred-iff.0 h.0 in (p.0, p.1, p.2, h.1),
-      λ h. (totalled-iff _ _).1 (checks-barred-iff.1 (h.0, h.1, h.2), h.3),
+    unfolding check_barred
+    accepted_barred_iff {t} = (
+      λ e. let h = (totalled_iff _ _).0 e in let p = checks_barred_iff.0 h.0 in (p.0, p.1, p.2, h.1),
+      λ h. (totalled_iff _ _).1 (checks_barred_iff.1 (h.0, h.1, h.2), h.3),
     )
 
   -- A well-formed pairing is one: the first n columns.
@@ -107,36 +107,36 @@ module _ (n : ℕ) (costs : List ℤ) (bars : List ℕ) where
   -- There are as many columns as rows: none is spare.
   barred-spares : (vs : List ℤ) (cols : List ℕ) → Pairing night cols → SparesNotBelow night vs cols
   barred-spares vs cols p =
-      record { not-below = λ i j hi hj spare. let r = reached (pairing-injective night cols p) j hj in absurd (spare r.0 r.1 r.2) }
+      record { not_below = λ i j hi hj spare. let r = reached (pairing-injective night cols p) j hj in absurd (spare r.0 r.1 r.2) }
 
   barred-shown : (cols rows : List ℕ) (us vs : List ℤ) → BarredPaired n costs bars cols rows → Fair night us vs → Tight night us vs cols → Shown night cols us vs
   barred-shown cols rows us vs f fair tight =
       let p = barred-pairing cols rows f in
       record { pairing = p; feasible = fair.feasible; tight = tight; spares = (spares-first night cols vs).0 (barred-spares vs (take n cols) p) }
 
-  passed-shown : (cols rows : List ℕ) (us vs : List ℤ) → Passes (checksBarred n costs cols rows us vs bars) → Shown night cols us vs
-  passed-shown cols rows us vs e = let h = (checks-barred-iff cols rows us vs).0 e in barred-shown cols rows us vs h.0 h.1 h.2
+  passed-shown : (cols rows : List ℕ) (us vs : List ℤ) → Passes (checks_barred n costs cols rows us vs bars) → Shown night cols us vs
+  passed-shown cols rows us vs e = let h = (checks_barred_iff cols rows us vs).0 e in barred-shown cols rows us vs h.0 h.1 h.2
 
   -- What is accepted is least.
-  pub accepted-barred-least : (cols rows : List ℕ) (us vs : List ℤ) {t : ℤ} → checkBarred n costs cols rows us vs bars ≡ Total t → Least night (take n cols)
-  unfolding checkBarred
-  accepted-barred-least cols rows us vs accepted = answer-least night us vs cols _ _ (passed-shown cols rows us vs) accepted
+  pub accepted_barred_least : (cols rows : List ℕ) (us vs : List ℤ) {t : ℤ} → check_barred n costs cols rows us vs bars ≡ Total t → Least night (take n cols)
+  unfolding check_barred
+  accepted_barred_least cols rows us vs accepted = answer-least night us vs cols _ _ (passed-shown cols rows us vs) accepted
 
   -- The total that is given is its total.
-  pub accepted-barred-total : (cols rows : List ℕ) (us vs : List ℤ) {t : ℤ} → checkBarred n costs cols rows us vs bars ≡ Total t → t ≡ total night (take n cols)
-  accepted-barred-total cols rows us vs accepted = ((accepted-barred-iff cols rows us vs).0 accepted).3 ∙ sym (total_first night cols)
+  pub accepted_barred_total : (cols rows : List ℕ) (us vs : List ℤ) {t : ℤ} → check_barred n costs cols rows us vs bars ≡ Total t → t ≡ total night (take n cols)
+  accepted_barred_total cols rows us vs accepted = ((accepted_barred_iff cols rows us vs).0 accepted).3 ∙ sym (total_first night cols)
 
   -- Prices that are accepted for one pairing: another well-formed one is accepted under them exactly if it is least.
-  pub accepted-barred-iff-least : (cols rows : List ℕ) (us vs : List ℤ) {t : ℤ} → checkBarred n costs cols rows us vs bars ≡ Total t
-      → (other back : List ℕ) → BarredPaired n costs bars other back → Accepts (checkBarred n costs other back us vs bars) ↔ Least night (take n other)
-  unfolding checkBarred
-  accepted-barred-iff-least cols rows us vs accepted other back f =
-      let h = (checks-barred-iff cols rows us vs).0 ((totalled-iff _ _).0 accepted).0 in
-      answer-iff-least night us vs other _ _ cols (barred-shown cols rows us vs h.0 h.1 h.2) (barred-pairing other back f)
-      (passed-shown other back us vs, λ s. (checks-barred-iff other back us vs).1 (f, h.1, s.tight))
+  pub accepted_barred_iff_least : (cols rows : List ℕ) (us vs : List ℤ) {t : ℤ} → check_barred n costs cols rows us vs bars ≡ Total t
+      → (other back : List ℕ) → BarredPaired n costs bars other back → Accepts (check_barred n costs other back us vs bars) ↔ Least night (take n other)
+  unfolding check_barred
+  accepted_barred_iff_least cols rows us vs accepted other back f =
+      let h = (checks_barred_iff cols rows us vs).0 ((totalled_iff _ _).0 accepted).0 in
+      answer_iff_least night us vs other _ _ cols (barred-shown cols rows us vs h.0 h.1 h.2) (barred-pairing other back f)
+      (passed-shown other back us vs, λ s. (checks_barred_iff other back us vs).1 (f, h.1, s.tight))
 
   -- What is not least is refused, whatever rows and prices come with it.
-  pub not-least-barred-refused : (cols rows : List ℕ) (us vs : List ℤ) → ¬ Least night (take n cols)
-      → (refusal : Refusal) × (checkBarred n costs cols rows us vs bars ≡ Refused refusal)
-  unfolding checkBarred
-  not-least-barred-refused cols rows us vs not_least = answer-refused night us vs cols _ _ (passed-shown cols rows us vs) not_least
+  pub not_least_barred_refused : (cols rows : List ℕ) (us vs : List ℤ) → ¬ Least night (take n cols)
+      → (refusal : Refusal) × (check_barred n costs cols rows us vs bars ≡ Refused refusal)
+  unfolding check_barred
+  not_least_barred_refused cols rows us vs not_least = answer-refused night us vs cols _ _ (passed-shown cols rows us vs) not_least

@@ -8,28 +8,28 @@ use native.Mathlib.Omega.{arith}
 use borrow.Author.Tests.{eq-eqb, ne_eqb}
 use lib.Dec.{ltb}
 use lib.IntN.{ℤ}
-use Rattle.matrix.specs.Verdicts.{failsBy, failsAtBy}
+use Rattle.matrix.specs.Verdicts.{fails_by, fails_at_by}
 use Rattle.matrix.proofs.First.{Clear, first_cong}
 use Rattle.checker.specs.Tests.{but}
 
-pub but-self : (s : ℕ) (test : ℕ → Bool) (i : ℕ) → i ≡ s → but s test i ≡ false
-but-self s test i e = ap (λ (t : Bool). not t && test i) (eq-eqb i s e)
+pub but_self : (s : ℕ) (test : ℕ → Bool) (i : ℕ) → i ≡ s → but s test i ≡ false
+but_self s test i e = ap (λ (t : Bool). not t && test i) (eq-eqb i s e)
 
-pub but-other : (s : ℕ) (test : ℕ → Bool) (i : ℕ) → i ≢ s → but s test i ≡ test i
-but-other s test i d = ap (λ (t : Bool). not t && test i) (ne_eqb i s d)
+pub but_other : (s : ℕ) (test : ℕ → Bool) (i : ℕ) → i ≢ s → but s test i ≡ test i
+but_other s test i d = ap (λ (t : Bool). not t && test i) (ne_eqb i s d)
 
 pub but-holds : (s : ℕ) (test : ℕ → Bool) (i : ℕ) → but s test i ≡ true → test i ≡ true
-but-holds s test i e = elim (ℕ_discrete i s) [ yes same ↦ absurd (true≢false (sym e ∙ but-self s test i same)) | no d ↦ sym (but-other s test i d) ∙ e ]
+but-holds s test i e = elim (ℕ_discrete i s) [ yes same ↦ absurd (true≢false (sym e ∙ but_self s test i same)) | no d ↦ sym (but_other s test i d) ∙ e ]
 
 pub but-clear : (s : ℕ) (test : ℕ → Bool) (n : ℕ) → Clear (but s test) n ↔ ((i : ℕ) → i < n → i ≢ s → test i ≡ false)
 but-clear s test n = (
-  λ clear i l d. sym (but-other s test i d) ∙ clear i l,
-  λ h i l. elim (ℕ_discrete i s) [ yes e ↦ but-self s test i e | no d ↦ but-other s test i d ∙ h i l d ],
+  λ clear i l d. sym (but_other s test i d) ∙ clear i l,
+  λ h i l. elim (ℕ_discrete i s) [ yes e ↦ but_self s test i e | no d ↦ but_other s test i d ∙ h i l d ],
 )
 
 -- Row n is no row.
-pub but-none : (number : ℕ) (place : ℕ → ℕ) (slack : ℕ → ℤ) (n : ℕ) (test : ℕ → Bool)
-    → failsAtBy number place slack n (but n test) ≡ failsAtBy number place slack n test
-unfolding failsAtBy
-but-none number place slack n test =
-    ap (λ (k : ℕ). failsBy number (place k) (slack k) (ltb k n)) (first_cong n (but n test) test (λ i l. but-other n test i (λ e. omega arith)))
+pub but_none : (number : ℕ) (place : ℕ → ℕ) (slack : ℕ → ℤ) (n : ℕ) (test : ℕ → Bool)
+    → fails_at_by number place slack n (but n test) ≡ fails_at_by number place slack n test
+unfolding fails_at_by
+but_none number place slack n test =
+    ap (λ (k : ℕ). fails_by number (place k) (slack k) (ltb k n)) (first_cong n (but n test) test (λ i l. but_other n test i (λ e. omega arith)))

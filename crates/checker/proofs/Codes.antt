@@ -9,10 +9,10 @@ use native.Mathlib.Omega.{arith}
 use lib.Dec.{lit<}
 use lib.IntN.{ℤ, pos}
 use lib.ListN.{length}
-use Rattle.lists.proofs.Runs.{first-le}
+use Rattle.lists.proofs.Runs.{first_le}
 use Rattle.assignment.specs.Pairings.{Night, square}
 use Rattle.matrix.specs.Limits.{side}
-use Rattle.matrix.specs.Verdicts.{Passes, ◌then◌, failsIf}
+use Rattle.matrix.specs.Verdicts.{Passes, ◌then◌, fails_if}
 use Rattle.matrix.specs.Refusals.{number_of, place_of}
 use Rattle.matrix.specs.declared.Refusal.{Refusal}
 use Rattle.matrix.specs.declared.Verdict.{Verdict}
@@ -20,121 +20,121 @@ use Rattle.matrix.specs.declared.Verdict.TheVariants.{Passed, Fails}
 use Rattle.matrix.specs.declared.Answer.TheVariants.{Refused}
 use Rattle.matrix.specs.Tests.{shaped}
 use Rattle.matrix.specs.Asked.{Tellable, TellableIn}
-use Rattle.matrix.proofs.SmallLimits.{side-small, sheetSide-within}
+use Rattle.matrix.proofs.SmallLimits.{side-small, sheet_side-within}
 use Rattle.matrix.proofs.Codes.{filled-small, square-small, totalled-small, shaped-small}
-use Rattle.matrix.proofs.Verdicts.{passed_first, Every, then-every, failsBy-every, refused-every, Small, then-small, failsIf-small, failsAtBy-small, failsAt-small}
-use Rattle.matrix.proofs.Passed.{shaped-iff}
-use Rattle.bars.specs.Barred.{nightOf, barred}
-use Rattle.checker.specs.Tests.{over, sparesNotBelow}
-use Rattle.checker.specs.Check.{priceTests, checks, check, shapedBarred, checksBarred, checkBarred, shapedOblong, pairedOblong, checksOblong, checkOblong}
-use Rattle.checker.proofs.Barred.{shaped-barred-iff}
-use Rattle.checker.proofs.Oblong.{shaped-oblong-iff}
+use Rattle.matrix.proofs.Verdicts.{passed_first, Every, then_every, fails_by_every, refused_every, Small, then_small, fails_if-small, fails_at_by-small, fails_at-small}
+use Rattle.matrix.proofs.Passed.{shaped_iff}
+use Rattle.bars.specs.Barred.{night_of, barred}
+use Rattle.checker.specs.Tests.{over, spares_not_below}
+use Rattle.checker.specs.Check.{price_tests, checks, check, shaped_barred, checks_barred, check_barred, shaped_oblong, paired_oblong, checks_oblong, check_oblong}
+use Rattle.checker.proofs.Barred.{shaped_barred_iff}
+use Rattle.checker.proofs.Oblong.{shaped_oblong_iff}
 
 -- 8, 9 and 10, of any night within the limits.
-pub prices-small : (night : Night) (cols : List ℕ) (us vs : List ℤ) → night.rowCount ≤ side → night.columnCount ≤ side → Small (priceTests night cols us vs)
+pub prices-small : (night : Night) (cols : List ℕ) (us vs : List ℤ) → night.row_count ≤ side → night.column_count ≤ side → Small (price_tests night cols us vs)
 prices-small night cols us vs h k =
-    let m = night.rowCount in
-    let n = night.columnCount in
+    let m = night.row_count in
+    let n = night.column_count in
     let places = filled-small m n (m * n) h k refl in
-    then-small _ _
-    (then-small _ _
-    (then-small _ _ (failsAt-small _ _ _ _ (lit< tt) (λ i l. omega (arith, side-small))) (λ g. failsAt-small _ _ _ _ (lit< tt) (λ j l. omega (arith, side-small))))
-    (λ g. failsAtBy-small _ _ _ _ _ (lit< tt) (λ i l. omega (arith, side-small, places, mul-le-mul_right n (le_of_lt l), first-le (over night us vs i) n))))
-    (λ g. failsAtBy-small _ _ _ _ _ (lit< tt) (λ i l. omega (arith, side-small)))
+    then_small _ _
+    (then_small _ _
+    (then_small _ _ (fails_at-small _ _ _ _ (lit< tt) (λ i l. omega (arith, side-small))) (λ g. fails_at-small _ _ _ _ (lit< tt) (λ j l. omega (arith, side-small))))
+    (λ g. fails_at_by-small _ _ _ _ _ (lit< tt) (λ i l. omega (arith, side-small, places, mul-le-mul_right n (le_of_lt l), first_le (over night us vs i) n))))
+    (λ g. fails_at_by-small _ _ _ _ _ (lit< tt) (λ i l. omega (arith, side-small)))
 
 pub check-places : (n : ℕ) (costs : List ℤ) (cols rows : List ℕ) (us vs : List ℤ) → TellableIn (check n costs cols rows us vs)
 unfolding check checks
 check-places n costs cols rows us vs =
     totalled-small _ _
-    (then-small _ _ (shaped-small n costs (length cols) (length rows) (length us) (length vs))
+    (then_small _ _ (shaped-small n costs (length cols) (length rows) (length us) (length vs))
     (λ e. let h = small e in
-    then-small _ _
-    (then-small _ _
-    (then-small _ _ (failsAt-small _ _ _ _ (lit< tt) (λ k l. omega (arith, h.1))) (λ f. failsAt-small _ _ _ _ (lit< tt) (λ i l. omega (arith, h.0, side-small))))
-    (λ f. failsAt-small _ _ _ _ (lit< tt) (λ i l. omega (arith, h.0, side-small))))
+    then_small _ _
+    (then_small _ _
+    (then_small _ _ (fails_at-small _ _ _ _ (lit< tt) (λ k l. omega (arith, h.1))) (λ f. fails_at-small _ _ _ _ (lit< tt) (λ i l. omega (arith, h.0, side-small))))
+    (λ f. fails_at-small _ _ _ _ (lit< tt) (λ i l. omega (arith, h.0, side-small))))
     (λ f. prices-small (square n costs) cols us vs h.0 h.0)))
   where
     small : Passes (shaped n costs (length cols ∷ length rows ∷ length us ∷ length vs ∷ [])) → (n ≤ side) × (length costs ≤ 2 ^ 32)
     small e =
-        let h = (shaped-iff n costs (length cols) (length rows) (length us) (length vs)).0 e in
+        let h = (shaped_iff n costs (length cols) (length rows) (length us) (length vs)).0 e in
         (h.small, square-small n (length costs) h.small h.squared)
 
-pub check-barred-places : (n : ℕ) (costs : List ℤ) (cols rows : List ℕ) (us vs : List ℤ) (bars : List ℕ) → TellableIn (checkBarred n costs cols rows us vs bars)
-unfolding checkBarred checksBarred
-check-barred-places n costs cols rows us vs bars =
+pub check_barred_places : (n : ℕ) (costs : List ℤ) (cols rows : List ℕ) (us vs : List ℤ) (bars : List ℕ) → TellableIn (check_barred n costs cols rows us vs bars)
+unfolding check_barred checks_barred
+check_barred_places n costs cols rows us vs bars =
     totalled-small _ _
-    (then-small _ _
-    (then-small _ _
-    (then-small _ _
-    (then-small _ _
-    (then-small _ _ (failsIf-small _ _ _ (lit< tt) (λ e. lit< tt)) (λ e. failsIf-small _ _ _ (lit< tt) (λ e. lit< tt)))
-    (λ e. failsAt-small _ _ _ _ (lit< tt) (λ k l. omega arith)))
-    (λ e. failsIf-small _ _ _ (lit< tt) (λ e. lit< tt)))
+    (then_small _ _
+    (then_small _ _
+    (then_small _ _
+    (then_small _ _
+    (then_small _ _ (fails_if-small _ _ _ (lit< tt) (λ e. lit< tt)) (λ e. fails_if-small _ _ _ (lit< tt) (λ e. lit< tt)))
+    (λ e. fails_at-small _ _ _ _ (lit< tt) (λ k l. omega arith)))
+    (λ e. fails_if-small _ _ _ (lit< tt) (λ e. lit< tt)))
     (λ e. let h = small e in
-    then-small _ _
-    (then-small _ _
-    (then-small _ _
-    (then-small _ _ (failsAt-small _ _ _ _ (lit< tt) (λ k l. omega (arith, h.1))) (λ f. failsAt-small _ _ _ _ (lit< tt) (λ i l. omega (arith, h.0, side-small))))
-    (λ f. failsAt-small _ _ _ _ (lit< tt) (λ i l. omega (arith, h.0, side-small))))
-    (λ f. failsAt-small _ _ _ _ (lit< tt) (λ i l. omega (arith, h.0, side-small))))
-    (λ f. failsAt-small _ _ _ _ (lit< tt) (λ i l. omega (arith, h.0, side-small)))))
+    then_small _ _
+    (then_small _ _
+    (then_small _ _
+    (then_small _ _ (fails_at-small _ _ _ _ (lit< tt) (λ k l. omega (arith, h.1))) (λ f. fails_at-small _ _ _ _ (lit< tt) (λ i l. omega (arith, h.0, side-small))))
+    (λ f. fails_at-small _ _ _ _ (lit< tt) (λ i l. omega (arith, h.0, side-small))))
+    (λ f. fails_at-small _ _ _ _ (lit< tt) (λ i l. omega (arith, h.0, side-small))))
+    (λ f. fails_at-small _ _ _ _ (lit< tt) (λ i l. omega (arith, h.0, side-small)))))
     (λ e. let h = small (passed_first _ _ e) in prices-small (barred n costs bars) cols us vs h.0 h.0))
   where
-    small : Passes (shapedBarred n costs (length cols ∷ length rows ∷ length us ∷ length vs ∷ []) (length bars)) → (n ≤ side) × (length costs ≤ 2 ^ 32)
+    small : Passes (shaped_barred n costs (length cols ∷ length rows ∷ length us ∷ length vs ∷ []) (length bars)) → (n ≤ side) × (length costs ≤ 2 ^ 32)
     small e =
-        let h = (shaped-barred-iff n costs (length cols) (length rows) (length us) (length vs) (length bars)).0 e in
-        let s = le_trans h.0 sheetSide-within in
+        let h = (shaped_barred_iff n costs (length cols) (length rows) (length us) (length vs) (length bars)).0 e in
+        let s = le_trans h.0 sheet_side-within in
         (s, square-small n (length costs) s h.1)
 
 -- An oblong night's: 23 names the row count, whatever it is; every other place is far below 2^48.
 abbrev Placed : ℕ → Refusal → Type 0
 Placed m refusal = (number_of refusal < 256) × ((place_of refusal < 2 ^ 48) ⊎ (place_of refusal ≡ m))
 
-small-placed : (m : ℕ) (verdict : Verdict) → Small verdict → Every (Placed m) verdict
-small-placed m Passed h = tt
-small-placed m (Fails refusal) h = (h.0, inl h.1)
+small_placed : (m : ℕ) (verdict : Verdict) → Small verdict → Every (Placed m) verdict
+small_placed m Passed h = tt
+small_placed m (Fails refusal) h = (h.0, inl h.1)
 
-oblong-placed : (m n : ℕ) (costs : List ℤ) (cols : List ℕ) (us vs : List ℤ) → Every (Placed m) (checksOblong m n costs cols us vs)
-unfolding checksOblong
-oblong-placed m n costs cols us vs =
+oblong_placed : (m n : ℕ) (costs : List ℤ) (cols : List ℕ) (us vs : List ℤ) → Every (Placed m) (checks_oblong m n costs cols us vs)
+unfolding checks_oblong
+oblong_placed m n costs cols us vs =
     both _ _
     (both _ _
     (both _ _
     (both _ _
     (both _ _
     (both _ _
-    (both _ _ (both _ _ (if-small _ 0 _ (lit< tt) (lit< tt)) (λ e. failsBy-every (Placed m) _ _ _ _ (λ f. (lit< tt, inr refl)))) (λ e. if-small _ 0 _ (lit< tt) (lit< tt)))
-    (λ e. if-small _ 1 _ (lit< tt) (lit< tt)))
-    (λ e. if-small _ 3 _ (lit< tt) (lit< tt)))
-    (λ e. if-small _ 4 _ (lit< tt) (lit< tt)))
-    (λ e. let h = small e in small-placed m (pairedOblong m n costs cols)
-    (then-small _ _
-    (then-small _ _ (failsAt-small _ _ _ _ (lit< tt) (λ k l. omega (arith, h.2))) (λ f. failsAt-small _ _ _ _ (lit< tt) (λ i l. omega (arith, h.0, side-small))))
-    (λ f. failsAt-small _ _ _ _ (lit< tt) (λ i l. omega (arith, h.0, side-small))))))
-    (λ e. let h = small (passed_first _ _ e) in small-placed m (priceTests (nightOf m n costs []) cols us vs) (prices-small (nightOf m n costs []) cols us vs h.0 h.1)))
-    (λ e. let h = small (passed_first _ _ (passed_first _ _ e)) in small-placed m (sparesNotBelow m n cols vs) (failsAt-small _ _ _ _ (lit< tt) (λ j l. omega (arith, h.1, side-small))))
+    (both _ _ (both _ _ (if_small _ 0 _ (lit< tt) (lit< tt)) (λ e. fails_by_every (Placed m) _ _ _ _ (λ f. (lit< tt, inr refl)))) (λ e. if_small _ 0 _ (lit< tt) (lit< tt)))
+    (λ e. if_small _ 1 _ (lit< tt) (lit< tt)))
+    (λ e. if_small _ 3 _ (lit< tt) (lit< tt)))
+    (λ e. if_small _ 4 _ (lit< tt) (lit< tt)))
+    (λ e. let h = small e in small_placed m (paired_oblong m n costs cols)
+    (then_small _ _
+    (then_small _ _ (fails_at-small _ _ _ _ (lit< tt) (λ k l. omega (arith, h.2))) (λ f. fails_at-small _ _ _ _ (lit< tt) (λ i l. omega (arith, h.0, side-small))))
+    (λ f. fails_at-small _ _ _ _ (lit< tt) (λ i l. omega (arith, h.0, side-small))))))
+    (λ e. let h = small (passed_first _ _ e) in small_placed m (price_tests (night_of m n costs []) cols us vs) (prices-small (night_of m n costs []) cols us vs h.0 h.1)))
+    (λ e. let h = small (passed_first _ _ (passed_first _ _ e)) in small_placed m (spares_not_below m n cols vs) (fails_at-small _ _ _ _ (lit< tt) (λ j l. omega (arith, h.1, side-small))))
   where
     both : (a b : Verdict) → Every (Placed m) a → (Passes a → Every (Placed m) b) → Every (Placed m) (a then b)
-    both = then-every (Placed m)
+    both = then_every (Placed m)
 
-    if-small : (number place : ℕ) (test : Bool) → number < 256 → place < 2 ^ 48 → Every (Placed m) (failsIf number place test)
-    if-small number place test a b = failsBy-every (Placed m) number place (pos 0) test (λ f. (a, inl b))
+    if_small : (number place : ℕ) (test : Bool) → number < 256 → place < 2 ^ 48 → Every (Placed m) (fails_if number place test)
+    if_small number place test a b = fails_by_every (Placed m) number place (pos 0) test (λ f. (a, inl b))
 
-    small : Passes (shapedOblong m n costs (length cols) (length us) (length vs)) → (m ≤ side) × (n ≤ side) × (length costs ≤ 2 ^ 32)
+    small : Passes (shaped_oblong m n costs (length cols) (length us) (length vs)) → (m ≤ side) × (n ≤ side) × (length costs ≤ 2 ^ 32)
     small e =
-        let h = (shaped-oblong-iff m n costs (length cols) (length us) (length vs)).0 e in
-        let s = le_trans h.0 sheetSide-within in
+        let h = (shaped_oblong_iff m n costs (length cols) (length us) (length vs)).0 e in
+        let s = le_trans h.0 sheet_side-within in
         (le_trans h.1 s, s, filled-small m n (length costs) (le_trans h.1 s) s h.2)
 
 -- So each has a number below 256, and is one number where the row count is below 2^48.
-pub check-oblong-numbers : (m n : ℕ) (costs : List ℤ) (cols : List ℕ) (us vs : List ℤ) {refusal : Refusal}
-    → checkOblong m n costs cols us vs ≡ Refused refusal → number_of refusal < 256
-unfolding checkOblong
-check-oblong-numbers m n costs cols us vs e = (refused-every (Placed m) _ _ (oblong-placed m n costs cols us vs) e).0
+pub check_oblong_numbers : (m n : ℕ) (costs : List ℤ) (cols : List ℕ) (us vs : List ℤ) {refusal : Refusal}
+    → check_oblong m n costs cols us vs ≡ Refused refusal → number_of refusal < 256
+unfolding check_oblong
+check_oblong_numbers m n costs cols us vs e = (refused_every (Placed m) _ _ (oblong_placed m n costs cols us vs) e).0
 
-pub check-oblong-places : (m n : ℕ) (costs : List ℤ) (cols : List ℕ) (us vs : List ℤ) → m < 2 ^ 48 → {refusal : Refusal}
-    → checkOblong m n costs cols us vs ≡ Refused refusal → Tellable refusal
-unfolding checkOblong
-check-oblong-places m n costs cols us vs l e =
-    let h = refused-every (Placed m) _ _ (oblong-placed m n costs cols us vs) e in
+pub check_oblong_places : (m n : ℕ) (costs : List ℤ) (cols : List ℕ) (us vs : List ℤ) → m < 2 ^ 48 → {refusal : Refusal}
+    → check_oblong m n costs cols us vs ≡ Refused refusal → Tellable refusal
+unfolding check_oblong
+check_oblong_places m n costs cols us vs l e =
+    let h = refused_every (Placed m) _ _ (oblong_placed m n costs cols us vs) e in
     (h.0, ⊎_elim (λ b. b) (λ s. omega arith) h.1)

@@ -5,17 +5,17 @@ use Prim.Native.Nat.{ℕ}
 use lib.IntN.{ℤ}
 use Rattle.matrix.specs.Answers.{values_of}
 use Rattle.matrix.specs.declared.Answer.{Answer}
-use Rattle.matrix.proofs.Determined.{values-determine}
-use Rattle.checker.specs.Check.{check, checkBarred, checkOblong}
+use Rattle.matrix.proofs.Determined.{values_determine}
+use Rattle.checker.specs.Check.{check, check_barred, check_oblong}
 
-pub check-determined : (n : ℕ) (costs : List ℤ) (cols rows : List ℕ) (us vs : List ℤ) (answer other : Answer)
+pub check_determined : (n : ℕ) (costs : List ℤ) (cols rows : List ℕ) (us vs : List ℤ) (answer other : Answer)
     → values_of answer ≡ values_of (check n costs cols rows us vs) → values_of other ≡ values_of (check n costs cols rows us vs) → answer ≡ other
-check-determined n costs cols rows us vs answer other e f = values-determine answer other (e ∙ sym f)
+check_determined n costs cols rows us vs answer other e f = values_determine answer other (e ∙ sym f)
 
-pub check-barred-determined : (n : ℕ) (costs : List ℤ) (cols rows : List ℕ) (us vs : List ℤ) (bars : List ℕ) (answer other : Answer)
-    → values_of answer ≡ values_of (checkBarred n costs cols rows us vs bars) → values_of other ≡ values_of (checkBarred n costs cols rows us vs bars) → answer ≡ other
-check-barred-determined n costs cols rows us vs bars answer other e f = values-determine answer other (e ∙ sym f)
+pub check_barred_determined : (n : ℕ) (costs : List ℤ) (cols rows : List ℕ) (us vs : List ℤ) (bars : List ℕ) (answer other : Answer)
+    → values_of answer ≡ values_of (check_barred n costs cols rows us vs bars) → values_of other ≡ values_of (check_barred n costs cols rows us vs bars) → answer ≡ other
+check_barred_determined n costs cols rows us vs bars answer other e f = values_determine answer other (e ∙ sym f)
 
-pub check-oblong-determined : (m n : ℕ) (costs : List ℤ) (cols : List ℕ) (us vs : List ℤ) (answer other : Answer)
-    → values_of answer ≡ values_of (checkOblong m n costs cols us vs) → values_of other ≡ values_of (checkOblong m n costs cols us vs) → answer ≡ other
-check-oblong-determined m n costs cols us vs answer other e f = values-determine answer other (e ∙ sym f)
+pub check_oblong_determined : (m n : ℕ) (costs : List ℤ) (cols : List ℕ) (us vs : List ℤ) (answer other : Answer)
+    → values_of answer ≡ values_of (check_oblong m n costs cols us vs) → values_of other ≡ values_of (check_oblong m n costs cols us vs) → answer ≡ other
+check_oblong_determined m n costs cols us vs answer other e f = values_determine answer other (e ∙ sym f)

@@ -13,39 +13,39 @@ use Rattle.ints.specs.Parts.{Within}
 use Rattle.lists.specs.Permutations.{at}
 use Rattle.lists.specs.Counts.{bit_of}
 use Rattle.lists.proofs.Runs.{first-before}
-use Rattle.assignment.specs.Pairings.{Night, Pairing, square, total, signedAt}
+use Rattle.assignment.specs.Pairings.{Night, Pairing, square, total, signed_at}
 use Rattle.assignment.specs.Prices.{Feasible, Tight}
 use Rattle.assignment.specs.Padded.{padded}
-use Rattle.assignment.proofs.Square.{square-named-pairing}
+use Rattle.assignment.proofs.Square.{square_named_pairing}
 use Rattle.assignment.proofs.Longer.{tight-first, spares-first}
 use Rattle.assignment.proofs.Padded.{padded-feasible, padded-tight, padded-spares}
-use Rattle.matrix.specs.Limits.{sheetSide, K}
+use Rattle.matrix.specs.Limits.{sheet_side, K}
 use Rattle.matrix.specs.declared.Answer.TheVariants.{Total}
-use Rattle.bars.specs.Barred.{nightOf, barred, firstBarred, bitsAbove, filledCosts}
-use Rattle.bars.specs.Tests.{barredMost}
-use Rattle.bars.proofs.Passed.{none-barred}
+use Rattle.bars.specs.Barred.{night_of, barred, first_barred, bits_above, filled_costs}
+use Rattle.bars.specs.Tests.{barred_most}
+use Rattle.bars.proofs.Passed.{none_barred_lem}
 use Rattle.bars.proofs.Filled.{filled-feasible}
 use Rattle.bars.proofs.Barred.{filled-cost, filled-fair}
-use Rattle.checker.specs.Check.{checkBarred, checkOblong}
+use Rattle.checker.specs.Check.{check_barred, check_oblong}
 use Rattle.checker.specs.Proven.{Prices, Proven}
-use Rattle.checker.proofs.Barred.{accepted-barred-iff}
-use Rattle.checker.proofs.Oblong.{accepted-oblong-iff}
+use Rattle.checker.proofs.Barred.{accepted_barred_iff}
+use Rattle.checker.proofs.Oblong.{accepted_oblong_iff}
 
 -- The filled costs: any cost on the barred places.
-module _ (n : ℕ) (dear : ℤ) (costs : List ℤ) (bars : List ℕ) (small : n ≤ sheetSide) (squared : length costs ≡ n * n) (listed : n ≤ length bars)
-    (within : (k : ℕ) → k < length costs → Within barredMost (signedAt costs k)) (clear : (i : ℕ) → i < n → bitsAbove n (at bars i) ≡ false) where
+module _ (n : ℕ) (dear : ℤ) (costs : List ℤ) (bars : List ℕ) (small : n ≤ sheet_side) (squared : length costs ≡ n * n) (listed : n ≤ length bars)
+    (within : (k : ℕ) → k < length costs → Within barred_most (signed_at costs k)) (clear : (i : ℕ) → i < n → bits_above n (at bars i) ≡ false) where
   abbrev night : Night
   night = barred n costs bars
 
-  module _ (cols rows : List ℕ) (us vs : List ℤ) (proven : Proven n (filledCosts n dear costs bars) cols rows us vs) (free : n ≤ firstBarred n bars cols) where
+  module _ (cols rows : List ℕ) (us vs : List ℤ) (proven : Proven n (filled_costs n dear costs bars) cols rows us vs) (free : n ≤ first_barred n bars cols) where
     allowed : (i : ℕ) → i < n → night.allowed i (at cols i) ≡ true
     allowed i l = ap not (first-before (λ k. bit_of (at bars k) (at cols k)) n i (lt_of_lt_of_le l free))
 
     met : Tight night us vs cols
     met = record { met = λ i l. rw (allowed i l) at (proven.tight.met i l ∙ filled-cost n dear costs bars i (at cols i) l (proven.named.inside i l)) }
 
-    pub filled-accepted : checkBarred n costs cols rows us vs bars ≡ Total (total night cols)
-    filled-accepted = (accepted-barred-iff n costs bars cols rows us vs).1 (
+    pub filled-accepted : check_barred n costs cols rows us vs bars ≡ Total (total night cols)
+    filled-accepted = (accepted_barred_iff n costs bars cols rows us vs).1 (
       record {
         small = small;
         squared = squared;
@@ -67,14 +67,14 @@ module _ (n : ℕ) (dear : ℤ) (costs : List ℤ) (bars : List ℕ) (small : n 
     )
 
 -- The padded night: only its first m rows are listed of what shows it.
-module _ (m n : ℕ) (costs : List ℤ) (small : n ≤ sheetSide) (fits : m ≤ n) (filled : length costs ≡ m * n)
-    (within : (k : ℕ) → k < length costs → Within K (signedAt costs k)) (cols : List ℕ) (us vs : List ℤ) (row-prices : Prices n us) (column-prices : Prices n vs) where
+module _ (m n : ℕ) (costs : List ℤ) (small : n ≤ sheet_side) (fits : m ≤ n) (filled : length costs ≡ m * n)
+    (within : (k : ℕ) → k < length costs → Within K (signed_at costs k)) (cols : List ℕ) (us vs : List ℤ) (row-prices : Prices n us) (column-prices : Prices n vs) where
   abbrev oblong : Night
-  oblong = nightOf m n costs []
+  oblong = night_of m n costs []
 
   pub padded-accepted : Feasible (padded oblong) us vs → Pairing (padded oblong) cols → Tight (padded oblong) us vs cols
-      → checkOblong m n costs cols us vs ≡ Total (total oblong cols)
-  padded-accepted fair p tight = (accepted-oblong-iff m n costs cols us vs).1 (
+      → check_oblong m n costs cols us vs ≡ Total (total oblong cols)
+  padded-accepted fair p tight = (accepted_oblong_iff m n costs cols us vs).1 (
     record {
       small = small;
       fits = fits;
@@ -101,12 +101,12 @@ module _ (m n : ℕ) (costs : List ℤ) (small : n ≤ sheetSide) (fits : m ≤ 
     allowed_all i j = by (ltb i m) refl
       where
         by : (t : Bool) → ltb i m ≡ t → (padded oblong).allowed i j ≡ true
-        by true e = rw e (none-barred m n costs i j)
+        by true e = rw e (none_barred_lem m n costs i j)
         by false e = rw e
 
-    pub padded-proven-accepted : checkOblong m n costs cols us vs ≡ Total (total oblong cols)
-    padded-proven-accepted =
-        let p = square-named-pairing n square-costs cols rows size proven.named in
+    pub padded_proven_accepted : check_oblong m n costs cols us vs ≡ Total (total oblong cols)
+    padded_proven_accepted =
+        let p = square_named_pairing n square-costs cols rows size proven.named in
         padded-accepted
         (record { under = λ i j l h e. rw (reads i j l h) at (proven.feasible.under i j l h refl) })
         (record { size = p.size; inside = p.inside; apart = p.apart; permitted = λ i l. allowed_all i (at cols i) })

@@ -15,48 +15,48 @@ use Rattle.matrix.specs.declared.Refusal.{Refusal}
 use Rattle.matrix.specs.declared.Verdict.{Verdict}
 use Rattle.matrix.specs.declared.Verdict.TheVariants.{Passed, Fails}
 use Rattle.matrix.specs.declared.Answer.TheVariants.{Total, Refused}
-use Rattle.matrix.proofs.Verdicts.{totalled-iff, fails-totalled}
+use Rattle.matrix.proofs.Verdicts.{totalled_iff, fails_totalled}
 use Rattle.checker.specs.Proven.{Accepts, Shown}
 
 module _ (night : Night) (us vs : List ℤ) where
-  pub shown-least : (cols : List ℕ) → Shown night cols us vs → Least night (take night.rowCount cols)
+  pub shown-least : (cols : List ℕ) → Shown night cols us vs → Least night (take night.row_count cols)
   shown-least cols s =
-      prices-least night us vs s.feasible (take night.rowCount cols) s.pairing ((tight-first night cols us vs).1 s.tight)
+      prices-least night us vs s.feasible (take night.row_count cols) s.pairing ((tight-first night cols us vs).1 s.tight)
       ((spares-first night cols vs).1 s.spares)
 
   -- With prices that show one pairing held fixed: another is shown exactly if it is least.
-  pub shown-iff-least : (cols : List ℕ) → Shown night cols us vs → (other : List ℕ) → Pairing night (take night.rowCount other)
-      → Shown night other us vs ↔ Least night (take night.rowCount other)
-  shown-iff-least cols s other p = (
+  pub shown_iff_least : (cols : List ℕ) → Shown night cols us vs → (other : List ℕ) → Pairing night (take night.row_count other)
+      → Shown night other us vs ↔ Least night (take night.row_count other)
+  shown_iff_least cols s other p = (
     shown-least other,
     λ least.
-        let h = (least_iff night us vs s.feasible (take night.rowCount cols) s.pairing ((tight-first night cols us vs).1 s.tight) ((spares-first night cols vs).1 s.spares) (take night.rowCount other) p).0 least in
+        let h = (least_iff night us vs s.feasible (take night.row_count cols) s.pairing ((tight-first night cols us vs).1 s.tight) ((spares-first night cols vs).1 s.spares) (take night.row_count other) p).0 least in
         record { pairing = p; feasible = s.feasible; tight = (tight-first night other us vs).0 h.0; spares = (spares-first night other vs).0 h.1 },
   )
 
   -- What is not least fails, in any hall of tests whose pass shows a pairing.
-  pub not-least-fails : (cols : List ℕ) (verdict : Verdict) → (Passes verdict → Shown night cols us vs) → ¬ Least night (take night.rowCount cols)
+  pub not_least_fails : (cols : List ℕ) (verdict : Verdict) → (Passes verdict → Shown night cols us vs) → ¬ Least night (take night.row_count cols)
       → (refusal : Refusal) × (verdict ≡ Fails refusal)
-  not-least-fails cols Passed shows not_least = absurd (not_least (shown-least cols (shows refl)))
-  not-least-fails cols (Fails refusal) shows not_least = (refusal, refl)
+  not_least_fails cols Passed shows not_least = absurd (not_least (shown-least cols (shows refl)))
+  not_least_fails cols (Fails refusal) shows not_least = (refusal, refl)
 
   -- ---- a checker: an answer that gives a total where a hall of tests is passed, and its refusal where not
 
   module _ (cols : List ℕ) (verdict : Verdict) (total : ℤ) where
     -- A pass shows the pairing: what is accepted is least, and what is not least is refused.
-    pub answer-least : (Passes verdict → Shown night cols us vs) → {t : ℤ} → totalled verdict total ≡ Total t → Least night (take night.rowCount cols)
-    answer-least shows accepted = shown-least cols (shows ((totalled-iff verdict total).0 accepted).0)
+    pub answer-least : (Passes verdict → Shown night cols us vs) → {t : ℤ} → totalled verdict total ≡ Total t → Least night (take night.row_count cols)
+    answer-least shows accepted = shown-least cols (shows ((totalled_iff verdict total).0 accepted).0)
 
-    pub answer-refused : (Passes verdict → Shown night cols us vs) → ¬ Least night (take night.rowCount cols) → (refusal : Refusal) × (totalled verdict total ≡ Refused refusal)
+    pub answer-refused : (Passes verdict → Shown night cols us vs) → ¬ Least night (take night.row_count cols) → (refusal : Refusal) × (totalled verdict total ≡ Refused refusal)
     answer-refused shows not_least =
-        let r = not-least-fails cols verdict shows not_least in
-        (r.0, sym (fails-totalled total r.1))
+        let r = not_least_fails cols verdict shows not_least in
+        (r.0, sym (fails_totalled total r.1))
 
     -- Where it is passed exactly if the pairing is shown, with prices that show some pairing: accepted is least.
-    pub answer-iff-least : (some : List ℕ) → Shown night some us vs → Pairing night (take night.rowCount cols) → (Passes verdict ↔ Shown night cols us vs)
-        → Accepts (totalled verdict total) ↔ Least night (take night.rowCount cols)
-    answer-iff-least some s p passes =
-        let i = shown-iff-least some s cols p in (
-          λ a. i.0 (passes.0 ((totalled-iff verdict total).0 a.1).0),
-          λ least. (total, (totalled-iff verdict total).1 (passes.1 (i.1 least), refl)),
+    pub answer_iff_least : (some : List ℕ) → Shown night some us vs → Pairing night (take night.row_count cols) → (Passes verdict ↔ Shown night cols us vs)
+        → Accepts (totalled verdict total) ↔ Least night (take night.row_count cols)
+    answer_iff_least some s p passes =
+        let i = shown_iff_least some s cols p in (
+          λ a. i.0 (passes.0 ((totalled_iff verdict total).0 a.1).0),
+          λ least. (total, (totalled_iff verdict total).1 (passes.1 (i.1 least), refl)),
         )

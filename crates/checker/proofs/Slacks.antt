@@ -13,57 +13,57 @@ use lib.ListN.{length}
 use lib.Signed.{lt_z, ◌<ℤ◌, ◌≤ℤ◌}
 use Rattle.ints.specs.Parts.{Within}
 use Rattle.ints.proofs.Sums.{sum, dif}
-use Rattle.ints.proofs.Ranges.{zarith, within-mono}
-use Rattle.ints.proofs.Tests.{le-or-lt}
+use Rattle.ints.proofs.Ranges.{zarith, within_mono}
+use Rattle.ints.proofs.Tests.{le_or_lt}
 use Rattle.lists.specs.Permutations.{at}
 use Rattle.lists.proofs.Runs.{first_holds}
-use Rattle.assignment.specs.Pairings.{Night, square, signedAt}
+use Rattle.assignment.specs.Pairings.{Night, square, signed_at}
 use Rattle.assignment.specs.Prices.{priced}
 use Rattle.matrix.specs.Limits.{K}
-use Rattle.matrix.specs.Verdicts.{Passes, failsIf, failsAt}
+use Rattle.matrix.specs.Verdicts.{Passes, fails_if, fails_at}
 use Rattle.matrix.specs.Refusals.{PricesOverCost, PricesNotCost}
-use Rattle.matrix.specs.Tests.{pricesWithin}
+use Rattle.matrix.specs.Tests.{prices_within}
 use Rattle.matrix.specs.declared.Refusal.{Refusal}
 use Rattle.matrix.specs.declared.Answer.TheVariants.{Refused}
 use Rattle.matrix.proofs.Places.{place_in, place-below}
-use Rattle.matrix.proofs.Verdicts.{then-iff, Every, then-every, failsBy-every, failsAtBy-every, refused-every}
-use Rattle.matrix.proofs.Passed.{shaped-iff, costs-within, columns-inside, prices-within}
-use Rattle.bars.specs.Barred.{nightOf, barred}
-use Rattle.bars.proofs.Passed.{barredMost-small, costs-small, none-barred, unbarred-iff}
-use Rattle.checker.specs.Tests.{slack, over, overFirst, overIn, refusedOver, underCosts, differ, loose, refusedLoose, tightOn}
-use Rattle.checker.specs.Check.{priceTests, checks, check, checksBarred, checkBarred, checksOblong, checkOblong}
+use Rattle.matrix.proofs.Verdicts.{then_iff, Every, then_every, fails_by_every, fails_at_by_every, refused_every}
+use Rattle.matrix.proofs.Passed.{shaped_iff, costs-within, columns-inside, prices-within}
+use Rattle.bars.specs.Barred.{night_of, barred}
+use Rattle.bars.proofs.Passed.{barred_most-small, costs-small, none_barred_lem, unbarred_iff}
+use Rattle.checker.specs.Tests.{slack, over, over_first, over_in, refused_over, under_costs, differ, loose, refused_loose, tight_on}
+use Rattle.checker.specs.Check.{price_tests, checks, check, checks_barred, check_barred, checks_oblong, check_oblong}
 use Rattle.checker.specs.Slacks.{SlackRight}
 use Rattle.checker.proofs.Places.{differ_same}
 use Rattle.checker.proofs.Tests.{under-costs}
-use Rattle.checker.proofs.Barred.{shaped-barred-iff}
-use Rattle.checker.proofs.Oblong.{shaped-oblong-iff}
+use Rattle.checker.proofs.Barred.{shaped_barred_iff}
+use Rattle.checker.proofs.Oblong.{shaped_oblong_iff}
 
 -- A refusal that is neither 9 nor 10.
 pub neither_right : (number place : ℕ) → ¬ (number ≡ PricesOverCost) → ¬ (number ≡ PricesNotCost) → SlackRight (record { number = number; place = place; slack = pos 0 })
 neither_right number place nine ten =
-    record { nine-negative = λ e. absurd (nine e); ten-positive = λ e. absurd (ten e); others-none = λ e f. refl; within = omega zarith }
+    record { nine_negative = λ e. absurd (nine e); ten_positive = λ e. absurd (ten e); others_none = λ e f. refl; within = omega zarith }
 
-neither-if : (number place : ℕ) (test : Bool) → 10 < number → Every SlackRight (failsIf number place test)
-neither-if number place test l = failsBy-every SlackRight number place (pos 0) test (λ e. neither_right number place (λ s. omega arith) (λ s. omega arith))
+neither_if : (number place : ℕ) (test : Bool) → 10 < number → Every SlackRight (fails_if number place test)
+neither_if number place test l = fails_by_every SlackRight number place (pos 0) test (λ e. neither_right number place (λ s. omega arith) (λ s. omega arith))
 
-pub neither-at : (number : ℕ) (place : ℕ → ℕ) (n : ℕ) (test : ℕ → Bool) → 10 < number → Every SlackRight (failsAt number place n test)
-neither-at number place n test l =
-    failsAtBy-every SlackRight number place (λ k. pos 0) n test (λ k h e clear. neither_right number (place k) (λ s. omega arith) (λ s. omega arith))
+pub neither_at : (number : ℕ) (place : ℕ → ℕ) (n : ℕ) (test : ℕ → Bool) → 10 < number → Every SlackRight (fails_at number place n test)
+neither_at number place n test l =
+    fails_at_by_every SlackRight number place (λ k. pos 0) n test (λ k h e clear. neither_right number (place k) (λ s. omega arith) (λ s. omega arith))
 
 none_right : (number place : ℕ) → number < 9 → SlackRight (record { number = number; place = place; slack = pos 0 })
 none_right number place l = neither_right number place (λ e. omega arith) (λ e. omega arith)
 
-pub none-if : (number place : ℕ) (test : Bool) → number < 9 → Every SlackRight (failsIf number place test)
-none-if number place test l = failsBy-every SlackRight number place (pos 0) test (λ e. none_right number place l)
+pub none_if : (number place : ℕ) (test : Bool) → number < 9 → Every SlackRight (fails_if number place test)
+none_if number place test l = fails_by_every SlackRight number place (pos 0) test (λ e. none_right number place l)
 
-pub none-at : (number : ℕ) (place : ℕ → ℕ) (n : ℕ) (test : ℕ → Bool) → number < 9 → Every SlackRight (failsAt number place n test)
-none-at number place n test l = failsAtBy-every SlackRight number place (λ k. pos 0) n test (λ k h e clear. none_right number (place k) l)
+pub none_at : (number : ℕ) (place : ℕ → ℕ) (n : ℕ) (test : ℕ → Bool) → number < 9 → Every SlackRight (fails_at number place n test)
+none_at number place n test l = fails_at_by_every SlackRight number place (λ k. pos 0) n test (λ k h e clear. none_right number (place k) l)
 
-nine-right : (place : ℕ) (slack : ℤ) → slack <ℤ pos 0 → Within (21 * K) slack → SlackRight (record { number = PricesOverCost; place = place; slack = slack })
-nine-right place slack l w = record { nine-negative = λ e. l; ten-positive = λ e. absurd (omega arith); others-none = λ e f. absurd (e refl); within = w }
+nine_right : (place : ℕ) (slack : ℤ) → slack <ℤ pos 0 → Within (21 * K) slack → SlackRight (record { number = PricesOverCost; place = place; slack = slack })
+nine_right place slack l w = record { nine_negative = λ e. l; ten_positive = λ e. absurd (omega arith); others_none = λ e f. absurd (e refl); within = w }
 
-ten-right : (place : ℕ) (slack : ℤ) → pos 0 <ℤ slack → Within (21 * K) slack → SlackRight (record { number = PricesNotCost; place = place; slack = slack })
-ten-right place slack l w = record { nine-negative = λ e. absurd (omega arith); ten-positive = λ e. l; others-none = λ e f. absurd (f refl); within = w }
+ten_right : (place : ℕ) (slack : ℤ) → pos 0 <ℤ slack → Within (21 * K) slack → SlackRight (record { number = PricesNotCost; place = place; slack = slack })
+ten_right place slack l w = record { nine_negative = λ e. absurd (omega arith); ten_positive = λ e. l; others_none = λ e f. absurd (f refl); within = w }
 
 and_right : (a b : Bool) → (a && b) ≡ true → b ≡ true
 and_right true b e = e
@@ -71,122 +71,122 @@ and_right false b e = absurd (true≢false (sym e))
 
 -- What is not 0 and not below it is above it.
 above : (z : ℤ) → pos 0 ≤ℤ z → differ z (pos 0) ≡ true → pos 0 <ℤ z
-above z h e = ⊎_elim (λ l. absurd (true≢false (sym e ∙ differ_same z (pos 0) (omega zarith)))) (λ l. l) (le-or-lt z (pos 0))
+above z h e = ⊎_elim (λ l. absurd (true≢false (sym e ∙ differ_same z (pos 0) (omega zarith)))) (λ l. l) (le_or_lt z (pos 0))
 
 -- A list whose columns are the night's, each allowed to its row.
 abbrev pub Inside : Night → List ℕ → Type 0
-Inside night cols = (i : ℕ) → i < night.rowCount → (at cols i < night.columnCount) × (night.allowed i (at cols i) ≡ true)
+Inside night cols = (i : ℕ) → i < night.row_count → (at cols i < night.column_count) × (night.allowed i (at cols i) ≡ true)
 
 -- A night whose costs are within K.
-module _ (night : Night) (us vs : List ℤ) (costs : (i j : ℕ) → i < night.rowCount → j < night.columnCount → Within K (night.cost i j)) where
+module _ (night : Night) (us vs : List ℤ) (costs : (i j : ℕ) → i < night.row_count → j < night.column_count → Within K (night.cost i j)) where
   -- Past 8 the slack of every place is within 21K.
-  pub slack-within : Passes (pricesWithin night.rowCount night.columnCount us vs) → (i j : ℕ) → i < night.rowCount → j < night.columnCount
+  pub slack-within : Passes (prices_within night.row_count night.column_count us vs) → (i j : ℕ) → i < night.row_count → j < night.column_count
       → Within (21 * K) (slack night us vs i j)
   slack-within e i j l m =
-      let p = (prices-within night.rowCount night.columnCount us vs).0 e in
+      let p = (prices-within night.row_count night.column_count us vs).0 e in
       let c = costs i j l m in
       let u = p.0 i l in
       let v = p.1 j m in
-      omega (zarith, dif (night.cost i j) (priced us vs i j), sum (signedAt us i) (signedAt vs j), c, u, v)
+      omega (zarith, dif (night.cost i j) (priced us vs i j), sum (signed_at us i) (signed_at vs j), c, u, v)
 
   -- 9 and 10, in the first row that a test names: any test that holds only of rows with such a place.
-  pub over-slacks : (test : ℕ → Bool) → ((i : ℕ) → test i ≡ true → overIn night us vs i ≡ true)
-      → Passes (pricesWithin night.rowCount night.columnCount us vs) → Every SlackRight (refusedOver night us vs test)
-  over-slacks test holds-in e =
-      failsAtBy-every SlackRight _ _ _ _ _ (λ i l t clear.
-      let j = overFirst night us vs i in
-      let m = ltb-true j night.columnCount (holds-in i t) in
-      let holds = and_right (night.allowed i j) (lt_z (slack night us vs i j) (pos 0)) (first_holds (over night us vs i) night.columnCount m) in
-      nine-right _ (slack night us vs i j) (omega (zarith, holds)) (slack-within e i j l m))
+  pub over_slacks : (test : ℕ → Bool) → ((i : ℕ) → test i ≡ true → over_in night us vs i ≡ true)
+      → Passes (prices_within night.row_count night.column_count us vs) → Every SlackRight (refused_over night us vs test)
+  over_slacks test holds-in e =
+      fails_at_by_every SlackRight _ _ _ _ _ (λ i l t clear.
+      let j = over_first night us vs i in
+      let m = ltb-true j night.column_count (holds-in i t) in
+      let holds = and_right (night.allowed i j) (lt_z (slack night us vs i j) (pos 0)) (first_holds (over night us vs i) night.column_count m) in
+      nine_right _ (slack night us vs i j) (omega (zarith, holds)) (slack-within e i j l m))
 
-  pub loose-slacks : (cols : List ℕ) → Inside night cols → (test : ℕ → Bool) → ((i : ℕ) → test i ≡ true → loose night cols us vs i ≡ true)
-      → ((i : ℕ) → i < night.rowCount → test i ≡ true → priced us vs i (at cols i) ≤ℤ night.cost i (at cols i))
-      → Passes (pricesWithin night.rowCount night.columnCount us vs) → Every SlackRight (refusedLoose night cols us vs test)
-  loose-slacks cols inside test holds under e =
-      failsAtBy-every SlackRight _ _ _ _ _ (λ i l t clear.
+  pub loose_slacks : (cols : List ℕ) → Inside night cols → (test : ℕ → Bool) → ((i : ℕ) → test i ≡ true → loose night cols us vs i ≡ true)
+      → ((i : ℕ) → i < night.row_count → test i ≡ true → priced us vs i (at cols i) ≤ℤ night.cost i (at cols i))
+      → Passes (prices_within night.row_count night.column_count us vs) → Every SlackRight (refused_loose night cols us vs test)
+  loose_slacks cols inside test holds under e =
+      fails_at_by_every SlackRight _ _ _ _ _ (λ i l t clear.
       let j = at cols i in
       let u = under i l t in
-      ten-right _ (slack night us vs i j) (above (slack night us vs i j) (omega (zarith, dif (night.cost i j) (priced us vs i j), u)) (holds i t)) (slack-within e i j l (inside i l).0))
+      ten_right _ (slack night us vs i j) (above (slack night us vs i j) (omega (zarith, dif (night.cost i j) (priced us vs i j), u)) (holds i t)) (slack-within e i j l (inside i l).0))
 
-  nine-slacks : Passes (pricesWithin night.rowCount night.columnCount us vs) → Every SlackRight (underCosts night us vs)
-  nine-slacks = over-slacks (overIn night us vs) (λ i t. t)
+  nine_slacks : Passes (prices_within night.row_count night.column_count us vs) → Every SlackRight (under_costs night us vs)
+  nine_slacks = over_slacks (over_in night us vs) (λ i t. t)
 
-  ten-slacks : (cols : List ℕ) → Inside night cols → Passes (pricesWithin night.rowCount night.columnCount us vs) → Passes (underCosts night us vs)
-      → Every SlackRight (tightOn night cols us vs)
-  ten-slacks cols inside e f =
-      loose-slacks cols inside (loose night cols us vs) (λ i t. t)
+  ten_slacks : (cols : List ℕ) → Inside night cols → Passes (prices_within night.row_count night.column_count us vs) → Passes (under_costs night us vs)
+      → Every SlackRight (tight_on night cols us vs)
+  ten_slacks cols inside e f =
+      loose_slacks cols inside (loose night cols us vs) (λ i t. t)
       (λ i l t. let p = inside i l in ((under-costs night us vs).0 f).under i (at cols i) l p.0 p.1) e
 
-  pub prices-slacks : (cols : List ℕ) → Inside night cols → Every SlackRight (priceTests night cols us vs)
-  prices-slacks cols inside =
-      then-every SlackRight _ _
-      (then-every SlackRight _ _
-      (then-every SlackRight _ _ (none-at _ _ _ _ (lit< tt)) (λ e. none-at _ _ _ _ (lit< tt)))
-      nine-slacks)
-      (λ e. let t = (then-iff _ _).0 e in ten-slacks cols inside t.0 t.1)
+  pub prices_slacks : (cols : List ℕ) → Inside night cols → Every SlackRight (price_tests night cols us vs)
+  prices_slacks cols inside =
+      then_every SlackRight _ _
+      (then_every SlackRight _ _
+      (then_every SlackRight _ _ (none_at _ _ _ _ (lit< tt)) (λ e. none_at _ _ _ _ (lit< tt)))
+      nine_slacks)
+      (λ e. let t = (then_iff _ _).0 e in ten_slacks cols inside t.0 t.1)
 
 -- A refusal of the checker carries the right slack.
-pub check-slacks : (n : ℕ) (costs : List ℤ) (cols rows : List ℕ) (us vs : List ℤ) {refusal : Refusal}
+pub check_slacks : (n : ℕ) (costs : List ℤ) (cols rows : List ℕ) (us vs : List ℤ) {refusal : Refusal}
     → check n costs cols rows us vs ≡ Refused refusal → SlackRight refusal
 unfolding check checks
-check-slacks n costs cols rows us vs e =
-    refused-every SlackRight _ _
-    (then-every SlackRight _ _ (then-every SlackRight _ _ (then-every SlackRight _ _ (none-if _ _ _ (lit< tt)) (λ a. none-if _ _ _ (lit< tt))) (λ a. none-at _ _ _ _ (lit< tt)))
-    (λ shape. then-every SlackRight _ _ (then-every SlackRight _ _ (then-every SlackRight _ _ (none-at _ _ _ _ (lit< tt)) (λ a. none-at _ _ _ _ (lit< tt))) (λ a. none-at _ _ _ _ (lit< tt)))
+check_slacks n costs cols rows us vs e =
+    refused_every SlackRight _ _
+    (then_every SlackRight _ _ (then_every SlackRight _ _ (then_every SlackRight _ _ (none_if _ _ _ (lit< tt)) (λ a. none_if _ _ _ (lit< tt))) (λ a. none_at _ _ _ _ (lit< tt)))
+    (λ shape. then_every SlackRight _ _ (then_every SlackRight _ _ (then_every SlackRight _ _ (none_at _ _ _ _ (lit< tt)) (λ a. none_at _ _ _ _ (lit< tt))) (λ a. none_at _ _ _ _ (lit< tt)))
     (λ passed.
-    let t6 = (then-iff _ _).0 ((then-iff _ _).0 passed).0 in
-    let s = (shaped-iff n costs (length cols) (length rows) (length us) (length vs)).0 shape in
-    prices-slacks (square n costs) us vs
+    let t6 = (then_iff _ _).0 ((then_iff _ _).0 passed).0 in
+    let s = (shaped_iff n costs (length cols) (length rows) (length us) (length vs)).0 shape in
+    prices_slacks (square n costs) us vs
     (λ i j l m. (costs-within costs).0 t6.0 _ (omega (arith, place-below n i j l m, s.squared)))
     cols
     (λ i l. ((columns-inside n n cols).0 t6.1 i l, refl)))))
     e
 
 -- So does one of a night with bars.
-pub check-barred-slacks : (n : ℕ) (costs : List ℤ) (cols rows : List ℕ) (us vs : List ℤ) (bars : List ℕ) {refusal : Refusal}
-    → checkBarred n costs cols rows us vs bars ≡ Refused refusal → SlackRight refusal
-unfolding checkBarred checksBarred
-check-barred-slacks n costs cols rows us vs bars e =
-    refused-every SlackRight _ _
-    (then-every SlackRight _ _
-    (then-every SlackRight _ _
-    (then-every SlackRight _ _ (then-every SlackRight _ _ (then-every SlackRight _ _ (none-if _ _ _ (lit< tt)) (λ a. none-if _ _ _ (lit< tt))) (λ a. none-at _ _ _ _ (lit< tt))) (λ a. none-if _ _ _ (lit< tt)))
-    (λ a. then-every SlackRight _ _
-    (then-every SlackRight _ _ (then-every SlackRight _ _ (then-every SlackRight _ _ (none-at _ _ _ _ (lit< tt)) (λ b. neither-at _ _ _ _ (lit< tt))) (λ b. none-at _ _ _ _ (lit< tt))) (λ b. none-at _ _ _ _ (lit< tt)))
-    (λ b. neither-at _ _ _ _ (lit< tt))))
+pub check_barred_slacks : (n : ℕ) (costs : List ℤ) (cols rows : List ℕ) (us vs : List ℤ) (bars : List ℕ) {refusal : Refusal}
+    → check_barred n costs cols rows us vs bars ≡ Refused refusal → SlackRight refusal
+unfolding check_barred checks_barred
+check_barred_slacks n costs cols rows us vs bars e =
+    refused_every SlackRight _ _
+    (then_every SlackRight _ _
+    (then_every SlackRight _ _
+    (then_every SlackRight _ _ (then_every SlackRight _ _ (then_every SlackRight _ _ (none_if _ _ _ (lit< tt)) (λ a. none_if _ _ _ (lit< tt))) (λ a. none_at _ _ _ _ (lit< tt))) (λ a. none_if _ _ _ (lit< tt)))
+    (λ a. then_every SlackRight _ _
+    (then_every SlackRight _ _ (then_every SlackRight _ _ (then_every SlackRight _ _ (none_at _ _ _ _ (lit< tt)) (λ b. neither_at _ _ _ _ (lit< tt))) (λ b. none_at _ _ _ _ (lit< tt))) (λ b. none_at _ _ _ _ (lit< tt)))
+    (λ b. neither_at _ _ _ _ (lit< tt))))
     (λ passed.
-    let t = (then-iff _ _).0 passed in
-    let t26 = (then-iff _ _).0 t.1 in
-    let t6 = (then-iff _ _).0 ((then-iff _ _).0 t26.0).0 in
-    let s = (shaped-barred-iff n costs (length cols) (length rows) (length us) (length vs) (length bars)).0 t.0 in
-    prices-slacks (barred n costs bars) us vs
-    (λ i j l m. within-mono barredMost-small ((costs-small costs).0 ((then-iff _ _).0 t6.0).0 _ (omega (arith, place-below n i j l m, s.1))))
+    let t = (then_iff _ _).0 passed in
+    let t26 = (then_iff _ _).0 t.1 in
+    let t6 = (then_iff _ _).0 ((then_iff _ _).0 t26.0).0 in
+    let s = (shaped_barred_iff n costs (length cols) (length rows) (length us) (length vs) (length bars)).0 t.0 in
+    prices_slacks (barred n costs bars) us vs
+    (λ i j l m. within_mono barred_most-small ((costs-small costs).0 ((then_iff _ _).0 t6.0).0 _ (omega (arith, place-below n i j l m, s.1))))
     cols
-    (λ i l. ((columns-inside n n cols).0 t6.1 i l, (unbarred-iff n costs bars cols).0 t26.1 i l))))
+    (λ i l. ((columns-inside n n cols).0 t6.1 i l, (unbarred_iff n costs bars cols).0 t26.1 i l))))
     e
 
 -- And one of an oblong night.
-pub check-oblong-slacks : (m n : ℕ) (costs : List ℤ) (cols : List ℕ) (us vs : List ℤ) {refusal : Refusal}
-    → checkOblong m n costs cols us vs ≡ Refused refusal → SlackRight refusal
-unfolding checkOblong checksOblong
-check-oblong-slacks m n costs cols us vs e =
-    refused-every SlackRight _ _
-    (then-every SlackRight _ _
-    (then-every SlackRight _ _
-    (then-every SlackRight _ _
-    (then-every SlackRight _ _
-    (then-every SlackRight _ _
-    (then-every SlackRight _ _ (then-every SlackRight _ _ (then-every SlackRight _ _ (none-if _ _ _ (lit< tt)) (λ a. neither-if _ _ _ (lit< tt))) (λ a. none-if _ _ _ (lit< tt))) (λ a. none-if _ _ _ (lit< tt)))
-    (λ a. none-if _ _ _ (lit< tt)))
-    (λ a. none-if _ _ _ (lit< tt)))
-    (λ a. then-every SlackRight _ _ (then-every SlackRight _ _ (none-at _ _ _ _ (lit< tt)) (λ b. none-at _ _ _ _ (lit< tt))) (λ b. none-at _ _ _ _ (lit< tt))))
+pub check_oblong_slacks : (m n : ℕ) (costs : List ℤ) (cols : List ℕ) (us vs : List ℤ) {refusal : Refusal}
+    → check_oblong m n costs cols us vs ≡ Refused refusal → SlackRight refusal
+unfolding check_oblong checks_oblong
+check_oblong_slacks m n costs cols us vs e =
+    refused_every SlackRight _ _
+    (then_every SlackRight _ _
+    (then_every SlackRight _ _
+    (then_every SlackRight _ _
+    (then_every SlackRight _ _
+    (then_every SlackRight _ _
+    (then_every SlackRight _ _ (then_every SlackRight _ _ (then_every SlackRight _ _ (none_if _ _ _ (lit< tt)) (λ a. neither_if _ _ _ (lit< tt))) (λ a. none_if _ _ _ (lit< tt))) (λ a. none_if _ _ _ (lit< tt)))
+    (λ a. none_if _ _ _ (lit< tt)))
+    (λ a. none_if _ _ _ (lit< tt)))
+    (λ a. then_every SlackRight _ _ (then_every SlackRight _ _ (none_at _ _ _ _ (lit< tt)) (λ b. none_at _ _ _ _ (lit< tt))) (λ b. none_at _ _ _ _ (lit< tt))))
     (λ passed.
-    let t = (then-iff _ _).0 passed in
-    let t6 = (then-iff _ _).0 ((then-iff _ _).0 t.1).0 in
-    let s = (shaped-oblong-iff m n costs (length cols) (length us) (length vs)).0 t.0 in
-    prices-slacks (nightOf m n costs []) us vs
+    let t = (then_iff _ _).0 passed in
+    let t6 = (then_iff _ _).0 ((then_iff _ _).0 t.1).0 in
+    let s = (shaped_oblong_iff m n costs (length cols) (length us) (length vs)).0 t.0 in
+    prices_slacks (night_of m n costs []) us vs
     (λ i j l h. (costs-within costs).0 t6.0 _ (omega (arith, place_in m n i j l h, s.2)))
     cols
-    (λ i l. ((columns-inside m n cols).0 t6.1 i l, none-barred m n costs i (at cols i)))))
-    (λ a. neither-at _ _ _ _ (lit< tt)))
+    (λ i l. ((columns-inside m n cols).0 t6.1 i l, none_barred_lem m n costs i (at cols i)))))
+    (λ a. neither_at _ _ _ _ (lit< tt)))
     e

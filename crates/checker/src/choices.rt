@@ -3,16 +3,16 @@ ghost use Rattle.std.specs.Prelude.{◌≡◌, ◌≤◌, ◌<◌, eqb, length};
 ghost use Rattle.std.specs.Int.Signed.{lt_z};
 ghost use Rattle.lists.specs.Runs.{first};
 ghost use Rattle.lists.specs.Permutations.{at};
-ghost use Rattle.assignment.specs.Pairings.{signedAt};
+ghost use Rattle.assignment.specs.Pairings.{signed_at};
 ghost use Rattle.matrix.specs.Asked.{ColumnsListed};
 ghost use Rattle.matrix.specs.Verdicts.{Passes, ◌then◌};
-ghost use Rattle.checker.specs.Tests.{rowsFit, usedBy, columnsOnce, spareBelow, sparesNotBelow};
+ghost use Rattle.checker.specs.Tests.{rows_fit, used_by, columns_once, spare_below, spares_not_below};
 
 use matrix::{Verdict, refusals, tests};
 
 // Test 23.
 pub fn rows_fit(before: Verdict, m: usize, n: usize) -> Verdict
-    ensures { result ≡ (before then rowsFit m n) }
+    ensures { result ≡ (before then rows_fit m n) }
 {
     match before {
         Verdict::Fails(refusal) => {
@@ -41,7 +41,7 @@ fn first_with(count: usize, cols: &[u32], j: usize) -> usize
 // Refusal 7: the first row whose column an earlier row has, or m.
 fn first_row_again(m: usize, cols: &[u32]) -> usize
     requires { m ≤ length cols.now }
-    ensures { result ≡ first m (λ i. usedBy cols.now i (at cols.now i)) }
+    ensures { result ≡ first m (λ i. used_by cols.now i (at cols.now i)) }
 {
     let mut i = 0;
     while i < m {
@@ -56,7 +56,7 @@ fn first_row_again(m: usize, cols: &[u32]) -> usize
 // Test 7.
 pub fn columns_once(before: Verdict, m: usize, cols: &[u32]) -> Verdict
     requires { Passes before → m ≤ length cols.now }
-    ensures { result ≡ (before then columnsOnce m cols.now) }
+    ensures { result ≡ (before then columns_once m cols.now) }
 {
     match before {
         Verdict::Fails(refusal) => {
@@ -71,7 +71,7 @@ pub fn columns_once(before: Verdict, m: usize, cols: &[u32]) -> Verdict
 // The first row whose column has a price above v, or m where none has.
 fn first_above(m: usize, cols: &[u32], vs: &[i64], v: i64) -> usize
     requires { ColumnsListed m (length vs.now) cols.now }
-    ensures { result ≡ first m (λ i. lt_z v (signedAt vs.now (at cols.now i))) }
+    ensures { result ≡ first m (λ i. lt_z v (signed_at vs.now (at cols.now i))) }
 {
     let mut i = 0;
     while i < m {
@@ -86,7 +86,7 @@ fn first_above(m: usize, cols: &[u32], vs: &[i64], v: i64) -> usize
 // Refusal 27 of column j: whether it is spare and its price below a used one's.
 fn spare_below(m: usize, cols: &[u32], vs: &[i64], j: usize) -> bool
     requires { ColumnsListed m (length vs.now) cols.now × (j < length vs.now) }
-    ensures { result ≡ spareBelow m cols.now vs.now j }
+    ensures { result ≡ spare_below m cols.now vs.now j }
 {
     if first_with(m, cols, j) < m {
         return false;
@@ -97,7 +97,7 @@ fn spare_below(m: usize, cols: &[u32], vs: &[i64], j: usize) -> bool
 // Refusal 27: the first such column, or n.
 fn first_spare_below(m: usize, n: usize, cols: &[u32], vs: &[i64]) -> usize
     requires { ColumnsListed m (length vs.now) cols.now × (n ≤ length vs.now) }
-    ensures { result ≡ first n (spareBelow m cols.now vs.now) }
+    ensures { result ≡ first n (spare_below m cols.now vs.now) }
 {
     let mut j = 0;
     while j < n {
@@ -112,7 +112,7 @@ fn first_spare_below(m: usize, n: usize, cols: &[u32], vs: &[i64]) -> usize
 // Test 27.
 pub fn spares_not_below(before: Verdict, m: usize, n: usize, cols: &[u32], vs: &[i64]) -> Verdict
     requires { Passes before → ColumnsListed m (length vs.now) cols.now × (n ≤ length vs.now) }
-    ensures { result ≡ (before then sparesNotBelow m n cols.now vs.now) }
+    ensures { result ≡ (before then spares_not_below m n cols.now vs.now) }
 {
     match before {
         Verdict::Fails(refusal) => {

@@ -4,11 +4,11 @@ ghost use Rattle.lists.specs.Runs.{first};
 ghost use Rattle.lists.specs.Permutations.{at};
 ghost use Rattle.matrix.specs.Answers.{values_of, totalled};
 ghost use Rattle.matrix.specs.Asked.{ColumnsListed, Shaped};
-ghost use Rattle.matrix.specs.Cost.{totalOf};
+ghost use Rattle.matrix.specs.Cost.{total_of};
 ghost use Rattle.matrix.specs.Limits.{side};
 ghost use Rattle.matrix.specs.Verdicts.{Passes, ◌then◌};
-ghost use Rattle.checker.specs.Tests.{rowsNamed};
-ghost use Rattle.checker.specs.Check.{proofTests, checks, check, shapedBarred, pairedBarred, checksBarred, checkBarred, shapedOblong, pairedOblong, checksOblong, checkOblong};
+ghost use Rattle.checker.specs.Tests.{rows_named};
+ghost use Rattle.checker.specs.Check.{proof_tests, checks, check, shaped_barred, paired_barred, checks_barred, check_barred, shaped_oblong, paired_oblong, checks_oblong, check_oblong};
 
 use crate::prices::priced;
 use matrix::limits::sheet_side;
@@ -36,7 +36,7 @@ fn first_row_not_named(n: usize, cols: &[u32], rows: &[u32]) -> usize
 // Test 7.
 pub fn rows_named(before: Verdict, n: usize, cols: &[u32], rows: &[u32]) -> Verdict
     requires { Passes before → (n ≤ length cols.now) × (n ≤ length rows.now) × ((i : ℕ) → i < n → at cols.now i < n) }
-    ensures { result ≡ (before then rowsNamed n cols.now rows.now) }
+    ensures { result ≡ (before then rows_named n cols.now rows.now) }
 {
     match before {
         Verdict::Fails(refusal) => {
@@ -51,7 +51,7 @@ pub fn rows_named(before: Verdict, n: usize, cols: &[u32], rows: &[u32]) -> Verd
 // An entry's answer: the refusal, or where all tests passed the total of the m rows.
 fn answered(verdict: Verdict, m: usize, n: usize, costs: &[i32], cols: &[u32]) -> Answer
     requires { Passes verdict → (m ≤ side) × (n ≤ side) × (m * n ≤ length costs.now) × ColumnsListed m n cols.now }
-    ensures { values_of result ≡ values_of (totalled verdict (totalOf n costs.now m cols.now)) }
+    ensures { values_of result ≡ values_of (totalled verdict (total_of n costs.now m cols.now)) }
 {
     match verdict {
         Verdict::Fails(refusal) => {
@@ -73,7 +73,7 @@ pub fn proven(
     vs: &[i64],
 ) -> Verdict
     requires { Passes before → Shaped n costs.now (length cols.now) (length rows.now) (length us.now) (length vs.now) }
-    ensures { result ≡ (before then proofTests n costs.now cols.now rows.now us.now vs.now) }
+    ensures { result ≡ (before then proof_tests n costs.now cols.now rows.now us.now vs.now) }
 {
     let within = tests::costs_within(before, costs);
     let inside = tests::columns_inside(within, n, n, cols);
@@ -107,7 +107,7 @@ pub fn shaped_barred(
     vs: usize,
     bars: usize,
 ) -> Verdict
-    ensures { result ≡ shapedBarred n costs.now (cols ∷ rows ∷ us ∷ vs ∷ []) bars }
+    ensures { result ≡ shaped_barred n costs.now (cols ∷ rows ∷ us ∷ vs ∷ []) bars }
 {
     let sized = tests::side_within(sheet_side(), n);
     let filled = tests::costs_fill(sized, n, n, costs);
@@ -125,7 +125,7 @@ pub fn paired_barred(
     bars: &[u64],
 ) -> Verdict
     requires { Passes before → (n ≤ 64) × (n ≤ length cols.now) × (n ≤ length rows.now) × (n ≤ length bars.now) }
-    ensures { result ≡ (before then pairedBarred n costs.now cols.now rows.now bars.now) }
+    ensures { result ≡ (before then paired_barred n costs.now cols.now rows.now bars.now) }
 {
     let small = bars::tests::costs_small(before, costs);
     let clear = bars::tests::bars_clear(small, n, bars);
@@ -144,7 +144,7 @@ fn checked_barred(
     vs: &[i64],
     bars: &[u64],
 ) -> Verdict
-    ensures { result ≡ checksBarred n costs.now cols.now rows.now us.now vs.now bars.now }
+    ensures { result ≡ checks_barred n costs.now cols.now rows.now us.now vs.now bars.now }
 {
     let shaped = shaped_barred(
         n,
@@ -169,7 +169,7 @@ pub fn check_barred(
     vs: &[i64],
     bars: &[u64],
 ) -> Answer
-    ensures { values_of result ≡ values_of (checkBarred n costs.now cols.now rows.now us.now vs.now bars.now) }
+    ensures { values_of result ≡ values_of (check_barred n costs.now cols.now rows.now us.now vs.now bars.now) }
 {
     let verdict = checked_barred(n, costs, cols, rows, us, vs, bars);
     answered(verdict, n, n, costs, cols)
@@ -184,7 +184,7 @@ pub fn shaped_oblong(
     us: usize,
     vs: usize,
 ) -> Verdict
-    ensures { result ≡ shapedOblong m n costs.now cols us vs }
+    ensures { result ≡ shaped_oblong m n costs.now cols us vs }
 {
     let sized = tests::side_within(sheet_side(), n);
     let fit = choices::rows_fit(sized, m, n);
@@ -197,7 +197,7 @@ pub fn shaped_oblong(
 // Tests 5, 6, 7.
 pub fn paired_oblong(before: Verdict, m: usize, n: usize, costs: &[i32], cols: &[u32]) -> Verdict
     requires { Passes before → m ≤ length cols.now }
-    ensures { result ≡ (before then pairedOblong m n costs.now cols.now) }
+    ensures { result ≡ (before then paired_oblong m n costs.now cols.now) }
 {
     let within = tests::costs_within(before, costs);
     let inside = tests::columns_inside(within, m, n, cols);
@@ -213,7 +213,7 @@ fn checked_oblong(
     us: &[i64],
     vs: &[i64],
 ) -> Verdict
-    ensures { result ≡ checksOblong m n costs.now cols.now us.now vs.now }
+    ensures { result ≡ checks_oblong m n costs.now cols.now us.now vs.now }
 {
     let shaped = shaped_oblong(m, n, costs, cols.len(), us.len(), vs.len());
     let paired = paired_oblong(shaped, m, n, costs, cols);
@@ -230,7 +230,7 @@ pub fn check_oblong(
     us: &[i64],
     vs: &[i64],
 ) -> Answer
-    ensures { values_of result ≡ values_of (checkOblong m n costs.now cols.now us.now vs.now) }
+    ensures { values_of result ≡ values_of (check_oblong m n costs.now cols.now us.now vs.now) }
 {
     let verdict = checked_oblong(m, n, costs, cols, us, vs);
     answered(verdict, m, n, costs, cols)

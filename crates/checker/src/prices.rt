@@ -6,13 +6,13 @@ ghost use Rattle.ints.specs.Parts.{Within};
 ghost use Rattle.lists.specs.Runs.{first};
 ghost use Rattle.lists.specs.Permutations.{at};
 ghost use Rattle.lists.specs.Counts.{bit_of};
-ghost use Rattle.assignment.specs.Pairings.{signedAt};
+ghost use Rattle.assignment.specs.Pairings.{signed_at};
 ghost use Rattle.matrix.specs.Asked.{ColumnsListed};
 ghost use Rattle.matrix.specs.Limits.{side, K};
 ghost use Rattle.matrix.specs.Verdicts.{Passes, ◌then◌};
-ghost use Rattle.bars.specs.Barred.{nightOf};
-ghost use Rattle.checker.specs.Tests.{slack, overFirst, overIn, but, underCostsBut, loose, tightOnBut};
-ghost use Rattle.checker.specs.Check.{priceTests};
+ghost use Rattle.bars.specs.Barred.{night_of};
+ghost use Rattle.checker.specs.Tests.{slack, over_first, over_in, but, under_costs_but, loose, tight_on_but};
+ghost use Rattle.checker.specs.Check.{price_tests};
 ghost use Rattle.checker.specs.Asked.{BitsFit, Priced};
 ghost use Rattle.checker.specs.Proven.{Prices};
 
@@ -33,7 +33,7 @@ fn slack(cost: i32, u: i64, v: i64) -> i64
 // The slack of place (i, j).
 fn slack_at(m: usize, n: usize, costs: &[i32], us: &[i64], vs: &[i64], i: usize, j: usize) -> i64
     requires { (i < m) × (j < n) × Priced m n costs.now us.now vs.now }
-    ensures { result ≡ slack (nightOf m n costs.now []) us.now vs.now i j }
+    ensures { result ≡ slack (night_of m n costs.now []) us.now vs.now i j }
 {
     slack(costs[i * n + j], us[i], vs[j])
 }
@@ -41,7 +41,7 @@ fn slack_at(m: usize, n: usize, costs: &[i32], us: &[i64], vs: &[i64], i: usize,
 // Whether the prices are over the cost at column j of a row: the cost minus the row's price is below the column's.
 fn over_at(row: &[i32], u: i64, vs: &[i64], j: usize) -> bool
     requires { (j < length row.now) × Within (10 * K) u × Prices (length row.now) vs.now }
-    ensures { result ≡ lt_z (signedAt row.now j -ℤ (u +ℤ signedAt vs.now j)) (pos 0) }
+    ensures { result ≡ lt_z (signed_at row.now j -ℤ (u +ℤ signed_at vs.now j)) (pos 0) }
 {
     reduced_cost(row[j], u) < vs[j]
 }
@@ -49,7 +49,7 @@ fn over_at(row: &[i32], u: i64, vs: &[i64], j: usize) -> bool
 // Refusal 9 in one row without bars: the first column at which the prices are over the cost, or the row's length. Four columns a turn while there are four.
 fn first_column_over(row: &[i32], u: i64, vs: &[i64]) -> usize
     requires { Within (10 * K) u × Prices (length row.now) vs.now }
-    ensures { result ≡ first (length row.now) (λ j. lt_z (signedAt row.now j -ℤ (u +ℤ signedAt vs.now j)) (pos 0)) }
+    ensures { result ≡ first (length row.now) (λ j. lt_z (signed_at row.now j -ℤ (u +ℤ signed_at vs.now j)) (pos 0)) }
 {
     let mut j = 0;
     while 4 <= row.len() - j {
@@ -79,7 +79,7 @@ fn first_column_over(row: &[i32], u: i64, vs: &[i64]) -> usize
 // Whether the prices are over the cost at column j of a row, and the column is not barred.
 fn allowed_over(row: &[i32], u: i64, vs: &[i64], bits: u64, j: usize) -> bool
     requires { (j < length row.now) × (j < 64) × Within (10 * K) u × Prices (length row.now) vs.now }
-    ensures { result ≡ (not (bit_of bits j) && lt_z (signedAt row.now j -ℤ (u +ℤ signedAt vs.now j)) (pos 0)) }
+    ensures { result ≡ (not (bit_of bits j) && lt_z (signed_at row.now j -ℤ (u +ℤ signed_at vs.now j)) (pos 0)) }
 {
     if has(bits, j) {
         return false;
@@ -90,7 +90,7 @@ fn allowed_over(row: &[i32], u: i64, vs: &[i64], bits: u64, j: usize) -> bool
 // Refusal 9 in one row with bars: the first allowed column at which the prices are over the cost, or the row's length.
 fn first_allowed_over(row: &[i32], u: i64, vs: &[i64], bits: u64) -> usize
     requires { (length row.now ≤ 64) × Within (10 * K) u × Prices (length row.now) vs.now }
-    ensures { result ≡ first (length row.now) (λ j. not (bit_of bits j) && lt_z (signedAt row.now j -ℤ (u +ℤ signedAt vs.now j)) (pos 0)) }
+    ensures { result ≡ first (length row.now) (λ j. not (bit_of bits j) && lt_z (signed_at row.now j -ℤ (u +ℤ signed_at vs.now j)) (pos 0)) }
 {
     let mut j = 0;
     while j < row.len() {
@@ -105,7 +105,7 @@ fn first_allowed_over(row: &[i32], u: i64, vs: &[i64], bits: u64) -> usize
 // Refusal 9 in one row. Whether it has bars is asked once.
 fn first_over(row: &[i32], u: i64, vs: &[i64], bits: u64) -> usize
     requires { (¬ (bits ≡ 0) → length row.now ≤ 64) × Within (10 * K) u × Prices (length row.now) vs.now }
-    ensures { result ≡ first (length row.now) (λ j. not (bit_of bits j) && lt_z (signedAt row.now j -ℤ (u +ℤ signedAt vs.now j)) (pos 0)) }
+    ensures { result ≡ first (length row.now) (λ j. not (bit_of bits j) && lt_z (signed_at row.now j -ℤ (u +ℤ signed_at vs.now j)) (pos 0)) }
 {
     if bits == 0 {
         return first_column_over(row, u, vs);
@@ -124,7 +124,7 @@ fn column_over(
     i: usize,
 ) -> usize
     requires { (i < m) × Priced m n costs.now us.now vs.now × BitsFit n bars.now }
-    ensures { result ≡ overFirst (nightOf m n costs.now bars.now) us.now vs.now i }
+    ensures { result ≡ over_first (night_of m n costs.now bars.now) us.now vs.now i }
 {
     first_over(row_of(costs, n, i), us[i], vs, bits_at(bars, i))
 }
@@ -141,7 +141,7 @@ fn row_over(
     i: usize,
 ) -> bool
     requires { (i < m) × Priced m n costs.now us.now vs.now × BitsFit n bars.now }
-    ensures { result ≡ but skip (overIn (nightOf m n costs.now bars.now) us.now vs.now) i }
+    ensures { result ≡ but skip (over_in (night_of m n costs.now bars.now) us.now vs.now) i }
 {
     if i == skip {
         return false;
@@ -160,7 +160,7 @@ fn first_row_over(
     bars: &[u64],
 ) -> usize
     requires { Priced m n costs.now us.now vs.now × BitsFit n bars.now }
-    ensures { result ≡ first m (but skip (overIn (nightOf m n costs.now bars.now) us.now vs.now)) }
+    ensures { result ≡ first m (but skip (over_in (night_of m n costs.now bars.now) us.now vs.now)) }
 {
     let mut i = 0;
     while i < m {
@@ -184,7 +184,7 @@ pub fn under_costs(
     bars: &[u64],
 ) -> Verdict
     requires { Passes before → Priced m n costs.now us.now vs.now × BitsFit n bars.now }
-    ensures { result ≡ (before then underCostsBut skip (nightOf m n costs.now bars.now) us.now vs.now) }
+    ensures { result ≡ (before then under_costs_but skip (night_of m n costs.now bars.now) us.now vs.now) }
 {
     match before {
         Verdict::Fails(refusal) => {
@@ -212,7 +212,7 @@ fn paired_slack(
     i: usize,
 ) -> i64
     requires { (i < m) × Priced m n costs.now us.now vs.now × ColumnsListed m n cols.now }
-    ensures { result ≡ slack (nightOf m n costs.now []) us.now vs.now i (at cols.now i) }
+    ensures { result ≡ slack (night_of m n costs.now []) us.now vs.now i (at cols.now i) }
 {
     slack_at(m, n, costs, us, vs, i, cols[i] as usize)
 }
@@ -229,7 +229,7 @@ fn row_loose(
     i: usize,
 ) -> bool
     requires { (i < m) × Priced m n costs.now us.now vs.now × ColumnsListed m n cols.now }
-    ensures { result ≡ but skip (loose (nightOf m n costs.now []) cols.now us.now vs.now) i }
+    ensures { result ≡ but skip (loose (night_of m n costs.now []) cols.now us.now vs.now) i }
 {
     if i == skip {
         return false;
@@ -248,7 +248,7 @@ fn first_row_loose(
     vs: &[i64],
 ) -> usize
     requires { Priced m n costs.now us.now vs.now × ColumnsListed m n cols.now }
-    ensures { result ≡ first m (but skip (loose (nightOf m n costs.now []) cols.now us.now vs.now)) }
+    ensures { result ≡ first m (but skip (loose (night_of m n costs.now []) cols.now us.now vs.now)) }
 {
     let mut i = 0;
     while i < m {
@@ -272,7 +272,7 @@ pub fn tight_on(
     vs: &[i64],
 ) -> Verdict
     requires { Passes before → Priced m n costs.now us.now vs.now × ColumnsListed m n cols.now }
-    ensures { result ≡ (before then tightOnBut skip (nightOf m n costs.now []) cols.now us.now vs.now) }
+    ensures { result ≡ (before then tight_on_but skip (night_of m n costs.now []) cols.now us.now vs.now) }
 {
     match before {
         Verdict::Fails(refusal) => {
@@ -300,7 +300,7 @@ pub fn priced(
     bars: &[u64],
 ) -> Verdict
     requires { Passes before → (m ≤ side) × (n ≤ side) × (length costs.now ≡ m * n) × ColumnsListed m n cols.now × (m ≤ length us.now) × (n ≤ length vs.now) × BitsFit n bars.now }
-    ensures { result ≡ (before then priceTests (nightOf m n costs.now bars.now) cols.now us.now vs.now) }
+    ensures { result ≡ (before then price_tests (night_of m n costs.now bars.now) cols.now us.now vs.now) }
 {
     let within = tests::prices_within(before, m, n, us, vs);
     let under = under_costs(within, m, n, m, costs, us, vs, bars);

@@ -3,15 +3,15 @@ use mathlib.Core.Path.{◌≡◌, refl, sym, ap, ap₂, ◌∙◌, subst}
 use Prim.Native.Nat.{ℕ, ◌<◌}
 use lib.IntN.{pos}
 use Rattle.matrix.specs.Asked.{Tellable}
-use Rattle.matrix.specs.Refusals.{number_of, slackOf}
+use Rattle.matrix.specs.Refusals.{number_of, slack_of}
 use Rattle.matrix.specs.declared.Refusal.{Refusal}
 use Rattle.matrix.proofs.Codes.{capped_same}
-use Rattle.swaps.specs.Entries.{Lent, Outcome, outcomeOf, secondValues, Found, toldOf}
+use Rattle.swaps.specs.Entries.{Lent, Outcome, outcome_of, second_values, Found, told_of}
 use Rattle.swaps.specs.declared.Seconded.{Seconded}
 use Rattle.swaps.specs.declared.Seconded.TheVariants.{Told, Refused}
-use Rattle.swaps.proofs.Determined.{second-values-determine}
+use Rattle.swaps.proofs.Determined.{second_values_determine}
 use Rattle.face.specs.declared.Second.{Second}
-use Rattle.face.specs.Seconds.{seconded, secondedAny, NumberedSecond, HandedSecond, handedSecond, handedSecondAny}
+use Rattle.face.specs.Seconds.{seconded, seconded_any, NumberedSecond, HandedSecond, handed_second, handed_second_any}
 
 -- Where every refusal's number is below 256, the answer can be told.
 numbered : (answer : Seconded) → ((refusal : Refusal) → answer ≡ Refused refusal → number_of refusal < 256) → NumberedSecond answer
@@ -19,23 +19,23 @@ numbered (Told pairings) h = tt
 numbered (Refused refusal) h = h refusal refl
 
 -- Where every place is far below 2^48, it is told as it is.
-told-plain : (answer : Seconded) → ((refusal : Refusal) → answer ≡ Refused refusal → Tellable refusal) → secondedAny (secondValues answer) ≡ seconded (secondValues answer)
+told-plain : (answer : Seconded) → ((refusal : Refusal) → answer ≡ Refused refusal → Tellable refusal) → seconded_any (second_values answer) ≡ seconded (second_values answer)
 told-plain (Told pairings) h = refl
 told-plain (Refused q) h =
-    ap (λ (code : ℕ). let s : Second = record { refusal = code; total = pos 0; slack = slackOf q; also = 0 } in s) (capped_same q (h q refl))
+    ap (λ (code : ℕ). let s : Second = record { refusal = code; total = pos 0; slack = slack_of q; also = 0 } in s) (capped_same q (h q refl))
 
 -- An answer and lists that are those of an outcome.
-module _ (o : Outcome) (answer : Seconded) (lent : Lent) (e : toldOf (outcomeOf answer lent) ≡ toldOf o) where
+module _ (o : Outcome) (answer : Seconded) (lent : Lent) (e : told_of (outcome_of answer lent) ≡ told_of o) where
   pub second-numbered : ((refusal : Refusal) → o.answer ≡ Refused refusal → number_of refusal < 256) → NumberedSecond answer
   second-numbered h =
-      subst NumberedSecond (sym (second-values-determine answer o.answer (ap (λ (f : Found). f.values) e))) (numbered o.answer h)
+      subst NumberedSecond (sym (second_values_determine answer o.answer (ap (λ (f : Found). f.values) e))) (numbered o.answer h)
 
-  module _ (s : Second) (d : s ≡ secondedAny (secondValues answer)) where
-    pub second-handed-any : ◌≡◌ {A = HandedSecond} (record { second = s; lent = lent }) (handedSecondAny o)
-    second-handed-any =
+  module _ (s : Second) (d : s ≡ seconded_any (second_values answer)) where
+    pub second_handed_any : ◌≡◌ {A = HandedSecond} (record { second = s; lent = lent }) (handed_second_any o)
+    second_handed_any =
         ap₂ (λ (s : Second) (l : Lent). let h : HandedSecond = record { second = s; lent = l } in h)
-        (d ∙ ap (λ (f : Found). secondedAny f.values) e) (ap (λ (f : Found). f.lent) e)
+        (d ∙ ap (λ (f : Found). seconded_any f.values) e) (ap (λ (f : Found). f.lent) e)
 
-    pub second-handed : ((refusal : Refusal) → o.answer ≡ Refused refusal → Tellable refusal) → ◌≡◌ {A = HandedSecond} (record { second = s; lent = lent }) (handedSecond o)
+    pub second-handed : ((refusal : Refusal) → o.answer ≡ Refused refusal → Tellable refusal) → ◌≡◌ {A = HandedSecond} (record { second = s; lent = lent }) (handed_second o)
     second-handed h =
-        second-handed-any ∙ ap (λ (s : Second). let h : HandedSecond = record { second = s; lent = o.lent } in h) (told-plain o.answer h)
+        second_handed_any ∙ ap (λ (s : Second). let h : HandedSecond = record { second = s; lent = o.lent } in h) (told-plain o.answer h)

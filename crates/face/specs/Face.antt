@@ -22,16 +22,16 @@ pub record HandedColumns : Type 0 where
   pub totalled : Totalled
   pub cols : List ℕ
 
-abbrev pub handedColumns : Answer × List ℕ → HandedColumns
-handedColumns (answer, cols) = record { totalled = totalled (values_of answer); cols = cols }
+abbrev pub handed_columns : Answer × List ℕ → HandedColumns
+handed_columns (answer, cols) = record { totalled = totalled (values_of answer); cols = cols }
 
 -- A total, or a refusal with its slack.
 abbrev pub checked : Values → Checked
 checked v = record { refusal = v.number + 256 * v.place; total = v.total; slack = v.slack }
 
 -- The same whatever the place: "where number + 256*place would not fit 64 bits, the C face tells the place as 2^56 - 1".
-abbrev pub checkedAny : Values → Checked
-checkedAny v = record { refusal = v.number + 256 * cond (ltb v.place (2 ^ 56)) v.place (2 ^ 56 - 1); total = v.total; slack = v.slack }
+abbrev pub checked_any : Values → Checked
+checked_any v = record { refusal = v.number + 256 * cond (ltb v.place (2 ^ 56)) v.place (2 ^ 56 - 1); total = v.total; slack = v.slack }
 
 -- What is asked of an answer to be told so: a number below 256.
 abbrev pub NumberedIn : Answer → Type 0
@@ -39,8 +39,8 @@ NumberedIn (Total total) = Unit {0}
 NumberedIn (Refused refusal) = number_of refusal < 256
 
 -- Side and total of a slip that holds, or a refusal.
-abbrev pub auditTold : AuditedValues → Audit
-auditTold v = record { refusal = v.number + 256 * v.place; side = v.side; total = v.total }
+abbrev pub audit_told : AuditedValues → Audit
+audit_told v = record { refusal = v.number + 256 * v.place; side = v.side; total = v.total }
 
 -- A total with the six counts, or a refusal.
 abbrev pub solution : SolvedValues → Solution
@@ -68,5 +68,5 @@ pub record HandedBack : Type 0 where
   pub checked : Checked
   pub lent : Lent
 
-abbrev pub handedBack : Outcome → HandedBack
-handedBack o = record { checked = checked (values_of o.answer); lent = o.lent }
+abbrev pub handed_back : Outcome → HandedBack
+handed_back o = record { checked = checked (values_of o.answer); lent = o.lent }

@@ -1,7 +1,7 @@
 -- What a C caller gets about a second pairing: "refusal", "total", "slack" and "also 0 or 1".
 use Rattle.std.specs.Prelude.{Bool, cond, List, ℕ, ◌+◌, ◌*◌, ◌-◌, ◌^◌, ◌<◌, ltb, ℤ}
 use Rattle.matrix.specs.Refusals.{number_of}
-use Rattle.swaps.specs.Entries.{Lent, lent_of, Outcome, SecondValues, secondValues}
+use Rattle.swaps.specs.Entries.{Lent, lent_of, Outcome, SecondValues, second_values}
 use Rattle.swaps.specs.declared.Seconded.{Seconded}
 use Rattle.swaps.specs.declared.Seconded.TheVariants.{Told, Refused}
 use Rattle.face.specs.declared.Second.{Second}
@@ -15,8 +15,8 @@ abbrev pub seconded : SecondValues → Second
 seconded v = record { refusal = v.number + 256 * v.place; total = v.total; slack = v.slack; also = flag v.also }
 
 -- The same whatever the place: "where number + 256*place would not fit 64 bits, the C face tells the place as 2^56 - 1".
-abbrev pub secondedAny : SecondValues → Second
-secondedAny v =
+abbrev pub seconded_any : SecondValues → Second
+seconded_any v =
     record { refusal = v.number + 256 * cond (ltb v.place (2 ^ 56)) v.place (2 ^ 56 - 1); total = v.total; slack = v.slack; also = flag v.also }
 
 -- What is asked of an answer to be told so: a number below 256.
@@ -33,8 +33,8 @@ pub record HandedSecond : Type 0 where
   pub second : Second
   pub lent : Lent
 
-abbrev pub handedSecond : Outcome → HandedSecond
-handedSecond o = record { second = seconded (secondValues o.answer); lent = o.lent }
+abbrev pub handed_second : Outcome → HandedSecond
+handed_second o = record { second = seconded (second_values o.answer); lent = o.lent }
 
-abbrev pub handedSecondAny : Outcome → HandedSecond
-handedSecondAny o = record { second = secondedAny (secondValues o.answer); lent = o.lent }
+abbrev pub handed_second_any : Outcome → HandedSecond
+handed_second_any o = record { second = seconded_any (second_values o.answer); lent = o.lent }

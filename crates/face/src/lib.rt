@@ -6,20 +6,20 @@ ghost use Rattle.matrix.specs.Asked.{TellableIn};
 ghost use Rattle.plain.specs.Engine.{plain};
 ghost use Rattle.audit.specs.Asked.{TellableAudited};
 ghost use Rattle.audit.specs.Audit.{audit};
-ghost use Rattle.audit.specs.Values.{auditedValues};
+ghost use Rattle.audit.specs.Values.{audited_values};
 ghost use Rattle.score.specs.Score.{score};
-ghost use Rattle.score.specs.ScoreSheet.{Filled, scoreSheet};
-ghost use Rattle.checker.specs.Check.{check, checkBarred, checkOblong};
+ghost use Rattle.score.specs.ScoreSheet.{Filled, score_sheet};
+ghost use Rattle.checker.specs.Check.{check, check_barred, check_oblong};
 ghost use Rattle.lapjv.specs.Solve.{lent_of, solve};
-ghost use Rattle.lapjv.specs.Values.{solvedValues, toldOf};
+ghost use Rattle.lapjv.specs.Values.{solved_values, told_of};
 ghost use Rattle.lapjv.specs.Asked.{TellableSolved};
 ghost use Rattle.repair.specs.Repair.{repair};
 ghost use Rattle.sheet.specs.Settle.{Delivery, pair};
 ghost use Rattle.pieces.specs.Kept.{kept};
 ghost use Rattle.pieces.specs.Calls.{taken, piece, ending, delivered, end, reset};
-ghost use Rattle.swaps.specs.Entries.{secondValues, secondSquare, secondBarred, secondOblong};
-ghost use Rattle.face.specs.Seconds.{flag, secondedAny, NumberedSecond, three, HandedSecond, handedSecond, handedSecondAny};
-ghost use Rattle.face.specs.Face.{totalled, HandedColumns, handedColumns, auditTold, checked, checkedAny, NumberedIn, solution, Handed, handed, HandedBack, handedBack};
+ghost use Rattle.swaps.specs.Entries.{second_values, second_square, second_barred, second_oblong};
+ghost use Rattle.face.specs.Seconds.{flag, seconded_any, NumberedSecond, three, HandedSecond, handed_second, handed_second_any};
+ghost use Rattle.face.specs.Face.{totalled, HandedColumns, handed_columns, audit_told, checked, checked_any, NumberedIn, solution, Handed, handed, HandedBack, handed_back};
 
 use audit::Audited;
 use lapjv::Solved;
@@ -101,7 +101,7 @@ pub extern "C" fn bristlefrost_cost(n: usize, costs: &[i32], listed: &[u32]) -> 
 // The plain engine, for sides to 8.
 #[unsafe(no_mangle)]
 pub extern "C" fn bristlefrost_plain(n: usize, costs: &[i32], cols: &mut [u32]) -> Totalled
-    ensures { ◌≡◌ {A = HandedColumns} (record { totalled = result; cols = cols.new }) (handedColumns (plain n costs.now cols.old)) }
+    ensures { ◌≡◌ {A = HandedColumns} (record { totalled = result; cols = cols.new }) (handed_columns (plain n costs.now cols.old)) }
 {
     told(plain::plain(n, costs, cols))
 }
@@ -151,7 +151,7 @@ pub extern "C" fn bristlefrost_check_barred(
     col_prices: &[i64],
     bars: &[u64],
 ) -> Checked
-    ensures { result ≡ checked (values_of (checkBarred n costs.now cols.now rows.now row_prices.now col_prices.now bars.now)) }
+    ensures { result ≡ checked (values_of (check_barred n costs.now cols.now rows.now row_prices.now col_prices.now bars.now)) }
 {
     told_checked(checker::check_barred(n, costs, cols, rows, row_prices, col_prices, bars))
 }
@@ -159,7 +159,7 @@ pub extern "C" fn bristlefrost_check_barred(
 // What a C caller gets of an answer with any place.
 fn told_any(answer: Answer) -> Checked
     requires { NumberedIn answer }
-    ensures { result ≡ checkedAny (values_of answer) }
+    ensures { result ≡ checked_any (values_of answer) }
 {
     match answer {
         Answer::Total(total) => Checked {
@@ -185,7 +185,7 @@ pub extern "C" fn bristlefrost_check_oblong(
     row_prices: &[i64],
     col_prices: &[i64],
 ) -> Checked
-    ensures { result ≡ checkedAny (values_of (checkOblong m n costs.now cols.now row_prices.now col_prices.now)) }
+    ensures { result ≡ checked_any (values_of (check_oblong m n costs.now cols.now row_prices.now col_prices.now)) }
 {
     told_any(checker::check_oblong(m, n, costs, cols, row_prices, col_prices))
 }
@@ -193,7 +193,7 @@ pub extern "C" fn bristlefrost_check_oblong(
 // What a C caller gets of the solver's answer.
 fn told_solved(answer: Solved) -> Solution
     requires { TellableSolved answer }
-    ensures { result ≡ solution (solvedValues answer) }
+    ensures { result ≡ solution (solved_values answer) }
 {
     match answer {
         Solved::Paired(night) => {
@@ -234,7 +234,7 @@ pub extern "C" fn bristlefrost_solve(
     indices: &mut [u32],
     numbers: &mut [i64],
 ) -> Solution
-    ensures { ◌≡◌ {A = Handed} (record { solution = result; lent = lent_of cols.new rows.new row_prices.new col_prices.new indices.new numbers.new }) (handed (toldOf (solve n costs.now (lent_of cols.old rows.old row_prices.old col_prices.old indices.old numbers.old)))) }
+    ensures { ◌≡◌ {A = Handed} (record { solution = result; lent = lent_of cols.new rows.new row_prices.new col_prices.new indices.new numbers.new }) (handed (told_of (solve n costs.now (lent_of cols.old rows.old row_prices.old col_prices.old indices.old numbers.old)))) }
 {
     told_solved(lapjv::solve(
         n, costs, cols, rows, row_prices, col_prices, indices, numbers,
@@ -254,7 +254,7 @@ pub extern "C" fn bristlefrost_repair(
     indices: &mut [u32],
     numbers: &mut [i64],
 ) -> Checked
-    ensures { ◌≡◌ {A = HandedBack} (record { checked = result; lent = lent_of cols.new rows.new row_prices.new col_prices.new indices.new numbers.new }) (handedBack (repair n costs.now row (lent_of cols.old rows.old row_prices.old col_prices.old indices.old numbers.old))) }
+    ensures { ◌≡◌ {A = HandedBack} (record { checked = result; lent = lent_of cols.new rows.new row_prices.new col_prices.new indices.new numbers.new }) (handed_back (repair n costs.now row (lent_of cols.old rows.old row_prices.old col_prices.old indices.old numbers.old))) }
 {
     told_checked(repair::repair(
         n, costs, row, cols, rows, row_prices, col_prices, indices, numbers,
@@ -274,7 +274,7 @@ fn flag(b: bool) -> u64
 // What a C caller gets of an answer about a second pairing, with any place.
 fn told_second(answer: Seconded) -> Second
     requires { NumberedSecond answer }
-    ensures { result ≡ secondedAny (secondValues answer) }
+    ensures { result ≡ seconded_any (second_values answer) }
 {
     match answer {
         Seconded::Told(pairings) => {
@@ -308,7 +308,7 @@ pub extern "C" fn bristlefrost_second(
     indices: &mut [u32],
     numbers: &mut [i64],
 ) -> Second
-    ensures { ◌≡◌ {A = HandedSecond} (record { second = result; lent = three list.new indices.new numbers.new }) (handedSecond (secondSquare n costs.now cols.now rows.now row_prices.now col_prices.now (three list.old indices.old numbers.old))) }
+    ensures { ◌≡◌ {A = HandedSecond} (record { second = result; lent = three list.new indices.new numbers.new }) (handed_second (second_square n costs.now cols.now rows.now row_prices.now col_prices.now (three list.old indices.old numbers.old))) }
 {
     told_second(swaps::second(
         n, costs, cols, rows, row_prices, col_prices, list, indices, numbers,
@@ -329,7 +329,7 @@ pub extern "C" fn bristlefrost_second_barred(
     indices: &mut [u32],
     numbers: &mut [i64],
 ) -> Second
-    ensures { ◌≡◌ {A = HandedSecond} (record { second = result; lent = three list.new indices.new numbers.new }) (handedSecond (secondBarred n costs.now cols.now rows.now row_prices.now col_prices.now bars.now (three list.old indices.old numbers.old))) }
+    ensures { ◌≡◌ {A = HandedSecond} (record { second = result; lent = three list.new indices.new numbers.new }) (handed_second (second_barred n costs.now cols.now rows.now row_prices.now col_prices.now bars.now (three list.old indices.old numbers.old))) }
 {
     told_second(swaps::second_barred(
         n, costs, cols, rows, row_prices, col_prices, bars, list, indices, numbers,
@@ -349,7 +349,7 @@ pub extern "C" fn bristlefrost_second_oblong(
     indices: &mut [u32],
     numbers: &mut [i64],
 ) -> Second
-    ensures { ◌≡◌ {A = HandedSecond} (record { second = result; lent = three list.new indices.new numbers.new }) (handedSecondAny (secondOblong m n costs.now cols.now row_prices.now col_prices.now (three list.old indices.old numbers.old))) }
+    ensures { ◌≡◌ {A = HandedSecond} (record { second = result; lent = three list.new indices.new numbers.new }) (handed_second_any (second_oblong m n costs.now cols.now row_prices.now col_prices.now (three list.old indices.old numbers.old))) }
 {
     told_second(swaps::second_oblong(
         m, n, costs, cols, row_prices, col_prices, list, indices, numbers,
@@ -375,7 +375,7 @@ pub extern "C" fn bristlefrost_score(first: &[u8], second: &[u8]) -> Totalled
 // What a C caller gets of an audit.
 fn told_audited(answer: Audited) -> Audit
     requires { TellableAudited answer }
-    ensures { result ≡ auditTold (auditedValues answer) }
+    ensures { result ≡ audit_told (audited_values answer) }
 {
     match answer {
         Audited::Holds(side, total) => Audit {
@@ -394,7 +394,7 @@ fn told_audited(answer: Audited) -> Audit
 // A slip held against its sheet.
 #[unsafe(no_mangle)]
 pub extern "C" fn bristlefrost_audit(sheet: &[u8], slip: &[u8]) -> Audit
-    ensures { result ≡ auditTold (auditedValues (audit sheet.now slip.now)) }
+    ensures { result ≡ audit_told (audited_values (audit sheet.now slip.now)) }
 {
     told_audited(audit::audit(sheet, slip))
 }
@@ -402,7 +402,7 @@ pub extern "C" fn bristlefrost_audit(sheet: &[u8], slip: &[u8]) -> Audit
 // Two lists of references, and the room of the sheet of their scores: 0, or number + 256*place.
 #[unsafe(no_mangle)]
 pub extern "C" fn bristlefrost_score_sheet(firsts: &[u8], seconds: &[u8], sheet: &mut [u8]) -> u64
-    ensures { ◌≡◌ {A = Filled} (record { number = result; sheet = sheet.new }) (scoreSheet firsts.now seconds.now sheet.old) }
+    ensures { ◌≡◌ {A = Filled} (record { number = result; sheet = sheet.new }) (score_sheet firsts.now seconds.now sheet.old) }
 {
     score::score_sheet(firsts, seconds, sheet)
 }

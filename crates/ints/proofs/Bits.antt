@@ -7,7 +7,7 @@ use mir.Syntax.{Width, w32, w64}
 use mir.Val.{SFits, hbits, to_z, of_z}
 use mir.Facts.{to_z-of_z, sfits_widen}
 use Rattle.ints.specs.Parts.{up, down}
-use Rattle.ints.proofs.Ranges.{sfits-read}
+use Rattle.ints.proofs.Ranges.{sfits_read}
 
 -- For omega's list: what the bits of z read as, and how large z is. `omega (zlin, told w64 x c.x.given)`.
 pub record Told (w : Width) (z : ℤ) : Type 0 where
@@ -16,7 +16,7 @@ pub record Told (w : Width) (z : ℤ) : Type 0 where
   pub size : up z + down z ≤ 2 ^ hbits w
 
 pub told-fits : {w : Width} {z : ℤ} → SFits w z → Told w z
-told-fits {w} {z} h = record { ups = ap up (to_z-of_z h); downs = ap down (to_z-of_z h); size = sfits-read w z h }
+told-fits {w} {z} h = record { ups = ap up (to_z-of_z h); downs = ap down (to_z-of_z h); size = sfits_read w z h }
 
 pub told : (w : Width) (z : ℤ) → mag z < 2 ^ hbits w → Told w z
 told w z h = told-fits (record { sfits = h })
@@ -38,5 +38,5 @@ wide_fits x h =
     simp to_z-of_z (sfits_widen {w = w32} tt f)
 
 -- `x == y` on two signed locals tells of their bits.
-pub bits-injective : {w : Width} {x y : ℤ} → SFits w x → SFits w y → of_z w x ≡ of_z w y → x ≡ y
-bits-injective {w} f g e = sym (to_z-of_z f) ∙ ap (to_z w) e ∙ to_z-of_z g
+pub bits_injective : {w : Width} {x y : ℤ} → SFits w x → SFits w y → of_z w x ≡ of_z w y → x ≡ y
+bits_injective {w} f g e = sym (to_z-of_z f) ∙ ap (to_z w) e ∙ to_z-of_z g

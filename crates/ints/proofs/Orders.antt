@@ -10,71 +10,71 @@ use Rattle.ints.specs.Parts.{up, down}
 
 -- ---- at most
 
-leZ-read : (a b : ℤ) → T (le_z a b) → up a + down b ≤ up b + down a
-leZ-read (pos a) (pos b) t = omega (arith, leb→le a b t)
-leZ-read (pos a) (negsuc b) t = absurd t
-leZ-read (negsuc a) (pos b) t = omega arith
-leZ-read (negsuc a) (negsuc b) t = omega (arith, leb→le b a t)
+le_z_read : (a b : ℤ) → T (le_z a b) → up a + down b ≤ up b + down a
+le_z_read (pos a) (pos b) t = omega (arith, leb→le a b t)
+le_z_read (pos a) (negsuc b) t = absurd t
+le_z_read (negsuc a) (pos b) t = omega arith
+le_z_read (negsuc a) (negsuc b) t = omega (arith, leb→le b a t)
 
-leZ-make : (a b : ℤ) → up a + down b ≤ up b + down a → T (le_z a b)
-leZ-make (pos a) (pos b) h = le→leb a b (omega arith)
-leZ-make (pos a) (negsuc b) h = absurd (omega arith)
-leZ-make (negsuc a) (pos b) h = tt
-leZ-make (negsuc a) (negsuc b) h = le→leb b a (omega arith)
+le_z_make : (a b : ℤ) → up a + down b ≤ up b + down a → T (le_z a b)
+le_z_make (pos a) (pos b) h = le→leb a b (omega arith)
+le_z_make (pos a) (negsuc b) h = absurd (omega arith)
+le_z_make (negsuc a) (pos b) h = tt
+le_z_make (negsuc a) (negsuc b) h = le→leb b a (omega arith)
 
 pub le_read : {a b : ℤ} → a ≤ℤ b → up a + down b ≤ up b + down a
-le_read {a} {b} h = leZ-read a b h.le
+le_read {a} {b} h = le_z_read a b h.le
 
-pub le-make : {a b : ℤ} → up a + down b ≤ up b + down a → a ≤ℤ b
-le-make {a} {b} h = record { le = leZ-make a b h }
+pub le_make : {a b : ℤ} → up a + down b ≤ up b + down a → a ≤ℤ b
+le_make {a} {b} h = record { le = le_z_make a b h }
 
 -- ---- below
 
-ltZ-read : (a b : ℤ) → T (lt_z a b) → up a + down b < up b + down a
-ltZ-read (pos a) (pos b) t = omega (arith, ltb→lt a b t)
-ltZ-read (pos a) (negsuc b) t = absurd t
-ltZ-read (negsuc a) (pos b) t = omega arith
-ltZ-read (negsuc a) (negsuc b) t = omega (arith, ltb→lt b a t)
+lt_z_read : (a b : ℤ) → T (lt_z a b) → up a + down b < up b + down a
+lt_z_read (pos a) (pos b) t = omega (arith, ltb→lt a b t)
+lt_z_read (pos a) (negsuc b) t = absurd t
+lt_z_read (negsuc a) (pos b) t = omega arith
+lt_z_read (negsuc a) (negsuc b) t = omega (arith, ltb→lt b a t)
 
-ltZ-make : (a b : ℤ) → up a + down b < up b + down a → T (lt_z a b)
-ltZ-make (pos a) (pos b) h = lt→ltb a b (omega arith)
-ltZ-make (pos a) (negsuc b) h = absurd (omega arith)
-ltZ-make (negsuc a) (pos b) h = tt
-ltZ-make (negsuc a) (negsuc b) h = lt→ltb b a (omega arith)
+lt_z_make : (a b : ℤ) → up a + down b < up b + down a → T (lt_z a b)
+lt_z_make (pos a) (pos b) h = lt→ltb a b (omega arith)
+lt_z_make (pos a) (negsuc b) h = absurd (omega arith)
+lt_z_make (negsuc a) (pos b) h = tt
+lt_z_make (negsuc a) (negsuc b) h = lt→ltb b a (omega arith)
 
-pub lt-read : {a b : ℤ} → a <ℤ b → up a + down b < up b + down a
-lt-read {a} {b} h = ltZ-read a b h.lt
+pub lt_read : {a b : ℤ} → a <ℤ b → up a + down b < up b + down a
+lt_read {a} {b} h = lt_z_read a b h.lt
 
-pub lt-make : {a b : ℤ} → up a + down b < up b + down a → a <ℤ b
-lt-make {a} {b} h = record { lt = ltZ-make a b h }
+pub lt_make : {a b : ℤ} → up a + down b < up b + down a → a <ℤ b
+lt_make {a} {b} h = record { lt = lt_z_make a b h }
 
 -- ---- equal
 
-pub eq-read : {a b : ℤ} → a ≡ b → up a + down b ≡ up b + down a
-eq-read {a} {b} e = omega (arith, ap up e, ap down e)
+pub eq_read : {a b : ℤ} → a ≡ b → up a + down b ≡ up b + down a
+eq_read {a} {b} e = omega (arith, ap up e, ap down e)
 
-pub eq-make : {a b : ℤ} → up a + down b ≡ up b + down a → a ≡ b
-eq-make {a = pos a} {b = pos b} h = let e : a ≡ b = omega arith in ap pos e
-eq-make {a = pos a} {b = negsuc b} h = absurd (omega arith)
-eq-make {a = negsuc a} {b = pos b} h = absurd (omega arith)
-eq-make {a = negsuc a} {b = negsuc b} h = let e : a ≡ b = omega arith in ap negsuc e
+pub eq_make : {a b : ℤ} → up a + down b ≡ up b + down a → a ≡ b
+eq_make {a = pos a} {b = pos b} h = let e : a ≡ b = omega arith in ap pos e
+eq_make {a = pos a} {b = negsuc b} h = absurd (omega arith)
+eq_make {a = negsuc a} {b = pos b} h = absurd (omega arith)
+eq_make {a = negsuc a} {b = negsuc b} h = let e : a ≡ b = omega arith in ap negsuc e
 
 -- ---- the tests that a definition or code makes, read
 
-pub leZ-true : (a b : ℤ) → le_z a b ≡ true → up a + down b ≤ up b + down a
-leZ-true a b e = leZ-read a b (subst T (sym e) tt)
+pub le_z_true : (a b : ℤ) → le_z a b ≡ true → up a + down b ≤ up b + down a
+le_z_true a b e = le_z_read a b (subst T (sym e) tt)
 
-pub leZ-false : (a b : ℤ) → le_z a b ≡ false → up b + down a < up a + down b
-leZ-false a b e = turned (up a + down b) (up b + down a) (λ l. subst T e (leZ-make a b l))
+pub le_z_false : (a b : ℤ) → le_z a b ≡ false → up b + down a < up a + down b
+le_z_false a b e = turned (up a + down b) (up b + down a) (λ l. subst T e (le_z_make a b l))
   where
     turned : (x y : ℕ) → (x ≤ y → ⊥) → y < x
     turned x y f = omega arith
 
-pub ltZ-true : (a b : ℤ) → lt_z a b ≡ true → up a + down b < up b + down a
-ltZ-true a b e = ltZ-read a b (subst T (sym e) tt)
+pub lt_z_true : (a b : ℤ) → lt_z a b ≡ true → up a + down b < up b + down a
+lt_z_true a b e = lt_z_read a b (subst T (sym e) tt)
 
-pub ltZ-false : (a b : ℤ) → lt_z a b ≡ false → up b + down a ≤ up a + down b
-ltZ-false a b e = turned (up a + down b) (up b + down a) (λ l. subst T e (ltZ-make a b l))
+pub lt_z_false : (a b : ℤ) → lt_z a b ≡ false → up b + down a ≤ up a + down b
+lt_z_false a b e = turned (up a + down b) (up b + down a) (λ l. subst T e (lt_z_make a b l))
   where
     turned : (x y : ℕ) → (x < y → ⊥) → y ≤ x
     turned x y f = omega arith

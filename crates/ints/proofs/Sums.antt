@@ -28,13 +28,13 @@ up_neg (pos zero) = refl
 up_neg (pos (suc a)) = refl
 up_neg (negsuc a) = refl
 
-pub down-neg : (a : ℤ) → down (neg_ℤ a) ≡ up a
-down-neg (pos zero) = refl
-down-neg (pos (suc a)) = refl
-down-neg (negsuc a) = refl
+pub down_neg : (a : ℤ) → down (neg_ℤ a) ≡ up a
+down_neg (pos zero) = refl
+down_neg (pos (suc a)) = refl
+down_neg (negsuc a) = refl
 
 pub dif : (a b : ℤ) → up (a -ℤ b) + (down a + up b) ≡ down (a -ℤ b) + (up a + down b)
-dif a b = omega (arith, sum a (neg_ℤ b), up_neg b, down-neg b)
+dif a b = omega (arith, sum a (neg_ℤ b), up_neg b, down_neg b)
 
 -- ---- sums and differences of any depth: `exact ((at c ⊟ at v) ⊟ at h)`
 

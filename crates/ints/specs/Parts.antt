@@ -11,7 +11,7 @@ abbrev pub down : ℤ → ℕ
 down (pos n) = 0
 down (negsuc n) = suc n
 
--- z is in -k..k, both ends included. (The law `within-orders` says it with the order of the integers.)
+-- z is in -k..k, both ends included. (The law `within_orders` says it with the order of the integers.)
 pub record Within (k : ℕ) (z : ℤ) : Type 0 where
   pub low : down z ≤ up z + k
   pub high : up z ≤ down z + k

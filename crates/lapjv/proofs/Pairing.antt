@@ -7,24 +7,24 @@ use native.Mathlib.Omega.{arith}
 use lib.IntN.{ℤ, pos}
 use lib.ListN.{length, replicate}
 use Rattle.ints.specs.Parts.{Within}
-use Rattle.ints.proofs.Ranges.{within-mono}
+use Rattle.ints.proofs.Ranges.{within_mono}
 use Rattle.lists.specs.Permutations.{at}
-use Rattle.assignment.specs.Pairings.{signedAt, square, total}
+use Rattle.assignment.specs.Pairings.{signed_at, square, total}
 use Rattle.matrix.specs.Limits.{K, near}
 use Rattle.matrix.specs.Asked.{Listed}
 use Rattle.matrix.proofs.SmallLimits.{K-small}
-use Rattle.rules.specs.Columns.{Stage, columnReduction}
-use Rattle.rules.specs.Rows.{passEnd}
+use Rattle.rules.specs.Columns.{Stage, column_reduction}
+use Rattle.rules.specs.Rows.{pass_end}
 use Rattle.rules.specs.Augmentation.{Progress, augments, augmentation}
-use Rattle.rules.specs.Run.{Result, stages, run, rowPrices}
+use Rattle.rules.specs.Run.{Result, stages, run, prices_of_rows}
 use Rattle.rules.proofs.Stages.{search-ready}
 use Rattle.rules.specs.Right.{Right}
-use Rattle.rules.proofs.Run.{run-right}
+use Rattle.rules.proofs.Run.{run_right}
 use Rattle.augmentation.specs.Augmentation.{CanAugment, CanTurn, Augmented, state_of}
 use Rattle.lapjv.specs.declared.Reduced.{Reduced}
 use Rattle.lapjv.specs.Asked.{CanPrice}
-use Rattle.lapjv.specs.Stages.{Pairable, passOne, passTwo, ReducedBy, answer_in, PairedBy}
-use Rattle.lapjv.proofs.Ready.{cost, costs-within, side-free, near-five}
+use Rattle.lapjv.specs.Stages.{Pairable, pass_one, pass_two, ReducedBy, answer_in, PairedBy}
+use Rattle.lapjv.proofs.Ready.{cost, costs-within, side-free, near_five}
 use Rattle.lapjv.proofs.Reducing.{two_good}
 
 module _ (n : ℕ) (costs : List ℤ) (p : Pairable n costs) (cols rows : List ℕ) (v : List ℤ) (room : List ℕ) (r : Reduced)
@@ -33,13 +33,13 @@ module _ (n : ℕ) (costs : List ℤ) (p : Pairable n costs) (cols rows : List �
   c = cost n costs p
 
   abbrev s : Stage
-  s = passEnd (passTwo n costs)
+  s = pass_end (pass_two n costs)
 
   -- Search m can be made.
   can-turn : (m : ℕ) → m < s.count → CanTurn n costs (augments n c s.frees m (state_of s.pairs.cols s.pairs.rows s.prices 0)) (at s.frees m)
   can-turn m l =
       let q = search-ready n c p.some K (costs-within n costs p) s (two_good n costs p) m l in
-      record { can = q.can; prices-near = λ k. near-five (q.prices-within k) }
+      record { can = q.can; prices-near = λ k. near_five (q.prices-within k) }
 
   pub can-augment : (d : List ℤ) → length d ≡ n → CanAugment n costs r.rows_left cols rows v d room
   can-augment d e =
@@ -48,7 +48,7 @@ module _ (n : ℕ) (costs : List ℤ) (p : Pairable n costs) (cols rows : List �
         small = p.small;
         few = subst (λ (x : Stage). x.count ≤ n) (sym R.stage) G.count-few;
         costs-size = p.squared;
-        costs-near = λ k. within-mono (omega (arith, K-small)) (p.within k);
+        costs-near = λ k. within_mono (omega (arith, K-small)) (p.within k);
         cols-size = ap (λ (x : Stage). length x.pairs.cols) R.stage ∙ G.kept.agree.cols-size;
         rows-size = ap (λ (x : Stage). length x.pairs.rows) R.stage ∙ G.kept.agree.rows-size;
         prices-size = ap (λ (x : Stage). length x.prices) R.stage ∙ G.kept.prices-size;
@@ -68,13 +68,13 @@ module _ (n : ℕ) (costs : List ℤ) (p : Pairable n costs) (cols rows : List �
     last = A.same ∙ ap (augmentation n c) R.stage
 
     right : Right n costs K (run n costs)
-    right = run-right n costs K p.within (omega (arith, side-free, p.small))
+    right = run_right n costs K p.within (omega (arith, side-free, p.small))
 
     cols-run : (run n costs).cols ≡ cols'
     unfolding run
     cols-run = sym (ap (λ (x : Progress). x.pairs.cols) last)
 
-    v-run : (run n costs).columnPrices ≡ v'
+    v-run : (run n costs).prices_of_columns ≡ v'
     unfolding run
     v-run = sym (ap (λ (x : Progress). x.prices) last)
 
@@ -83,39 +83,39 @@ module _ (n : ℕ) (costs : List ℤ) (p : Pairable n costs) (cols rows : List �
     sizes = (
       ap length (sym cols-run) ∙ right.cols-size,
       ap (λ (x : Progress). length x.pairs.rows) last ∙ right.rows-size,
-      ap length (sym v-run) ∙ right.column-prices-size,
+      ap length (sym v-run) ∙ right.column_prices_size,
     )
 
     inside : (i : ℕ) → i < n → at cols' i < n
     inside = subst (λ (l : List ℕ). (i : ℕ) → i < n → at l i < n) cols-run right.named.inside
 
-    pub can-price : (us : List ℤ) → length us ≡ n → CanPrice n costs cols' v' us
-    can-price us e = record {
+    pub can_price : (us : List ℤ) → length us ≡ n → CanPrice n costs cols' v' us
+    can_price us e = record {
       small = p.small;
       squared = p.squared;
       cols-size = sizes.0;
       v-size = sizes.2;
       us-size = e;
       inside = inside;
-      prices-near = subst (λ (l : List ℤ). (j : ℕ) → j < n → Within near (signedAt l j)) v-run
-          (λ j l. near-five (let b = right.column-prices-between j l in record { low = omega arith; high = omega arith }));
+      prices-near = subst (λ (l : List ℤ). (j : ℕ) → j < n → Within near (signed_at l j)) v-run
+          (λ j l. near_five (let b = right.column_prices_between j l in record { low = omega arith; high = omega arith }));
     }
 
     pub can-total : Listed n costs n cols'
     can-total = record { small = p.small; squared = p.squared; rows = omega arith; listed = omega (arith, sizes.0); inside = inside }
 
     -- The answer, from the last state and the counts of the stages before it.
-    abbrev answerFrom : ℕ → ℕ → ℕ → ℕ → ℕ → Progress → Result
-    answerFrom a b o e f x = record {
+    abbrev answer_from : ℕ → ℕ → ℕ → ℕ → ℕ → Progress → Result
+    answer_from a b o e f x = record {
       cols = x.pairs.cols;
       rows = x.pairs.rows;
-      rowPrices = rowPrices n c x.pairs.cols x.prices;
-      columnPrices = x.prices;
+      prices_of_rows = prices_of_rows n c x.pairs.cols x.prices;
+      prices_of_columns = x.prices;
       total = total (square n costs) x.pairs.cols;
       counts = record { free_rows = a; looks_one = b; left_one = o; looks_two = e; rows_left = f; columns_scanned = x.scanned };
     }
 
-    pub paired_by : (us : List ℤ) (room'' : List ℕ) (d' d'' : List ℤ) (t : ℤ) → us ≡ rowPrices n c cols' v' → t ≡ total (square n costs) cols'
+    pub paired_by : (us : List ℤ) (room'' : List ℕ) (d' d'' : List ℤ) (t : ℤ) → us ≡ prices_of_rows n c cols' v' → t ≡ total (square n costs) cols'
         → room'' ≡ replicate (length room') 0 → length room' ≡ n + n + n + n → d'' ≡ replicate (length d') (pos 0) → length d' ≡ n
         → PairedBy n costs cols' rows' us v' room'' d''
         (record {
@@ -132,14 +132,14 @@ module _ (n : ℕ) (costs : List ℤ) (p : Pairable n costs) (cols rows : List �
     unfolding run stages
     paired_by us room'' d' d'' t eu et er el ed dl = record {
       answer =
-          ap₂ (λ (x : List ℤ) (y : ℤ). answer_in cols' rows' x v' (record { total = y; counts = (answerFrom a b o e f x').counts })) eu et
-          ∙ ap (λ (k : ℕ). answerFrom k b o e f x') R.free-rows
-          ∙ ap (λ (k : ℕ). answerFrom (columnReduction n c).count k o e f x') R.looks-one
-          ∙ ap (λ (k : ℕ). answerFrom (columnReduction n c).count (passOne n costs).pass.looks k e f x') R.left-one
-          ∙ ap (λ (k : ℕ). answerFrom (columnReduction n c).count (passOne n costs).pass.looks (passOne n costs).pass.left k f x') R.looks-two
-          ∙ ap₂ (answerFrom (columnReduction n c).count (passOne n costs).pass.looks (passOne n costs).pass.left (passTwo n costs).pass.looks) (ap (λ (x : Stage). x.count) R.stage) last;
-      room-cleared = er ∙ ap (λ (k : ℕ). replicate k 0) (let z : length room' ≡ 4 * n = omega arith in z);
-      distances-cleared = ed ∙ ap (λ (k : ℕ). replicate k (pos 0)) dl;
+          ap₂ (λ (x : List ℤ) (y : ℤ). answer_in cols' rows' x v' (record { total = y; counts = (answer_from a b o e f x').counts })) eu et
+          ∙ ap (λ (k : ℕ). answer_from k b o e f x') R.free-rows
+          ∙ ap (λ (k : ℕ). answer_from (column_reduction n c).count k o e f x') R.looks_one
+          ∙ ap (λ (k : ℕ). answer_from (column_reduction n c).count (pass_one n costs).pass.looks k e f x') R.left_one
+          ∙ ap (λ (k : ℕ). answer_from (column_reduction n c).count (pass_one n costs).pass.looks (pass_one n costs).pass.left k f x') R.looks_two
+          ∙ ap₂ (answer_from (column_reduction n c).count (pass_one n costs).pass.looks (pass_one n costs).pass.left (pass_two n costs).pass.looks) (ap (λ (x : Stage). x.count) R.stage) last;
+      room_cleared = er ∙ ap (λ (k : ℕ). replicate k 0) (let z : length room' ≡ 4 * n = omega arith in z);
+      distances_cleared = ed ∙ ap (λ (k : ℕ). replicate k (pos 0)) dl;
     }
       where
         a : ℕ

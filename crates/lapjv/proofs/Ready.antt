@@ -7,18 +7,18 @@ use native.Mathlib.Omega.{arith}
 use lib.IntN.{ℤ}
 use lib.ListN.{length}
 use Rattle.ints.specs.Parts.{Within}
-use Rattle.ints.proofs.Ranges.{within-mono}
-use Rattle.lists.proofs.Runs.{upward-keeps}
+use Rattle.ints.proofs.Ranges.{within_mono}
+use Rattle.lists.proofs.Runs.{upward_keeps}
 use Rattle.assignment.specs.Pairings.{square}
 use Rattle.matrix.specs.Limits.{side, K, near}
 use Rattle.matrix.proofs.SmallLimits.{side-small, K-small}
-use Rattle.rules.specs.Columns.{free, Stage, claims, transfer, untransferred, columnReduction}
-use Rattle.rules.specs.Rows.{rowReduction, passEnd}
-use Rattle.rules.proofs.Claims.{claimed-all}
-use Rattle.rules.proofs.Transfers.{Good, Transferred, transferred-none, transferred-more, transferred-within, columnReduction-good}
-use Rattle.rules.proofs.RowReduction.{PassOf, rowReduction-pass-of, look-ready}
+use Rattle.rules.specs.Columns.{free, Stage, claims, transfer, untransferred, column_reduction}
+use Rattle.rules.specs.Rows.{row_reduction, pass_end}
+use Rattle.rules.proofs.Claims.{claimed_all}
+use Rattle.rules.proofs.Transfers.{Good, Transferred, transferred_none, transferred_more, transferred_within, column_reduction_good}
+use Rattle.rules.proofs.RowReduction.{PassOf, row_reduction_pass_of, look-ready}
 use Rattle.reduction.specs.Ranges.{Square}
-use Rattle.reduction.specs.Columns.{Reducible, transfersTo}
+use Rattle.reduction.specs.Columns.{Reducible, transfers_to}
 use Rattle.reduction.specs.Rows.{Passable}
 use Rattle.lapjv.specs.Stages.{Pairable}
 
@@ -27,8 +27,8 @@ pub side-free : side ≤ free
 unfolding free
 side-free = omega (arith, side-small)
 
-pub near-five : {z : ℤ} → Within (5 * K) z → Within near z
-near-five = within-mono (omega (arith, K-small))
+pub near_five : {z : ℤ} → Within (5 * K) z → Within near z
+near_five = within_mono (omega (arith, K-small))
 
 module _ (n : ℕ) (costs : List ℤ) (p : Pairable n costs) where
   abbrev pub cost : ℕ → ℕ → ℤ
@@ -41,54 +41,54 @@ module _ (n : ℕ) (costs : List ℤ) (p : Pairable n costs) where
   GoodStage = Good n cost p.some K costs-within
 
   square-near : Square n costs
-  square-near = record { small = p.small; size = p.squared; near-costs = λ i j l m. within-mono (omega (arith, K-small)) (costs-within i j) }
+  square-near = record { small = p.small; size = p.squared; near-costs = λ i j l m. within_mono (omega (arith, K-small)) (costs-within i j) }
 
   below_free : n ≤ free
   below_free = omega (arith, side-free, p.small)
 
   -- After m rows of the transfer.
   transferred : (m : ℕ) → m ≤ n
-      → Transferred n cost p.some K costs-within (claims n cost) (claimed-all n cost p.some below_free) m (transfersTo n cost m)
+      → Transferred n cost p.some K costs-within (claims n cost) (claimed_all n cost p.some below_free) m (transfers_to n cost m)
   transferred m l =
-      upward-keeps (Transferred n cost p.some K costs-within (claims n cost) (claimed-all n cost p.some below_free)) 0 m (transfer n cost (claims n cost))
-      (untransferred n cost) (omega arith) (transferred-none n cost p.some K costs-within (claims n cost) (claimed-all n cost p.some below_free))
-      (λ k x a h T. transferred-more n cost p.some K costs-within (claims n cost) (claimed-all n cost p.some below_free) k (omega arith) x T)
+      upward_keeps (Transferred n cost p.some K costs-within (claims n cost) (claimed_all n cost p.some below_free)) 0 m (transfer n cost (claims n cost))
+      (untransferred n cost) (omega arith) (transferred_none n cost p.some K costs-within (claims n cost) (claimed_all n cost p.some below_free))
+      (λ k x a h T. transferred_more n cost p.some K costs-within (claims n cost) (claimed_all n cost p.some below_free) k (omega arith) x T)
 
-  pub rule-three : (cols rows : List ℕ) (v : List ℤ) (room : List ℕ) → length cols ≡ n → length rows ≡ n → length v ≡ n → length room ≡ n + n + n + n
+  pub rule_three : (cols rows : List ℕ) (v : List ℤ) (room : List ℕ) → length cols ≡ n → length rows ≡ n → length v ≡ n → length room ≡ n + n + n + n
       → Reducible n costs cols rows v room
-  rule-three cols rows v room a b c d = record {
+  rule_three cols rows v room a b c d = record {
     some = p.some;
     squared = square-near;
     cols-size = a;
     rows-size = b;
     prices-size = c;
     room-size = d;
-    near-prices = λ m l k h. near-five
-        (transferred-within n cost p.some K costs-within (claims n cost) (claimed-all n cost p.some below_free) m (transfersTo n cost m)
+    near-prices = λ m l k h. near_five
+        (transferred_within n cost p.some K costs-within (claims n cost) (claimed_all n cost p.some below_free) m (transfers_to n cost m)
         (transferred m (omega arith)) k);
   }
 
-  pub rule-three-good : GoodStage (columnReduction n cost)
-  rule-three-good = columnReduction-good n cost p.some K costs-within below_free
+  pub rule_three_good : GoodStage (column_reduction n cost)
+  rule_three_good = column_reduction_good n cost p.some K costs-within below_free
 
   -- A pass from a stage that is good.
   module _ (s : Stage) (G : GoodStage s) where
-    abbrev after : PassOf n cost p.some K costs-within s (rowReduction n cost s)
-    after = rowReduction-pass-of n cost p.some K costs-within s G
+    abbrev after : PassOf n cost p.some K costs-within s (row_reduction n cost s)
+    after = row_reduction_pass_of n cost p.some K costs-within s G
 
-    pub rule-four : Passable n costs s.pairs.cols s.pairs.rows s.prices s.frees s.count
-    unfolding rowReduction
-    rule-four = record {
+    pub rule_four : Passable n costs s.pairs.cols s.pairs.rows s.prices s.frees s.count
+    unfolding row_reduction
+    rule_four = record {
       squared = square-near;
       cols-size = G.kept.agree.cols-size;
       rows-size = G.kept.agree.rows-size;
       prices-size = G.kept.prices-size;
       frees-size = G.frees-size;
       count_most = G.count-few;
-      ends = omega (arith, after.all-looked-at);
+      ends = omega (arith, after.all_looked_at);
       row_below = λ m l h. (look-ready n cost p.some K costs-within s G m h).row_below;
-      near-prices = λ m l h j e. near-five ((look-ready n cost p.some K costs-within s G m h).prices-within j);
+      near-prices = λ m l h j e. near_five ((look-ready n cost p.some K costs-within s G m h).prices-within j);
     }
 
-    pub rule-four-good : GoodStage (passEnd (rowReduction n cost s))
-    rule-four-good = after.good
+    pub rule_four_good : GoodStage (pass_end (row_reduction n cost s))
+    rule_four_good = after.good

@@ -8,20 +8,20 @@ use lib.ListN.{length}
 use Rattle.matrix.specs.Verdicts as verdicts
 use Rattle.matrix.specs.declared.Refusal.{Refusal}
 use Rattle.matrix.specs.declared.Verdict.TheVariants.{Fails}
-use Rattle.matrix.proofs.Verdicts.{then-iff}
-use Rattle.matrix.proofs.Passed.{shaped-iff, rooms-long, costs-within}
+use Rattle.matrix.proofs.Verdicts.{then_iff}
+use Rattle.matrix.proofs.Passed.{shaped_iff, rooms_long_lem, costs-within}
 use Rattle.rules.specs.Run.{run}
 use Rattle.lapjv.specs.Solve.{Lent, tested, outcome, solve, refused, paired}
 use Rattle.lapjv.specs.WithinLimits.{WithinLimits}
 
 module _ (n : ℕ) (costs : List ℤ) (lent : Lent) where
-  pub tested-iff : verdicts.Passes (tested n costs lent) ↔ WithinLimits n costs lent
+  pub tested_iff : verdicts.Passes (tested n costs lent) ↔ WithinLimits n costs lent
   unfolding tested
-  tested-iff =
-      let shape = shaped-iff n costs (length lent.cols) (length lent.rows) (length lent.rowPrices) (length lent.columnPrices) in
-      let rooms = rooms-long n (length lent.indices) (length lent.numbers) in
-      let t5 = then-iff _ _ in
-      let t4 = then-iff _ _ in (
+  tested_iff =
+      let shape = shaped_iff n costs (length lent.cols) (length lent.rows) (length lent.prices_of_rows) (length lent.prices_of_columns) in
+      let rooms = rooms_long_lem n (length lent.indices) (length lent.numbers) in
+      let t5 = then_iff _ _ in
+      let t4 = then_iff _ _ in (
         λ e.
             let s = shape.0 (t4.0 (t5.0 e).0).0 in
             let r = rooms.0 (t4.0 (t5.0 e).0).1 in
@@ -30,8 +30,8 @@ module _ (n : ℕ) (costs : List ℤ) (lent : Lent) where
               squared = s.squared;
               cols-enough = s.long.first-long;
               rows-enough = s.long.second-long;
-              row-prices-enough = s.long.third-long;
-              column-prices-enough = s.long.fourth-long;
+              row_prices_enough = s.long.third_long;
+              column_prices_enough = s.long.fourth_long;
               indices-enough = r.0;
               numbers-enough = r.1;
               costs-within = (costs-within costs).0 (t5.0 e).1;
@@ -40,17 +40,17 @@ module _ (n : ℕ) (costs : List ℤ) (lent : Lent) where
             let s = shape.1 (record {
               small = p.small;
               squared = p.squared;
-              long = record { first-long = p.cols-enough; second-long = p.rows-enough; third-long = p.row-prices-enough; fourth-long = p.column-prices-enough };
+              long = record { first-long = p.cols-enough; second-long = p.rows-enough; third_long = p.row_prices_enough; fourth_long = p.column_prices_enough };
             }) in
             t5.1 (t4.1 (s, rooms.1 (p.indices-enough, p.numbers-enough)), (costs-within costs).1 p.costs-within),
       )
 
   -- Such an input is never refused.
-  pub passes-paired : WithinLimits n costs lent → solve n costs lent ≡ paired n lent (run n costs)
+  pub passes_paired : WithinLimits n costs lent → solve n costs lent ≡ paired n lent (run n costs)
   unfolding solve outcome
-  passes-paired p = rw (tested-iff.1 p)
+  passes_paired p = rw (tested_iff.1 p)
 
   -- Any other is, and nothing is written.
-  pub fails-refused : (refusal : Refusal) → tested n costs lent ≡ Fails refusal → solve n costs lent ≡ refused lent refusal
+  pub fails_refused : (refusal : Refusal) → tested n costs lent ≡ Fails refusal → solve n costs lent ≡ refused lent refusal
   unfolding solve outcome
-  fails-refused refusal e = rw e
+  fails_refused refusal e = rw e

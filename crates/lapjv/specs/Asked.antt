@@ -1,6 +1,6 @@
 -- What functions that the entry calls, and those above it, ask for. The entry asks for nothing.
 use Rattle.std.specs.Prelude.{List, ◌≡◌, ℕ, ◌*◌, ◌≤◌, ◌<◌, ℤ, length}
-use Rattle.assignment.specs.Pairings.{signedAt}
+use Rattle.assignment.specs.Pairings.{signed_at}
 use Rattle.ints.specs.Parts.{Within}
 use Rattle.lapjv.specs.declared.Solved.TheVariants.{Paired, Refused}
 use Rattle.lapjv.specs.declared.Solved.{Solved}
@@ -21,4 +21,4 @@ pub record CanPrice (n : ℕ) (costs : List ℤ) (cols : List ℕ) (v us : List 
   pub v-size : length v ≡ n
   pub us-size : length us ≡ n
   pub inside : (i : ℕ) → i < n → at cols i < n
-  pub prices-near : (j : ℕ) → j < n → Within near (signedAt v j)
+  pub prices-near : (j : ℕ) → j < n → Within near (signed_at v j)

@@ -1,7 +1,7 @@
 -- The solver: what it answers, and what a caller finds in the six lent lists, for every input.
 use Rattle.std.specs.Prelude.{List, [], ◌∷◌, ◌++◌, ℕ, ◌*◌, ℤ, pos, length, drop, replicate}
 use Rattle.matrix.specs.Verdicts.{◌then◌}
-use Rattle.matrix.specs.Tests.{shaped, roomsLong, costsWithin}
+use Rattle.matrix.specs.Tests.{shaped, rooms_long, costs_within}
 use Rattle.matrix.specs.declared.Refusal.{Refusal}
 use Rattle.matrix.specs.declared.Verdict.{Verdict}
 use Rattle.matrix.specs.declared.Verdict.TheVariants.{Passed, Fails}
@@ -14,32 +14,32 @@ use Rattle.lapjv.specs.declared.Solved.TheVariants.{Paired, Refused}
 pub record Lent : Type 0 where
   pub cols : List ℕ
   pub rows : List ℕ
-  pub rowPrices : List ℤ
-  pub columnPrices : List ℤ
+  pub prices_of_rows : List ℤ
+  pub prices_of_columns : List ℤ
   pub indices : List ℕ
   pub numbers : List ℤ
 
 abbrev pub lent_of : List ℕ → List ℕ → List ℤ → List ℤ → List ℕ → List ℤ → Lent
-lent_of cols rows us vs indices numbers = record { cols = cols; rows = rows; rowPrices = us; columnPrices = vs; indices = indices; numbers = numbers }
+lent_of cols rows us vs indices numbers = record { cols = cols; rows = rows; prices_of_rows = us; prices_of_columns = vs; indices = indices; numbers = numbers }
 
 -- "Solver: 1, 2, 3, 4, 5."
 unfoldable pub tested : ℕ → List ℤ → Lent → Verdict
 tested n costs lent =
-    shaped n costs (length lent.cols ∷ length lent.rows ∷ length lent.rowPrices ∷ length lent.columnPrices ∷ [])
-    then roomsLong n (length lent.indices) (length lent.numbers)
-    then costsWithin costs
+    shaped n costs (length lent.cols ∷ length lent.rows ∷ length lent.prices_of_rows ∷ length lent.prices_of_columns ∷ [])
+    then rooms_long n (length lent.indices) (length lent.numbers)
+    then costs_within costs
 
 -- What a caller gets and finds.
 pub record Outcome : Type 0 where
   pub answer : Solved
   pub lent : Lent
 
-abbrev pub outcomeOf : Solved → Lent → Outcome
-outcomeOf answer lent = record { answer = answer; lent = lent }
+abbrev pub outcome_of : Solved → Lent → Outcome
+outcome_of answer lent = record { answer = answer; lent = lent }
 
 -- "A refusal [..] changes no lent entry."
 abbrev pub refused : Lent → Refusal → Outcome
-refused lent refusal = outcomeOf (Refused refusal) lent
+refused lent refusal = outcome_of (Refused refusal) lent
 
 -- "After acceptance the first n entries of each output hold the answer, the first 4n and n work entries are 0, and later entries are
 -- untouched. [..] The answer carries the total and" six "counts."
@@ -49,8 +49,8 @@ paired n lent a = record {
   lent = record {
     cols = a.cols ++ drop n lent.cols;
     rows = a.rows ++ drop n lent.rows;
-    rowPrices = a.rowPrices ++ drop n lent.rowPrices;
-    columnPrices = a.columnPrices ++ drop n lent.columnPrices;
+    prices_of_rows = a.prices_of_rows ++ drop n lent.prices_of_rows;
+    prices_of_columns = a.prices_of_columns ++ drop n lent.prices_of_columns;
     indices = replicate (4 * n) 0 ++ drop (4 * n) lent.indices;
     numbers = replicate n (pos 0) ++ drop n lent.numbers;
   };

@@ -4,16 +4,16 @@ use Rattle.lists.specs.Sums.{sum}
 use Rattle.assignment.specs.Amounts.{risen}
 use Rattle.lapjv.specs.declared.Solved.{Solved}
 use Rattle.lapjv.specs.declared.Solved.TheVariants.{Paired, Refused}
-use Rattle.lapjv.specs.Solve.{Outcome, lent_of, outcomeOf}
+use Rattle.lapjv.specs.Solve.{Outcome, lent_of, outcome_of}
 
 -- The total rises by t; the counts stay.
-abbrev pub totalRisen : ℤ → Solved → Solved
-totalRisen t (Paired night) = Paired (record { total = night.total +ℤ t; counts = night.counts })
-totalRisen t (Refused refusal) = Refused refusal
+abbrev pub total_risen : ℤ → Solved → Solved
+total_risen t (Paired night) = Paired (record { total = night.total +ℤ t; counts = night.counts })
+total_risen t (Refused refusal) = Refused refusal
 
 -- The first n column prices each rise by their column's amount, and the total by the sum of the amounts; every other lent entry is as without them.
-abbrev pub surchargedOutcome : ℕ → (ℕ → ℤ) → Outcome → Outcome
-surchargedOutcome n amount o =
-    let v = o.lent.columnPrices in
-    outcomeOf (totalRisen (sum n amount) o.answer)
-    (lent_of o.lent.cols o.lent.rows o.lent.rowPrices (risen amount (take n v) ++ drop n v) o.lent.indices o.lent.numbers)
+abbrev pub surcharged_outcome : ℕ → (ℕ → ℤ) → Outcome → Outcome
+surcharged_outcome n amount o =
+    let v = o.lent.prices_of_columns in
+    outcome_of (total_risen (sum n amount) o.answer)
+    (lent_of o.lent.cols o.lent.rows o.lent.prices_of_rows (risen amount (take n v) ++ drop n v) o.lent.indices o.lent.numbers)

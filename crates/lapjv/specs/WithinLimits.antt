@@ -2,7 +2,7 @@
 -- "at least 4n 32-bit indices" and "at least n 64-bit numbers".
 use Rattle.std.specs.Prelude.{◌≡◌, List, ℕ, ◌*◌, ◌≤◌, ◌<◌, ℤ, length}
 use Rattle.ints.specs.Parts.{Within}
-use Rattle.assignment.specs.Pairings.{signedAt}
+use Rattle.assignment.specs.Pairings.{signed_at}
 use Rattle.matrix.specs.Limits.{side, K}
 use Rattle.lapjv.specs.Solve.{Lent}
 
@@ -11,8 +11,8 @@ pub record WithinLimits (n : ℕ) (costs : List ℤ) (lent : Lent) : Type 0 wher
   pub squared : length costs ≡ n * n
   pub cols-enough : n ≤ length lent.cols
   pub rows-enough : n ≤ length lent.rows
-  pub row-prices-enough : n ≤ length lent.rowPrices
-  pub column-prices-enough : n ≤ length lent.columnPrices
+  pub row_prices_enough : n ≤ length lent.prices_of_rows
+  pub column_prices_enough : n ≤ length lent.prices_of_columns
   pub indices-enough : 4 * n ≤ length lent.indices
   pub numbers-enough : n ≤ length lent.numbers
-  pub costs-within : (k : ℕ) → k < length costs → Within K (signedAt costs k)
+  pub costs-within : (k : ℕ) → k < length costs → Within K (signed_at costs k)

@@ -1,11 +1,11 @@
 // The solver: the tests of its input, the stages one after the other, and the entry. What is promised is said in specs/.
 ghost use Rattle.std.specs.Prelude.{◌≡◌, pos, length, replicate};
 ghost use Rattle.assignment.specs.Pairings.{square};
-ghost use Rattle.rules.specs.Run.{rowPrices};
+ghost use Rattle.rules.specs.Run.{prices_of_rows};
 ghost use Rattle.lapjv.specs.Asked.{CanPrice};
 ghost use Rattle.lapjv.specs.Stages.{Pairable, Sized, ReducedBy, PairedBy};
-ghost use Rattle.lapjv.specs.Solve.{lent_of, outcomeOf, tested, solve};
-ghost use Rattle.lapjv.specs.Values.{noCounts, toldOf};
+ghost use Rattle.lapjv.specs.Solve.{lent_of, outcome_of, tested, solve};
+ghost use Rattle.lapjv.specs.Values.{no_counts, told_of};
 
 use matrix::{Refusal, Verdict, tests};
 use rules::Counts;
@@ -73,7 +73,7 @@ pub fn clear_numbers(numbers: &mut [i64])
 // Row prices: cost minus v at the paired column.
 pub fn write_row_prices(n: usize, costs: &[i32], cols: &[u32], v: &[i64], row_prices: &mut [i64])
     requires { CanPrice n costs.now cols.now v.now row_prices.old }
-    ensures { row_prices.new ≡ rowPrices n (square n costs.now).cost cols.now v.now }
+    ensures { row_prices.new ≡ prices_of_rows n (square n costs.now).cost cols.now v.now }
 {
     let mut start = 0;
     let mut i = 0;
@@ -148,7 +148,7 @@ fn pair(
 
 // Side 0: total 0, counts 0.
 fn nothing() -> Sums
-    ensures { result ≡ record { total = pos 0; counts = noCounts } }
+    ensures { result ≡ record { total = pos 0; counts = no_counts } }
 {
     Sums {
         total: 0,
@@ -174,7 +174,7 @@ pub fn solve(
     indices: &mut [u32],
     numbers: &mut [i64],
 ) -> Solved
-    ensures { toldOf (outcomeOf result (lent_of cols.new rows.new row_prices.new col_prices.new indices.new numbers.new)) ≡ toldOf (solve n costs.now (lent_of cols.old rows.old row_prices.old col_prices.old indices.old numbers.old)) }
+    ensures { told_of (outcome_of result (lent_of cols.new rows.new row_prices.new col_prices.new indices.new numbers.new)) ≡ told_of (solve n costs.now (lent_of cols.old rows.old row_prices.old col_prices.old indices.old numbers.old)) }
 {
     match tested(
         n, costs, cols, rows, row_prices, col_prices, indices, numbers,

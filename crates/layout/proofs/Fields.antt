@@ -8,7 +8,7 @@ use lib.ListN.{length, get_or, take, drop, length-append}
 use lib.Seq.{take_at, drop_at, drop-drop, ext_get_or}
 use Rattle.lists.specs.Parts.{part}
 use Rattle.lists.specs.Permutations.{table}
-use Rattle.lists.proofs.Tables.{length-table, getD-table}
+use Rattle.lists.proofs.Tables.{length-table, get_d_table}
 use Rattle.layout.specs.Fields.{fields}
 
 pub length_fields : {A : Type 0} (decode : List ℕ → A) (base width n : ℕ) (bytes : List ℕ) → length (fields decode base width n bytes) ≡ n
@@ -16,11 +16,11 @@ unfolding fields
 length_fields decode base width n bytes = length-table n (λ i. decode (part (base + i * width) width bytes))
 
 module _ {A : Type 0} (encode : A → List ℕ) (width : ℕ) (size : (a : A) → length (encode a) ≡ width) where
-  pub length-flatMap : (l : List A) → length (flat_map encode l) ≡ length l * width
+  pub length_flat_map : (l : List A) → length (flat_map encode l) ≡ length l * width
   unfolding flat_map
-  length-flatMap [] = sym (zero-mul width)
-  length-flatMap (a ∷ l) =
-      omega (arith, length-append (encode a) (flat_map encode l), size a, length-flatMap l, suc-mul (length l) width)
+  length_flat_map [] = sym (zero-mul width)
+  length_flat_map (a ∷ l) =
+      omega (arith, length-append (encode a) (flat_map encode l), size a, length_flat_map l, suc-mul (length l) width)
 
   -- The field at i, whatever follows.
   field_at : (l : List A) (i : ℕ) (d : A) (rest : List ℕ) → i < length l → part (i * width) width (flat_map encode l ++ rest) ≡ encode (get_or l i d)
@@ -36,12 +36,12 @@ module _ {A : Type 0} (encode : A → List ℕ) (width : ℕ) (size : (a : A) �
       ∙ field_at l i d rest (omega arith)
 
   -- The fields that stand after a part that is `base` long.
-  pub fields-flatMap : (decode : List ℕ → A) (before : List ℕ) (base : ℕ) (l : List A) (n : ℕ) (rest : List ℕ) (d : A) → length before ≡ base → length l ≡ n
+  pub fields_flat_map : (decode : List ℕ → A) (before : List ℕ) (base : ℕ) (l : List A) (n : ℕ) (rest : List ℕ) (d : A) → length before ≡ base → length l ≡ n
       → ((i : ℕ) → i < n → decode (encode (get_or l i d)) ≡ get_or l i d) → fields decode base width n (before ++ (flat_map encode l ++ rest)) ≡ l
   unfolding fields
-  fields-flatMap decode before base l n rest d b e back =
+  fields_flat_map decode before base l n rest d b e back =
       ext_get_or d (table n read) l (length-table n read ∙ sym e)
-      (λ i h. getD-table n read d i (small i h) ∙ ap decode (found i (small i h)) ∙ back i (small i h))
+      (λ i h. get_d_table n read d i (small i h) ∙ ap decode (found i (small i h)) ∙ back i (small i h))
     where
       read : ℕ → A
       read i = decode (part (base + i * width) width (before ++ (flat_map encode l ++ rest)))

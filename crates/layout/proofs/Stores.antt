@@ -12,30 +12,30 @@ use Rattle.lists.proofs.Tables.{length-table}
 use Rattle.layout.specs.Fields.{fields}
 
 module _ {A : Type 0} where
-  pub sets-append : (p q l : List A) (i k : ℕ) → i + length p ≡ k → sets (sets l i p) k q ≡ sets l i (p ++ q)
-  sets-append [] q l i k e = let same : k ≡ i = omega arith in ap (λ (m : ℕ). sets l m q) same
-  sets-append (a ∷ p) q l i k e = sets-append p q _ (suc i) k (omega arith)
+  pub sets_append : (p q l : List A) (i k : ℕ) → i + length p ≡ k → sets (sets l i p) k q ≡ sets l i (p ++ q)
+  sets_append [] q l i k e = let same : k ≡ i = omega arith in ap (λ (m : ℕ). sets l m q) same
+  sets_append (a ∷ p) q l i k e = sets_append p q _ (suc i) k (omega arith)
 
   -- One run after another, as code leaves them.
-  pub stored-then : (l : List A) {m r : List A} (p q : List A) (i k : ℕ) → m ≡ sets l i p → i + length p ≡ k → r ≡ sets m k q → r ≡ sets l i (p ++ q)
-  stored-then l p q i k e s f = f ∙ ap (λ (x : List A). sets x k q) e ∙ sets-append p q l i k s
+  pub stored_then : (l : List A) {m r : List A} (p q : List A) (i k : ℕ) → m ≡ sets l i p → i + length p ≡ k → r ≡ sets m k q → r ≡ sets l i (p ++ q)
+  stored_then l p q i k e s f = f ∙ ap (λ (x : List A). sets x k q) e ∙ sets_append p q l i k s
 
   -- A run of stores from the start on.
-  pub sets-front : (p l : List A) (k : ℕ) → length p ≡ k → k ≤ length l → sets l 0 p ≡ p ++ drop k l
-  sets-front p l k e h = sets-eq p l 0 (omega arith) ∙ ap (λ (m : ℕ). p ++ drop m l) (zero-add (length p) ∙ e)
+  pub sets_front : (p l : List A) (k : ℕ) → length p ≡ k → k ≤ length l → sets l 0 p ≡ p ++ drop k l
+  sets_front p l k e h = sets-eq p l 0 (omega arith) ∙ ap (λ (m : ℕ). p ++ drop m l) (zero-add (length p) ∙ e)
 
 module _ {A : Type 0} (encode : A → List ℕ) (width : ℕ) (size : (a : A) → length (encode a) ≡ width) where
   -- The field at i is written: the later ones are left.
-  pub field-written : (room : List ℕ) (at next : ℕ) (l : List A) (i : ℕ) (d : A) → i < length l → next ≡ at + width
+  pub field_written : (room : List ℕ) (at next : ℕ) (l : List A) (i : ℕ) (d : A) → i < length l → next ≡ at + width
       → sets (sets room at (encode (get_or l i d))) next (flat_map encode (drop (i + 1) l)) ≡ sets room at (flat_map encode (drop i l))
   unfolding flat_map
-  field-written room at next l i d h e =
+  field_written room at next l i d h e =
       let one : i + 1 ≡ suc i = omega arith in
-      rw (one, drop-cons l i d h) (sets-append (encode (get_or l i d)) (flat_map encode (drop (suc i) l)) room at next (omega (arith, size (get_or l i d))))
+      rw (one, drop-cons l i d h) (sets_append (encode (get_or l i d)) (flat_map encode (drop (suc i) l)) room at next (omega (arith, size (get_or l i d))))
 
-  pub all-written : (room : List ℕ) (at : ℕ) (l : List A) (i : ℕ) → length l ≤ i → sets room at (flat_map encode (drop i l)) ≡ room
+  pub all_written : (room : List ℕ) (at : ℕ) (l : List A) (i : ℕ) → length l ≤ i → sets room at (flat_map encode (drop i l)) ≡ room
   unfolding flat_map
-  all-written room at l i h = rw (drop_of_length-le l {i = i} h)
+  all_written room at l i h = rw (drop_of_length-le l {i = i} h)
 
 -- Fields that are read in order into the front of a list: after k of them the first k stand in place.
 module _ {A : Type 0} (decode : List ℕ → A) (at width : ℕ) (bytes : List ℕ) (room : List A) where
@@ -43,12 +43,12 @@ module _ {A : Type 0} (decode : List ℕ → A) (at width : ℕ) (bytes : List �
   unfolding fields table
   none_read = refl
 
-  pub next-read : (place k : ℕ) (l : List A) (a : A) → place ≡ at + k * width → l ≡ sets room 0 (fields decode at width k bytes)
+  pub next_read : (place k : ℕ) (l : List A) (a : A) → place ≡ at + k * width → l ≡ sets room 0 (fields decode at width k bytes)
       → a ≡ decode (part place width bytes) → set l k a ≡ sets room 0 (fields decode at width (k + 1) bytes)
   unfolding fields table
-  next-read place k l a p e f =
+  next_read place k l a p e f =
       let one : k + 1 ≡ suc k = omega arith in
       let so_far = table k (λ i. decode (part (at + i * width) width bytes)) in
       let new : a ≡ decode (part (at + k * width) width bytes) = f ∙ ap (λ (i : ℕ). decode (part i width bytes)) p in
       rw (one, e, new)
-      (sets-append so_far (decode (part (at + k * width) width bytes) ∷ []) room 0 k (zero-add (length so_far) ∙ length-table k (λ i. decode (part (at + i * width) width bytes))))
+      (sets_append so_far (decode (part (at + k * width) width bytes) ∷ []) room 0 k (zero-add (length so_far) ∙ length-table k (λ i. decode (part (at + i * width) width bytes))))

@@ -9,38 +9,38 @@ use lib.IntN.{ℤ, pos, negsuc}
 use lib.ListN.{length, get_or, drop}
 use lib.Seq.{drop-cons}
 use lib.Signed.{mag}
-use Rattle.layout.specs.Values.{bytes_of, value_of, wrapped, unwrapped, signedBytes, signedValue}
+use Rattle.layout.specs.Values.{bytes_of, value_of, wrapped, unwrapped, signed_bytes, signed_value}
 
-pub length-bytesOf : (k x : ℕ) → length (bytes_of k x) ≡ k
+pub length-bytes_of : (k x : ℕ) → length (bytes_of k x) ≡ k
 unfolding bytes_of
-length-bytesOf zero x = refl
-length-bytesOf (suc k) x = ap suc (length-bytesOf k _)
+length-bytes_of zero x = refl
+length-bytes_of (suc k) x = ap suc (length-bytes_of k _)
 
-pub length-signedBytes : (k : ℕ) (z : ℤ) → length (signedBytes k z) ≡ k
-length-signedBytes k z = length-bytesOf k (wrapped k z)
+pub length-signed_bytes : (k : ℕ) (z : ℤ) → length (signed_bytes k z) ≡ k
+length-signed_bytes k z = length-bytes_of k (wrapped k z)
 
 -- A number that fits k bytes is what its k bytes stand for.
-pub value-bytesOf : (k x : ℕ) → x < 256 ^ k → value_of (bytes_of k x) ≡ x
+pub value_bytes_of : (k x : ℕ) → x < 256 ^ k → value_of (bytes_of k x) ≡ x
 unfolding bytes_of value_of
-value-bytesOf zero x h = omega arith
-value-bytesOf (suc k) x h =
+value_bytes_of zero x h = omega arith
+value_bytes_of (suc k) x h =
     let below : x / 256 < 256 ^ k = (div-lt_iff_lt-mul {k = 256} {x = x} {y = 256 ^ k} (omega arith)).1 (omega (arith, pow-succ' 256 k, mul_comm 256 (256 ^ k))) in
-    omega (arith, value-bytesOf k (x / 256) below, mod-add-div x 256)
+    omega (arith, value_bytes_of k (x / 256) below, mod-add-div x 256)
 
 -- One byte more, the lowest: the value of what stands from k on, and how large it is.
-pub value-more : (l : List ℕ) (k v b : ℕ) → k < length l → v ≡ value_of (drop (suc k) l) → b ≡ get_or l k 0 → v * 256 + b ≡ value_of (drop k l)
+pub value_more : (l : List ℕ) (k v b : ℕ) → k < length l → v ≡ value_of (drop (suc k) l) → b ≡ get_or l k 0 → v * 256 + b ≡ value_of (drop k l)
 unfolding value_of
-value-more l k v b h e f = rw (drop-cons l k 0 h) (omega arith)
+value_more l k v b h e f = rw (drop-cons l k 0 h) (omega arith)
 
-pub more-below : (m v b : ℕ) → v < 256 ^ m → b < 256 → v * 256 + b < 256 ^ suc m
-more-below m v b h l = omega (arith, pow-succ' 256 m, mul-le-mul_left 256 h)
+pub more_below : (m v b : ℕ) → v < 256 ^ m → b < 256 → v * 256 + b < 256 ^ suc m
+more_below m v b h l = omega (arith, pow-succ' 256 m, mul-le-mul_left 256 h)
 
 -- What bytes stand for is below what so many bytes can say.
-pub value-below : (l : List ℕ) (k : ℕ) → length l ≤ k → ((i : ℕ) → i < length l → get_or l i 0 < 256) → value_of l < 256 ^ k
+pub value_below : (l : List ℕ) (k : ℕ) → length l ≤ k → ((i : ℕ) → i < length l → get_or l i 0 < 256) → value_of l < 256 ^ k
 unfolding value_of
-value-below [] k h f = let z : 0 ≤ k = omega arith in let p : 256 ^ 0 ≤ 256 ^ k = pow-le-pow_right (zero-lt-suc 255) z in omega arith
-value-below (b ∷ l) zero h f = absurd (omega arith)
-value-below (b ∷ l) (suc k) h f = omega (arith, more-below k (value_of l) b (value-below l k (omega arith) (λ i m. f (suc i) (omega arith))) (f 0 (omega arith)))
+value_below [] k h f = let z : 0 ≤ k = omega arith in let p : 256 ^ 0 ≤ 256 ^ k = pow-le-pow_right (zero-lt-suc 255) z in omega arith
+value_below (b ∷ l) zero h f = absurd (omega arith)
+value_below (b ∷ l) (suc k) h f = omega (arith, more_below k (value_of l) b (value_below l k (omega arith) (λ i m. f (suc i) (omega arith))) (f 0 (omega arith)))
 
 -- ---- two's complement
 
@@ -63,5 +63,5 @@ module _ (k : ℕ) (z : ℤ) (fits : mag z < 256 ^ k / 2) where
           rw (le-ltb (256 ^ k - suc n) (256 ^ k / 2) upper) (ap negsuc back)
 
   -- An integer that fits k bytes is what its k bytes stand for.
-  pub signedValue-signedBytes : signedValue k (signedBytes k z) ≡ z
-  signedValue-signedBytes = ap (unwrapped k) (value-bytesOf k (wrapped k z) wrapped-below) ∙ unwrapped-wrapped
+  pub signed_value-signed_bytes : signed_value k (signed_bytes k z) ≡ z
+  signed_value-signed_bytes = ap (unwrapped k) (value_bytes_of k (wrapped k z) wrapped-below) ∙ unwrapped-wrapped

@@ -21,9 +21,9 @@ abbrev pub unwrapped : ℕ → ℕ → ℤ
 unwrapped k x = cond (ltb x (256 ^ k / 2)) (pos x) (negsuc (256 ^ k - suc x))
 
 -- The k bytes of an integer.
-abbrev pub signedBytes : ℕ → ℤ → List ℕ
-signedBytes k z = bytes_of k (wrapped k z)
+abbrev pub signed_bytes : ℕ → ℤ → List ℕ
+signed_bytes k z = bytes_of k (wrapped k z)
 
 -- The integer that k bytes stand for.
-abbrev pub signedValue : ℕ → List ℕ → ℤ
-signedValue k bytes = unwrapped k (value_of bytes)
+abbrev pub signed_value : ℕ → List ℕ → ℤ
+signed_value k bytes = unwrapped k (value_of bytes)

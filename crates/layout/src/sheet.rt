@@ -2,7 +2,7 @@
 ghost use Rattle.std.specs.Prelude.{◌≡◌, ◌+◌, ◌*◌, ◌≤◌, length};
 ghost use Rattle.std.proofs.lemmas.List.Edits.{sets};
 ghost use Rattle.lists.specs.Parts.{part};
-ghost use Rattle.layout.specs.Values.{value_of, signedValue};
+ghost use Rattle.layout.specs.Values.{value_of, signed_value};
 ghost use Rattle.layout.specs.Fields.{fields};
 
 use crate::value::{unwrapped, value_at};
@@ -10,7 +10,7 @@ use crate::value::{unwrapped, value_at};
 // The cost at a place of a sheet.
 fn cost_at(sheet: &[u8], at: usize) -> i32
     requires { at + 4 ≤ length sheet.now }
-    ensures { result ≡ signedValue 4 (part at 4 sheet.now) }
+    ensures { result ≡ signed_value 4 (part at 4 sheet.now) }
 {
     unwrapped(value_at(sheet, at, 4))
 }
@@ -18,7 +18,7 @@ fn cost_at(sheet: &[u8], at: usize) -> i32
 // Reads `count` costs, the first at `at`, into the front of `costs`.
 pub fn read_costs(sheet: &[u8], at: usize, count: usize, costs: &mut [i32])
     requires { (at + count * 4 ≤ length sheet.now) × (count ≤ length costs.old) }
-    ensures { costs.new ≡ sets costs.old 0 (fields (signedValue 4) at 4 count sheet.now) }
+    ensures { costs.new ≡ sets costs.old 0 (fields (signed_value 4) at 4 count sheet.now) }
 {
     let mut place = at;
     let mut k = 0;

@@ -2,8 +2,8 @@
 ghost use Rattle.std.specs.Prelude.{◌≡◌, ◌+◌, ◌*◌, ◌≤◌, length, drop};
 ghost use mathlib.Core.List.{◌++◌, flat_map};
 ghost use Rattle.std.proofs.lemmas.List.Edits.{sets};
-ghost use Rattle.layout.specs.Values.{bytes_of, signedBytes};
-ghost use Rattle.layout.specs.Slips.{slipBody, rowCount, rowCountLength, slipOf, slipLength};
+ghost use Rattle.layout.specs.Values.{bytes_of, signed_bytes};
+ghost use Rattle.layout.specs.Slips.{slip_body, row_count, row_count_length, slip_of, slip_length};
 ghost use Rattle.layout.specs.Asked.{Listed, Slipped};
 
 use crate::trailer::write_trailer;
@@ -26,7 +26,7 @@ fn write_columns(room: &mut [u8], at: usize, cols: &[u32])
 // Writes prices from `at` on, eight bytes each.
 fn write_prices(room: &mut [u8], at: usize, prices: &[i64])
     requires { at + length prices.now * 8 ≤ length room.old }
-    ensures { room.new ≡ sets room.old at (flat_map (signedBytes 8) prices.now) }
+    ensures { room.new ≡ sets room.old at (flat_map (signed_bytes 8) prices.now) }
 {
     let mut place = at;
     let mut i = 0;
@@ -40,7 +40,7 @@ fn write_prices(room: &mut [u8], at: usize, prices: &[i64])
 // Writes what stands before a slip's trailer over the front of its room: m columns and row prices, n column prices, the total.
 fn write_body(slip: &mut [u8], cols: &[u32], row_prices: &[i64], col_prices: &[i64], total: i64)
     requires { Listed cols.now row_prices.now col_prices.now slip.old }
-    ensures { slip.new ≡ sets slip.old 0 (slipBody cols.now row_prices.now col_prices.now total) }
+    ensures { slip.new ≡ sets slip.old 0 (slip_body cols.now row_prices.now col_prices.now total) }
 {
     let m = cols.len();
     let n = col_prices.len();
@@ -52,7 +52,7 @@ fn write_body(slip: &mut [u8], cols: &[u32], row_prices: &[i64], col_prices: &[i
 
 // How many bytes an edition's row count takes.
 pub fn row_count_length(edition: usize) -> usize
-    ensures { result ≡ rowCountLength edition }
+    ensures { result ≡ row_count_length edition }
 {
     if edition == 3 {
         return 2;
@@ -62,8 +62,8 @@ pub fn row_count_length(edition: usize) -> usize
 
 // Writes a row count at `at`, where the edition has one.
 fn write_row_count(room: &mut [u8], at: usize, edition: usize, m: usize)
-    requires { at + rowCountLength edition ≤ length room.old }
-    ensures { room.new ≡ sets room.old at (rowCount edition m) }
+    requires { at + row_count_length edition ≤ length room.old }
+    ensures { room.new ≡ sets room.old at (row_count edition m) }
 {
     if edition == 3 {
         write_value(room, at, 2, m);
@@ -81,7 +81,7 @@ pub fn write_slip(
     total: i64,
 )
     requires { Slipped edition cols.now row_prices.now col_prices.now slip.old }
-    ensures { slip.new ≡ slipOf edition (length cols.now) (length col_prices.now) cols.now row_prices.now col_prices.now total ++ drop (slipLength edition (length cols.now) (length col_prices.now)) slip.old }
+    ensures { slip.new ≡ slip_of edition (length cols.now) (length col_prices.now) cols.now row_prices.now col_prices.now total ++ drop (slip_length edition (length cols.now) (length col_prices.now)) slip.old }
 {
     let m = cols.len();
     let n = col_prices.len();

@@ -2,7 +2,7 @@
 ghost use Rattle.std.specs.Prelude.{◌≡◌, ◌+◌, ◌^◌, ◌<◌, ◌≤◌, length};
 ghost use Rattle.std.proofs.lemmas.List.Edits.{sets};
 ghost use Rattle.layout.specs.Values.{bytes_of};
-ghost use Rattle.layout.specs.Trailers.{trailer, distance_of, side_of, editionOf, rowCountOf, unmarked};
+ghost use Rattle.layout.specs.Trailers.{trailer, distance_of, side_of, edition_of, row_count_of, unmarked};
 
 use crate::value::{value_at, write_value};
 
@@ -25,7 +25,7 @@ pub fn side_of(bytes: &[u8]) -> usize
 // The trailer's edition.
 pub fn edition_of(bytes: &[u8]) -> usize
     requires { 12 ≤ length bytes.now }
-    ensures { result ≡ editionOf bytes.now }
+    ensures { result ≡ edition_of bytes.now }
 {
     value_at(bytes, bytes.len() - 6, 2)
 }
@@ -33,7 +33,7 @@ pub fn edition_of(bytes: &[u8]) -> usize
 // The two bytes before the trailer, as the row count.
 pub fn row_count_of(bytes: &[u8]) -> usize
     requires { 14 ≤ length bytes.now }
-    ensures { (result ≡ rowCountOf bytes.now) × (result < 256 ^ 2) }
+    ensures { (result ≡ row_count_of bytes.now) × (result < 256 ^ 2) }
 {
     value_at(bytes, bytes.len() - 14, 2)
 }

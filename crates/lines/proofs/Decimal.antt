@@ -9,15 +9,15 @@ use borrow.Author.Tests.{lt-ltb, le-ltb}
 use lib.IntN.{ℤ, pos, negsuc}
 use lib.ListN.{length, length-append}
 use lib.Signed.{mag}
-use Rattle.lines.specs.Decimal.{digits, decimal, signedDecimal}
+use Rattle.lines.specs.Decimal.{digits, decimal, signed_decimal}
 
 -- Without its last digit, a number has one digit less.
 less-below : (k x : ℕ) → x < 10 ^ suc k → x / 10 < 10 ^ k
 less-below k x h = (div-lt_iff_lt-mul {k = 10} {x = x} {y = 10 ^ k} (omega arith)).1 (omega (arith, pow-succ' 10 k, mul_comm 10 (10 ^ k)))
 
-digits-none : (x : ℕ) → digits 0 x ≡ []
+digits_none : (x : ℕ) → digits 0 x ≡ []
 unfolding digits
-digits-none x = refl
+digits_none x = refl
 
 digits-small : (k x : ℕ) → x < 10 → digits (suc k) x ≡ (48 + x % 10) ∷ []
 unfolding digits
@@ -42,16 +42,16 @@ enough (suc k) (suc m) x h l = by (dec_lt x 10) (enough k m (x / 10) (less-below
 pub decimal-small : (x : ℕ) → x < 10 → decimal x ≡ (48 + x % 10) ∷ []
 decimal-small = digits-small 19
 
-pub decimal-more : (x : ℕ) → x < 2 ^ 64 → 10 ≤ x → decimal x ≡ decimal (x / 10) ++ ((48 + x % 10) ∷ [])
-decimal-more x l h =
+pub decimal_more : (x : ℕ) → x < 2 ^ 64 → 10 ≤ x → decimal x ≡ decimal (x / 10) ++ ((48 + x % 10) ∷ [])
+decimal_more x l h =
     digits_more 19 x h
     ∙ ap (λ (t : List ℕ). t ++ ((48 + x % 10) ∷ [])) (enough 18 19 (x / 10) (less-below 19 x (omega arith)) (omega (arith, div-le_self x 10)))
 
 pub length_more : (x : ℕ) → x < 2 ^ 64 → 10 ≤ x → length (decimal x) ≡ length (decimal (x / 10)) + 1
-length_more x l h = ap length (decimal-more x l h) ∙ length-append (decimal (x / 10)) ((48 + x % 10) ∷ [])
+length_more x l h = ap length (decimal_more x l h) ∙ length-append (decimal (x / 10)) ((48 + x % 10) ∷ [])
 
 pub length_digits : (k m x : ℕ) → x < 10 ^ suc k → length (digits m x) ≤ suc k
-length_digits k zero x h = omega (arith, ap length (digits-none x))
+length_digits k zero x h = omega (arith, ap length (digits_none x))
 length_digits k (suc m) x h = by (dec_lt x 10) k h (λ j l. length_digits j m (x / 10) l)
   where
     by : Dec (x < 10) → (k : ℕ) → x < 10 ^ suc k → ((j : ℕ) → x / 10 < 10 ^ suc j → length (digits m (x / 10)) ≤ suc j) → length (digits (suc m) x) ≤ suc k
@@ -64,6 +64,6 @@ length_digits k (suc m) x h = by (dec_lt x 10) k h (λ j l. length_digits j m (x
 pub length-decimal : (x : ℕ) → x < 2 ^ 64 → length (decimal x) ≤ 20
 length-decimal x h = length_digits 19 20 x (omega arith)
 
-pub length-signedDecimal : (z : ℤ) → mag z < 2 ^ 63 → length (signedDecimal z) ≤ 20
-length-signedDecimal (pos n) h = length-decimal n (omega arith)
-length-signedDecimal (negsuc n) h = omega (arith, length_digits 18 20 (suc n) (omega arith))
+pub length-signed_decimal : (z : ℤ) → mag z < 2 ^ 63 → length (signed_decimal z) ≤ 20
+length-signed_decimal (pos n) h = length-decimal n (omega arith)
+length-signed_decimal (negsuc n) h = omega (arith, length_digits 18 20 (suc n) (omega arith))

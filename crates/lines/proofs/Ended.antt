@@ -13,36 +13,36 @@ use lib.Seq.{take_at, take-take, get_or-take}
 use Rattle.lists.specs.Permutations.{at}
 use Rattle.lists.specs.Counts.{bit_of}
 use Rattle.lists.proofs.Runs.{first-before}
-use Rattle.assignment.specs.Pairings.{signedAt}
+use Rattle.assignment.specs.Pairings.{signed_at}
 use Rattle.assignment.proofs.Longer.{tight-first, spares-first}
-use Rattle.bars.specs.Barred.{nightOf}
-use Rattle.bars.proofs.FilledCosts.{filled-place, filled-costs-length, filled-costs-at}
+use Rattle.bars.specs.Barred.{night_of}
+use Rattle.bars.proofs.FilledCosts.{filled-place, filled_costs_length, filled_costs_at}
 use Rattle.matrix.specs.Limits.{K}
 use Rattle.matrix.proofs.Places.{place-below}
-use Rattle.matrix.proofs.SmallLimits.{sheetSide-within}
+use Rattle.matrix.proofs.SmallLimits.{sheet_side-within}
 use Rattle.checker.specs.Proven.{Shown}
 use Rattle.rules.specs.Run.{Result}
-use Rattle.rules.proofs.Run.{right-within-ten}
+use Rattle.rules.proofs.Run.{right_within_ten}
 use Rattle.swaps.specs.Second.{Answer, second}
 use Rattle.swaps.proofs.Costs.{second-same, shown-same}
 use Rattle.sheet.specs.Reading.{Laid, night, read}
-use Rattle.sheet.specs.Settle.{fresh, solvedCosts, found, barredRow, ended}
+use Rattle.sheet.specs.Settle.{fresh, solved_costs, found, barred_row, ended}
 use Rattle.sheet.proofs.Nights as nights
-use Rattle.lines.specs.Lines.{acceptedLine, row_line, row_lines, spareLines, secondLine, second_of, nightLines}
-use Rattle.lines.specs.Asked.{Searchable, stateLines, Ready}
+use Rattle.lines.specs.Lines.{accepted_line, row_line, row_lines, spare_lines, second_line, second_of, night_lines}
+use Rattle.lines.specs.Asked.{Searchable, state_lines, Ready}
 
 -- At a place that is not barred the solved cost is the sheet's.
 cost-same : (laid : Laid) (i j : ℕ) → i < laid.side → j < laid.side → bit_of (at laid.bars i) j ≡ false
-    → signedAt (solvedCosts laid) (i * laid.side + j) ≡ signedAt laid.costs (i * laid.side + j)
+    → signed_at (solved_costs laid) (i * laid.side + j) ≡ signed_at laid.costs (i * laid.side + j)
 cost-same laid i j h l free =
     let n = laid.side in
-    filled-costs-at n (pos K) laid.costs laid.bars (i * n + j) (place-below n i j h l)
+    filled_costs_at n (pos K) laid.costs laid.bars (i * n + j) (place-below n i j h l)
     ∙ filled-place n (pos K) laid.costs laid.bars i j l
-    ∙ ap (λ (t : Bool). cond t (pos K) (signedAt laid.costs (i * n + j))) free
+    ∙ ap (λ (t : Bool). cond t (pos K) (signed_at laid.costs (i * n + j))) free
 
-module _ (sheet : List ℕ) (room : ℕ) (laid : Laid) (e : read room sheet ≡ night laid) (free : laid.side ≤ barredRow laid) where
+module _ (sheet : List ℕ) (room : ℕ) (laid : Laid) (e : read room sheet ≡ night laid) (free : laid.side ≤ barred_row laid) where
   abbrev m : ℕ
-  m = laid.rowCount
+  m = laid.row_count
 
   abbrev n : ℕ
   n = laid.side
@@ -61,7 +61,7 @@ module _ (sheet : List ℕ) (room : ℕ) (laid : Laid) (e : read room sheet ≡ 
   inside : (i : ℕ) → i < n → at a.cols i < n
   inside = (nights.owed sheet room laid e).named.inside
 
-  rows_same : (k : ℕ) → k ≤ n → row_lines n (solvedCosts laid) a.cols k ≡ row_lines n laid.costs a.cols k
+  rows_same : (k : ℕ) → k ≤ n → row_lines n (solved_costs laid) a.cols k ≡ row_lines n laid.costs a.cols k
   unfolding row_lines
   rows_same zero h = refl
   rows_same (suc k) h =
@@ -72,75 +72,75 @@ module _ (sheet : List ℕ) (room : ℕ) (laid : Laid) (e : read room sheet ≡ 
 
   -- The solved costs of the night's rows.
   abbrev kept : List ℤ
-  kept = take (m * n) (solvedCosts laid)
+  kept = take (m * n) (solved_costs laid)
 
-  kept_same : (i j : ℕ) → i < m → j < n → not (bit_of (at laid.bars i) j) ≡ true → signedAt kept (i * n + j) ≡ signedAt laid.costs (i * n + j)
+  kept_same : (i j : ℕ) → i < m → j < n → not (bit_of (at laid.bars i) j) ≡ true → signed_at kept (i * n + j) ≡ signed_at laid.costs (i * n + j)
   kept_same i j h l allowed =
-      get_or-take (m * n) (solvedCosts laid) (i * n + j) (pos 0) (omega (arith, mul-le-mul_right n h, next i))
+      get_or-take (m * n) (solved_costs laid) (i * n + j) (pos 0) (omega (arith, mul-le-mul_right n h, next i))
       ∙ cost-same laid i j (omega (arith, fewer)) l (not-true (bit_of (at laid.bars i) j) allowed)
     where
       next : (i : ℕ) → suc i * n ≡ i * n + n
       next i = omega arith
 
-  pub night-shown : Shown (nights.sheetNight sheet room laid e) a.cols a.rowPrices a.columnPrices
+  pub night-shown : Shown (nights.sheet_night sheet room laid e) a.cols a.prices_of_rows a.prices_of_columns
   night-shown =
-      let night = nights.sheetNight sheet room laid e in
+      let night = nights.sheet_night sheet room laid e in
       record {
         pairing = nights.night-pairing sheet room laid e free;
         feasible = nights.night-feasible sheet room laid e free;
-        tight = (tight-first night a.cols a.rowPrices a.columnPrices).0 (nights.night-tight sheet room laid e free);
-        spares = (spares-first night a.cols a.columnPrices).0 (nights.night-spares sheet room laid e free);
+        tight = (tight-first night a.cols a.prices_of_rows a.prices_of_columns).0 (nights.night-tight sheet room laid e free);
+        spares = (spares-first night a.cols a.prices_of_columns).0 (nights.night-spares sheet room laid e free);
       }
 
-  searchable : Searchable m n kept laid.bars a.cols a.rowPrices a.columnPrices
+  searchable : Searchable m n kept laid.bars a.cols a.prices_of_rows a.prices_of_columns
   searchable =
       let right = nights.owed sheet room laid e in
-      let within = right-within-ten n (solvedCosts laid) K a right in
+      let within = right_within_ten n (solved_costs laid) K a right in
       record {
         fewer = fewer;
         few = few;
-        small = omega (arith, (nights.readable sheet room laid e).small, sheetSide-within);
-        row-prices = record { enough = omega (arith, right.row-prices-size, fewer); within = λ i l. within.0 i (omega (arith, fewer)) };
-        column-prices = record { enough = omega (arith, right.column-prices-size); within = within.1 };
+        small = omega (arith, (nights.readable sheet room laid e).small, sheet_side-within);
+        row-prices = record { enough = omega (arith, right.row_prices_size, fewer); within = λ i l. within.0 i (omega (arith, fewer)) };
+        column-prices = record { enough = omega (arith, right.column_prices_size); within = within.1 };
         listed = omega (arith, right.cols-size, fewer);
-        shown = shown-same (nights.sheetNight sheet room laid e) (λ i j. signedAt kept (i * n + j)) kept_same a.rowPrices a.columnPrices a.cols night-shown;
+        shown = shown-same (nights.sheet_night sheet room laid e) (λ i j. signed_at kept (i * n + j)) kept_same a.prices_of_rows a.prices_of_columns a.cols night-shown;
       }
 
-  second-kept : second (nightOf m n kept laid.bars) a.rowPrices a.columnPrices a.cols ≡ second_of laid
-  second-kept = second-same (nights.sheetNight sheet room laid e) (λ i j. signedAt kept (i * n + j)) kept_same a.rowPrices a.columnPrices a.cols
+  second-kept : second (night_of m n kept laid.bars) a.prices_of_rows a.prices_of_columns a.cols ≡ second_of laid
+  second-kept = second-same (nights.sheet_night sheet room laid e) (λ i j. signed_at kept (i * n + j)) kept_same a.prices_of_rows a.prices_of_columns a.cols
 
   -- ---- what stands at the front of the arrays
 
-  filled-size : length (solvedCosts laid) ≡ n * n
-  filled-size = filled-costs-length n (pos K) laid.costs laid.bars
+  filled-size : length (solved_costs laid) ≡ n * n
+  filled-size = filled_costs_length n (pos K) laid.costs laid.bars
 
-  costs-are : take (n * n) (ended laid).costs ≡ solvedCosts laid
-  costs-are = take_at (solvedCosts laid) (drop (n * n) fresh.costs) (n * n) filled-size
+  costs_are : take (n * n) (ended laid).costs ≡ solved_costs laid
+  costs_are = take_at (solved_costs laid) (drop (n * n) fresh.costs) (n * n) filled-size
 
-  kept-are : take (m * n) (ended laid).costs ≡ kept
-  kept-are = sym (take-take (m * n) (n * n) (ended laid).costs (mul-le-mul_right n fewer)) ∙ ap (take (m * n)) costs-are
+  kept_are : take (m * n) (ended laid).costs ≡ kept
+  kept_are = sym (take-take (m * n) (n * n) (ended laid).costs (mul-le-mul_right n fewer)) ∙ ap (take (m * n)) costs_are
 
-  bars-are : take n (ended laid).bars ≡ laid.bars
-  bars-are = take_at laid.bars (drop n fresh.bars) n (nights.readable sheet room laid e).rows
+  bars_are : take n (ended laid).bars ≡ laid.bars
+  bars_are = take_at laid.bars (drop n fresh.bars) n (nights.readable sheet room laid e).rows
 
-  cols-are : take n (ended laid).cols ≡ a.cols
-  cols-are = take_at a.cols (drop n fresh.cols) n (nights.owed sheet room laid e).cols-size
+  cols_are : take n (ended laid).cols ≡ a.cols
+  cols_are = take_at a.cols (drop n fresh.cols) n (nights.owed sheet room laid e).cols-size
 
-  row-prices-are : take n (ended laid).row_prices ≡ a.rowPrices
-  row-prices-are = take_at a.rowPrices (drop n fresh.row_prices) n (nights.owed sheet room laid e).row-prices-size
+  row_prices_are : take n (ended laid).row_prices ≡ a.prices_of_rows
+  row_prices_are = take_at a.prices_of_rows (drop n fresh.row_prices) n (nights.owed sheet room laid e).row_prices_size
 
-  column-prices-are : take n (ended laid).col_prices ≡ a.columnPrices
-  column-prices-are = take_at a.columnPrices (drop n fresh.col_prices) n (nights.owed sheet room laid e).column-prices-size
+  column_prices_are : take n (ended laid).col_prices ≡ a.prices_of_columns
+  column_prices_are = take_at a.prices_of_columns (drop n fresh.col_prices) n (nights.owed sheet room laid e).column_prices_size
 
   -- What `put_night` is asked with, and what it then writes.
   pub ended-ready : (out : List ℕ) → 160 + 110 * 64 ≤ length out → Ready m n (ended laid) out
   ended-ready out long = record {
-    rows = rw (costs-are, cols-are)
+    rows = rw (costs_are, cols_are)
         (record { fewer = fewer; squared = filled-size; listed = omega (arith, (nights.owed sheet room laid e).cols-size, fewer); inside = λ i l. inside i (omega (arith, fewer)); roomy = omega (arith, fewer, few) });
-    searchable = rw (kept-are, bars-are, cols-are, row-prices-are, column-prices-are) searchable;
+    searchable = rw (kept_are, bars_are, cols_are, row_prices_are, column_prices_are) searchable;
   }
 
-  pub ended-lines : stateLines m n a.total (ended laid) ≡ nightLines laid
-  ended-lines =
-      rw (costs-are, kept-are, bars-are, cols-are, row-prices-are, column-prices-are)
-      (ap₂ (λ (l : List ℕ) (t : Answer). acceptedLine n a.total ++ (l ++ (spareLines m a.cols n ++ secondLine t))) (rows_same m fewer) second-kept)
+  pub ended_lines : state_lines m n a.total (ended laid) ≡ night_lines laid
+  ended_lines =
+      rw (costs_are, kept_are, bars_are, cols_are, row_prices_are, column_prices_are)
+      (ap₂ (λ (l : List ℕ) (t : Answer). accepted_line n a.total ++ (l ++ (spare_lines m a.cols n ++ second_line t))) (rows_same m fewer) second-kept)

@@ -4,13 +4,13 @@ use mathlib.Core.List.{List, ◌++◌}
 use Prim.Native.Nat.{ℕ, ◌+◌, ◌≤◌}
 use native.Mathlib.Omega.{arith}
 use lib.ListN.{length, length-append}
-use Rattle.layout.proofs.Stores.{stored-then}
+use Rattle.layout.proofs.Stores.{stored_then}
 use Rattle.lines.specs.Put.{Put}
 
 module _ (p q : List ℕ) {l m r : List ℕ} {i j k : ℕ} where
   pub put_then : Put l i p m j → Put m j q r k → Put l i (p ++ q) r k
   put_then f g = record {
-    stored = stored-then l p q i j f.stored (omega (arith, f.past)) g.stored;
+    stored = stored_then l p q i j f.stored (omega (arith, f.past)) g.stored;
     past = omega (arith, f.past, g.past, length-append p q);
   }
 
@@ -26,14 +26,14 @@ pub record Line (base k : ℕ) (before : List ℕ) (line : List ℕ → List ℕ
   pub reach : place ≤ base + k
   pub long : base + 80 ≤ length after
 
-pub line-start : (base : ℕ) (room : List ℕ) → base + 80 ≤ length room → Line base 0 room (λ q. q) room base
-line-start base room h = record { ends = λ q f. f; reach = omega arith; long = h }
+pub line_start : (base : ℕ) (room : List ℕ) → base + 80 ≤ length room → Line base 0 room (λ q. q) room base
+line_start base room h = record { ends = λ q f. f; reach = omega arith; long = h }
 
 -- At most m bytes fit where they come to no more than 80.
 pub line-fits : {base k place : ℕ} {l room : List ℕ} {line : List ℕ → List ℕ} (m : ℕ) → Line base k l line room place → k + m ≤ 80 → place + m ≤ length room
 line-fits m n h = omega (arith, n.reach, n.long)
 
 -- A write of at most w bytes more.
-pub line-then : {base k i j : ℕ} {l m r : List ℕ} {line : List ℕ → List ℕ} (p : List ℕ) (w : ℕ) → Line base k l line m i → Put m i p r j
+pub line_then : {base k i j : ℕ} {l m r : List ℕ} {line : List ℕ → List ℕ} (p : List ℕ) (w : ℕ) → Line base k l line m i → Put m i p r j
     → length r ≡ length m → length p ≤ w → Line base (k + w) l (λ q. line (p ++ q)) r j
-line-then p w n f e h = record { ends = λ q g. n.ends (p ++ q) (put_then p q f g); reach = omega (arith, n.reach, f.past); long = omega (arith, n.long) }
+line_then p w n f e h = record { ends = λ q g. n.ends (p ++ q) (put_then p q f g); reach = omega (arith, n.reach, f.past); long = omega (arith, n.long) }

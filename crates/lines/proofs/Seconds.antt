@@ -8,45 +8,45 @@ use native.Mathlib.Omega.{arith}
 use lib.ListN.{take, get_or}
 use Rattle.assignment.specs.Pairings.{Pairing, total}
 use Rattle.swaps.specs.Second.{Answer, only, also, Another, Right}
-use Rattle.swaps.proofs.Shown.{shown-right}
+use Rattle.swaps.proofs.Shown.{shown_right}
 use Rattle.sheet.specs.Reading.{Laid, night, read}
-use Rattle.sheet.specs.Settle.{found, barredRow}
-use Rattle.sheet.proofs.Nights.{sheetNight, night-total}
-use Rattle.lines.specs.Lines.{secondLine, second_of}
+use Rattle.sheet.specs.Settle.{found, barred_row}
+use Rattle.sheet.proofs.Nights.{sheet_night, night-total}
+use Rattle.lines.specs.Lines.{second_line, second_of}
 use Rattle.lines.proofs.Ended.{night-shown}
 
 -- The two lines differ in their first byte.
-line-only : (a : Answer) → secondLine a ≡ secondLine only → a ≡ only
+line-only : (a : Answer) → second_line a ≡ second_line only → a ≡ only
 line-only only e = refl
 line-only (also other) e = let z : ◌≡◌ {A = ℕ} 97 111 = ap (λ (l : List ℕ). get_or l 0 0) e in absurd (omega arith)
 
-module _ (sheet : List ℕ) (room : ℕ) (laid : Laid) (e : read room sheet ≡ night laid) (free : laid.side ≤ barredRow laid) where
+module _ (sheet : List ℕ) (room : ℕ) (laid : Laid) (e : read room sheet ≡ night laid) (free : laid.side ≤ barred_row laid) where
   -- What is paired: the columns of the row lines.
   abbrev paired : List ℕ
-  paired = take laid.rowCount (found laid).cols
+  paired = take laid.row_count (found laid).cols
 
   -- No other pairing has the total of the first line.
   abbrev pub NoOther : Type 0
-  NoOther = (other : List ℕ) → Pairing (sheetNight sheet room laid e) other → total (sheetNight sheet room laid e) other ≡ (found laid).total → other ≡ paired
+  NoOther = (other : List ℕ) → Pairing (sheet_night sheet room laid e) other → total (sheet_night sheet room laid e) other ≡ (found laid).total → other ≡ paired
 
-  right : Right (sheetNight sheet room laid e) paired (second_of laid)
-  right = shown-right (sheetNight sheet room laid e) (found laid).rowPrices (found laid).columnPrices (found laid).cols (night-shown sheet room laid e free)
+  right : Right (sheet_night sheet room laid e) paired (second_of laid)
+  right = shown_right (sheet_night sheet room laid e) (found laid).prices_of_rows (found laid).prices_of_columns (found laid).cols (night-shown sheet room laid e free)
 
-  total-is : (found laid).total ≡ total (sheetNight sheet room laid e) paired
-  total-is = night-total sheet room laid e free
+  total_is : (found laid).total ≡ total (sheet_night sheet room laid e) paired
+  total_is = night-total sheet room laid e free
 
-  pub only-iff : (secondLine (second_of laid) ≡ secondLine only) ↔ NoOther
-  only-iff = (
-    λ q other p t. subst (Right (sheetNight sheet room laid e) paired) (line-only (second_of laid) q) right other p (t ∙ total-is),
-    λ none. ap secondLine (by none (second_of laid) right),
+  pub only_iff : (second_line (second_of laid) ≡ second_line only) ↔ NoOther
+  only_iff = (
+    λ q other p t. subst (Right (sheet_night sheet room laid e) paired) (line-only (second_of laid) q) right other p (t ∙ total_is),
+    λ none. ap second_line (by none (second_of laid) right),
   )
     where
-      by : NoOther → (a : Answer) → Right (sheetNight sheet room laid e) paired a → a ≡ only
+      by : NoOther → (a : Answer) → Right (sheet_night sheet room laid e) paired a → a ≡ only
       by none only r = refl
-      by none (also other) r = absurd (r.differs (none other r.pairing (r.same ∙ sym total-is)))
+      by none (also other) r = absurd (r.differs (none other r.pairing (r.same ∙ sym total_is)))
 
   pub also-another : (other : List ℕ) → second_of laid ≡ also other
-      → Pairing (sheetNight sheet room laid e) other × (total (sheetNight sheet room laid e) other ≡ (found laid).total) × (other ≢ paired)
+      → Pairing (sheet_night sheet room laid e) other × (total (sheet_night sheet room laid e) other ≡ (found laid).total) × (other ≢ paired)
   also-another other q =
-      let r : Another (sheetNight sheet room laid e) paired other = subst (Right (sheetNight sheet room laid e) paired) q right in
-      (r.pairing, r.same ∙ sym total-is, r.differs)
+      let r : Another (sheet_night sheet room laid e) paired other = subst (Right (sheet_night sheet room laid e) paired) q right in
+      (r.pairing, r.same ∙ sym total_is, r.differs)

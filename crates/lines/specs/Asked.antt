@@ -1,12 +1,12 @@
 -- What functions that the entry calls ask for. The entry asks for nothing.
 use Rattle.std.specs.Prelude.{◌≡◌, List, ◌++◌, ℕ, ◌+◌, ◌*◌, ◌≤◌, ◌<◌, ℤ, length, take}
 use Rattle.lists.specs.Permutations.{at}
-use Rattle.bars.specs.Barred.{nightOf}
+use Rattle.bars.specs.Barred.{night_of}
 use Rattle.matrix.specs.Limits.{side}
 use Rattle.checker.specs.Proven.{Prices, Shown}
 use Rattle.swaps.specs.Second.{Answer, second}
 use Rattle.sheet.specs.declared.State.{State}
-use Rattle.lines.specs.Lines.{acceptedLine, row_lines, spareLines, secondLine}
+use Rattle.lines.specs.Lines.{accepted_line, row_lines, spare_lines, second_line}
 
 -- What `put_rows` is asked with: a square of costs, a column for each of m rows, and a room of so many bytes.
 pub record Rows (m n : ℕ) (costs : List ℤ) (cols : List ℕ) (room : ℕ) (out : List ℕ) : Type 0 where
@@ -30,17 +30,17 @@ pub record Searchable (m n : ℕ) (costs : List ℤ) (bars cols : List ℕ) (us 
   pub row-prices : Prices m us
   pub column-prices : Prices n vs
   pub listed : m ≤ length cols
-  pub shown : Shown (nightOf m n costs bars) cols us vs
+  pub shown : Shown (night_of m n costs bars) cols us vs
 
 -- The second of what stands at the front of arrays.
-abbrev pub secondIn : ℕ → ℕ → List ℤ → List ℕ → List ℕ → List ℤ → List ℤ → Answer
-secondIn m n costs bars cols us vs = second (nightOf m n (take (m * n) costs) (take n bars)) (take n us) (take n vs) (take n cols)
+abbrev pub second_in : ℕ → ℕ → List ℤ → List ℕ → List ℕ → List ℤ → List ℤ → Answer
+second_in m n costs bars cols us vs = second (night_of m n (take (m * n) costs) (take n bars)) (take n us) (take n vs) (take n cols)
 
 -- The lines of a night that is settled in a state.
-abbrev pub stateLines : ℕ → ℕ → ℤ → State → List ℕ
-stateLines m n total s =
+abbrev pub state_lines : ℕ → ℕ → ℤ → State → List ℕ
+state_lines m n total s =
     let cols = take n s.cols in
-    acceptedLine n total ++ (row_lines n (take (n * n) s.costs) cols m ++ (spareLines m cols n ++ secondLine (secondIn m n s.costs s.bars s.cols s.row_prices s.col_prices)))
+    accepted_line n total ++ (row_lines n (take (n * n) s.costs) cols m ++ (spare_lines m cols n ++ second_line (second_in m n s.costs s.bars s.cols s.row_prices s.col_prices)))
 
 -- What they are asked with: the rows, what is searched with, and room for them all.
 pub record Ready (m n : ℕ) (s : State) (out : List ℕ) : Type 0 where

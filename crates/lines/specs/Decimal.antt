@@ -11,6 +11,6 @@ abbrev pub decimal : ℕ → List ℕ
 decimal x = digits 20 x
 
 -- An integer, with its sign where it is negative.
-abbrev pub signedDecimal : ℤ → List ℕ
-signedDecimal (pos n) = decimal n
-signedDecimal (negsuc n) = 45 ∷ decimal (suc n)
+abbrev pub signed_decimal : ℤ → List ℕ
+signed_decimal (pos n) = decimal n
+signed_decimal (negsuc n) = 45 ∷ decimal (suc n)

@@ -2,11 +2,11 @@
 ghost use Rattle.std.specs.Prelude.{◌≡◌, true, cond, [], ◌∷◌, ◌++◌, ℕ, ◌+◌, ◌*◌, ◌%◌, ◌<◌, ◌≤◌, length, take};
 ghost use Rattle.lists.specs.Permutations.{at};
 ghost use Rattle.swaps.specs.Second.{only, also};
-ghost use Rattle.swaps.specs.Found.{another, writtenFront};
-ghost use Rattle.lines.specs.Decimal.{decimal, signedDecimal};
+ghost use Rattle.swaps.specs.Found.{another, written_front};
+ghost use Rattle.lines.specs.Decimal.{decimal, signed_decimal};
 ghost use Rattle.lines.specs.Put.{Put};
-ghost use Rattle.lines.specs.Lines.{blank, acceptedLine, row_line, row_lines, spareLine, used, spareAt, spareLines, columnsText, secondLine, refusedLine, noPairing, Printed, printed};
-ghost use Rattle.lines.specs.Asked.{Rows, Columns, Searchable, secondIn, stateLines, Ready};
+ghost use Rattle.lines.specs.Lines.{blank, accepted_line, row_line, row_lines, spare_line, used, spare_at, spare_lines, columns_text, second_line, refused_line, no_pairing, Printed, printed};
+ghost use Rattle.lines.specs.Asked.{Rows, Columns, Searchable, second_in, state_lines, Ready};
 
 use matrix::Refusal;
 use sheet::{Reply, State};
@@ -58,8 +58,8 @@ fn put_decimal(out: &mut [u8], place: usize, x: u64) -> usize
 
 // A signed number at a position, in decimal.
 fn put_signed(out: &mut [u8], place: usize, z: i64) -> usize
-    requires { place + length (signedDecimal z) ≤ length out.old }
-    ensures { Put out.old place (signedDecimal z) out.new result }
+    requires { place + length (signed_decimal z) ≤ length out.old }
+    ensures { Put out.old place (signed_decimal z) out.new result }
 {
     if z < 0 {
         let next = put_byte(out, place, b'-');
@@ -102,7 +102,7 @@ fn put_rows(out: &mut [u8], place: usize, m: usize, n: usize, costs: &[i32], col
 // The line of a spare column, of at most 27 bytes.
 fn put_spare(out: &mut [u8], place: usize, column: usize) -> usize
     requires { place + 80 ≤ length out.old }
-    ensures { Put out.old place (spareLine column) out.new result × (result ≤ place + 27) }
+    ensures { Put out.old place (spare_line column) out.new result × (result ≤ place + 27) }
 {
     let after_word = put_text(out, place, b"spare ");
     let after_column = put_decimal(out, after_word, column as u64);
@@ -127,7 +127,7 @@ fn used(m: usize, cols: &[u32], j: usize) -> bool
 // The line of column j, where it is spare.
 fn put_if_spare(out: &mut [u8], place: usize, m: usize, cols: &[u32], j: usize) -> usize
     requires { (m ≤ length cols.now) × (place + 80 ≤ length out.old) }
-    ensures { Put out.old place (spareAt m cols.now j) out.new result × (result ≤ place + 27) }
+    ensures { Put out.old place (spare_at m cols.now j) out.new result × (result ≤ place + 27) }
 {
     if used(m, cols, j) {
         return place;
@@ -138,7 +138,7 @@ fn put_if_spare(out: &mut [u8], place: usize, m: usize, cols: &[u32], j: usize) 
 // The lines of the spare ones among n columns, in rising order.
 fn put_spares(out: &mut [u8], place: usize, m: usize, n: usize, cols: &[u32]) -> usize
     requires { (m ≤ length cols.now) × (place + 27 * n + 80 ≤ length out.old) }
-    ensures { Put out.old place (spareLines m cols.now n) out.new result × (result ≤ place + 27 * n) }
+    ensures { Put out.old place (spare_lines m cols.now n) out.new result × (result ≤ place + 27 * n) }
 {
     let mut next = place;
     let mut j = 0;
@@ -152,7 +152,7 @@ fn put_spares(out: &mut [u8], place: usize, m: usize, n: usize, cols: &[u32]) ->
 // The line of a sheet that is accepted.
 pub fn put_accepted(out: &mut [u8], side: usize, total: i64) -> usize
     requires { 80 ≤ length out.old }
-    ensures { Put out.old 0 (acceptedLine side total) out.new result × (result ≤ 80) }
+    ensures { Put out.old 0 (accepted_line side total) out.new result × (result ≤ 80) }
 {
     let after_word = put_text(out, 0, b"accepted ");
     let after_side = put_decimal(out, after_word, side as u64);
@@ -164,7 +164,7 @@ pub fn put_accepted(out: &mut [u8], side: usize, total: i64) -> usize
 // The line of a refusal.
 pub fn put_refused(out: &mut [u8], refusal: Refusal) -> usize
     requires { 80 ≤ length out.old }
-    ensures { Put out.old 0 (refusedLine refusal) out.new result × (result ≤ 80) }
+    ensures { Put out.old 0 (refused_line refusal) out.new result × (result ≤ 80) }
 {
     let after_word = put_text(out, 0, b"refused ");
     let after_number = put_decimal(out, after_word, matrix::refusals::number(refusal));
@@ -183,7 +183,7 @@ fn put_arrays(
     cols: &[u32; 64],
 ) -> usize
     requires { (n ≤ 64) × Rows m n (take (n * n) costs.now) (take n cols.now) (place + 80 * m + 27 * n + 80) out.old }
-    ensures { Put out.old place (row_lines n (take (n * n) costs.now) (take n cols.now) m ++ spareLines m (take n cols.now) n) out.new result × (result ≤ place + 80 * m + 27 * n) }
+    ensures { Put out.old place (row_lines n (take (n * n) costs.now) (take n cols.now) m ++ spare_lines m (take n cols.now) n) out.new result × (result ≤ place + 80 * m + 27 * n) }
 {
     let count = n * n;
     let all_costs: &[i32] = costs;
@@ -204,7 +204,7 @@ fn put_column(out: &mut [u8], place: usize, column: u32) -> usize
 // The first m columns of a list, each after a blank.
 fn put_columns(out: &mut [u8], place: usize, m: usize, cols: &[u32]) -> usize
     requires { Columns m cols.now (place + 3 * m) out.old }
-    ensures { Put out.old place (columnsText cols.now m) out.new result × (result ≤ place + 3 * m) }
+    ensures { Put out.old place (columns_text cols.now m) out.new result × (result ≤ place + 3 * m) }
 {
     let mut next = place;
     let mut i = 0;
@@ -218,7 +218,7 @@ fn put_columns(out: &mut [u8], place: usize, m: usize, cols: &[u32]) -> usize
 // The last line: the first m columns of an array, where they are another pairing's.
 fn put_second(out: &mut [u8], place: usize, another: bool, m: usize, list: &[u32; 64]) -> usize
     requires { (m ≤ 64) × (another ≡ true → (i : ℕ) → i < m → at list.now i < 100) × (place + 5 + 3 * m ≤ length out.old) }
-    ensures { Put out.old place (secondLine (cond another (also (take m list.now)) only)) out.new result × (result ≤ place + 5 + 3 * m) }
+    ensures { Put out.old place (second_line (cond another (also (take m list.now)) only)) out.new result × (result ≤ place + 5 + 3 * m) }
 {
     if another {
         let cols: &[u32] = list;
@@ -243,7 +243,7 @@ fn find_arrays(
     numbers: &mut [i64; 64],
 ) -> bool
     requires { Searchable m n (take (m * n) costs.now) (take n bars.now) (take n cols.now) (take n us.now) (take n vs.now) }
-    ensures { (result ≡ another (secondIn m n costs.now bars.now cols.now us.now vs.now)) × (list.new ≡ writtenFront m (secondIn m n costs.now bars.now cols.now us.now vs.now) list.old) }
+    ensures { (result ≡ another (second_in m n costs.now bars.now cols.now us.now vs.now)) × (list.new ≡ written_front m (second_in m n costs.now bars.now cols.now us.now vs.now) list.old) }
 {
     let count = m * n;
     let all_costs: &[i32] = costs;
@@ -268,7 +268,7 @@ fn find_arrays(
 // The lines of a night that is settled.
 fn put_night(out: &mut [u8], m: usize, n: usize, total: i64, state: State) -> usize
     requires { Ready m n state out.old }
-    ensures { Put out.old 0 (stateLines m n total state) out.new result × (result ≤ 85 + 83 * m + 27 * n) }
+    ensures { Put out.old 0 (state_lines m n total state) out.new result × (result ≤ 85 + 83 * m + 27 * n) }
 {
     let costs = state.costs;
     let bars = state.bars;
@@ -297,7 +297,7 @@ fn put_night(out: &mut [u8], m: usize, n: usize, total: i64, state: State) -> us
 
 // 20.
 fn no_pairing() -> Refusal
-    ensures { result ≡ noPairing }
+    ensures { result ≡ no_pairing }
 {
     Refusal {
         number: matrix::refusals::NO_PAIRING,

@@ -13,7 +13,7 @@ use lib.Pow.{pow_pos, pow_mono, pow-lt, pow-add, split, shr_lt, shr-shr, shl-shr
 use lib.Count.{ones, ones_step, ones-le}
 use borrow.Author.Tests.{eqb-true, eqb-false, eq-eqb, ne_eqb}
 use Rattle.lists.specs.Counts.{count, bit_of}
-use Rattle.lists.proofs.Counts.{count_none, count-first, count-cong}
+use Rattle.lists.proofs.Counts.{count_none, count-first, count_cong}
 
 -- ---- one digit
 
@@ -24,8 +24,8 @@ digit n = let l : n % 2 < 2 = mod-lt n (zero-lt-suc 1) in by (ℕ_discrete (n % 
     by (yes e) l = inl e
     by (no d) l = inr (omega arith)
 
-digit-flag : (n : ℕ) → cond (eqb (n % 2) 1) 1 0 ≡ n % 2
-digit-flag n = ⊎_elim (λ e. rw e) (λ e. rw e) (digit n)
+digit_flag : (n : ℕ) → cond (eqb (n % 2) 1) 1 0 ≡ n % 2
+digit_flag n = ⊎_elim (λ e. rw e) (λ e. rw e) (digit n)
 
 -- The digits above the lowest are those of the half.
 shifted : (n i : ℕ) → bit_of (n / 2) i ≡ bit_of n (suc i)
@@ -34,12 +34,12 @@ shifted n i = ap (λ (x : ℕ). eqb (x % 2) 1) (shr-shr n 1 i ∙ ap (λ (k : �
 -- ---- how many
 
 -- What `count_ones` gives is the count of the bits.
-pub ones-count : (k n : ℕ) → n < 2 ^ k → ones n ≡ count k (bit_of n)
-ones-count zero n l = let h = ones-le 0 n l in let e : ones n ≡ 0 = omega arith in e ∙ sym (count_none (bit_of n))
-ones-count (suc k) n l =
+pub ones_count : (k n : ℕ) → n < 2 ^ k → ones n ≡ count k (bit_of n)
+ones_count zero n l = let h = ones-le 0 n l in let e : ones n ≡ 0 = omega arith in e ∙ sym (count_none (bit_of n))
+ones_count (suc k) n l =
     ones_step n
-    ∙ ap₂ ◌+◌ (sym (digit-flag n) ∙ ap (λ (x : ℕ). cond (eqb (x % 2) 1) 1 0) (sym (div-one n)))
-    (ones-count k (n / 2) (half k n l) ∙ count-cong k (bit_of (n / 2)) (λ i. bit_of n (suc i)) (λ i h. shifted n i))
+    ∙ ap₂ ◌+◌ (sym (digit_flag n) ∙ ap (λ (x : ℕ). cond (eqb (x % 2) 1) 1 0) (sym (div-one n)))
+    (ones_count k (n / 2) (half k n l) ∙ count_cong k (bit_of (n / 2)) (λ i. bit_of n (suc i)) (λ i h. shifted n i))
     ∙ sym (count-first k (bit_of n))
   where
     half : (k n : ℕ) → n < 2 ^ suc k → n / 2 < 2 ^ k
@@ -47,8 +47,8 @@ ones-count (suc k) n l =
 
 -- ---- two together
 
-pub bit-or : (a b i : ℕ) → bit_of (bit_or a b) i ≡ (bit_of a i || bit_of b i)
-bit-or a b i = ap (λ (x : ℕ). eqb (x % 2) 1) (or_shr a b i) ∙ low (a / 2 ^ i) (b / 2 ^ i)
+pub bit_of-bit_or : (a b i : ℕ) → bit_of (bit_or a b) i ≡ (bit_of a i || bit_of b i)
+bit_of-bit_or a b i = ap (λ (x : ℕ). eqb (x % 2) 1) (or_shr a b i) ∙ low (a / 2 ^ i) (b / 2 ^ i)
   where
     digits : (x y : ℕ) → (x ≡ 0) ⊎ (x ≡ 1) → (y ≡ 0) ⊎ (y ≡ 1) → eqb (bit_or x y) 1 ≡ (eqb x 1 || eqb y 1)
     digits x y (inl e) (inl d) = rw (e, d)
@@ -61,8 +61,8 @@ bit-or a b i = ap (λ (x : ℕ). eqb (x % 2) 1) (or_shr a b i) ∙ low (a / 2 ^ 
 
 -- ---- a single one
 
-pub bit-single : (j i : ℕ) → bit_of (2 ^ j) i ≡ eqb i j
-bit-single j i = by (ℕ_discrete i j) (dec_lt i j)
+pub bit_single : (j i : ℕ) → bit_of (2 ^ j) i ≡ eqb i j
+bit_single j i = by (ℕ_discrete i j) (dec_lt i j)
   where
     by : Dec (i ≡ j) → Dec (i < j) → bit_of (2 ^ j) i ≡ eqb i j
     by (yes e) d =
@@ -81,8 +81,8 @@ bit-single j i = by (ℕ_discrete i j) (dec_lt i j)
 
 -- ---- all of them, and those that are not in a number
 
-pub bit-full : (n i : ℕ) → i < n → bit_of (2 ^ n - 1) i ≡ true
-bit-full n i l = rw (top, odd)
+pub bit_full : (n i : ℕ) → i < n → bit_of (2 ^ n - 1) i ≡ true
+bit_full n i l = rw (top, odd)
   where
     top : (2 ^ n - 1) / 2 ^ i ≡ 2 ^ (n - i) - 1
     top =
@@ -94,8 +94,8 @@ bit-full n i l = rw (top, odd)
         let s : n - i - 1 + 1 ≡ n - i = omega arith in
         ap (λ (k : ℕ). (2 ^ k - 1) % 2) (sym s) ∙ ap (λ (x : ℕ). x % 2) (ones_split (n - i - 1) 1) ∙ low (2 ^ (n - i - 1) - 1) 1 (ones_lt 1)
 
-pub bit-others : (n b i : ℕ) → i < n → bit_of (bit_xor (2 ^ n - 1) b) i ≡ not (bit_of b i)
-bit-others n b i l = ap (λ (x : ℕ). eqb (x % 2) 1) (xor_shr (2 ^ n - 1) b i) ∙ lowest ((2 ^ n - 1) / 2 ^ i) (b / 2 ^ i) (eqb-true ((2 ^ n - 1) / 2 ^ i % 2) 1 (bit-full n i l))
+pub bit_others : (n b i : ℕ) → i < n → bit_of (bit_xor (2 ^ n - 1) b) i ≡ not (bit_of b i)
+bit_others n b i l = ap (λ (x : ℕ). eqb (x % 2) 1) (xor_shr (2 ^ n - 1) b i) ∙ lowest ((2 ^ n - 1) / 2 ^ i) (b / 2 ^ i) (eqb-true ((2 ^ n - 1) / 2 ^ i % 2) 1 (bit_full n i l))
   where
     digits : (x y : ℕ) → x ≡ 1 → (y ≡ 0) ⊎ (y ≡ 1) → eqb (bit_xor x y) 1 ≡ not (eqb y 1)
     digits x y e (inl d) = rw (e, d)
@@ -104,8 +104,8 @@ bit-others n b i l = ap (λ (x : ℕ). eqb (x % 2) 1) (xor_shr (2 ^ n - 1) b i) 
     lowest : (x y : ℕ) → x % 2 ≡ 1 → eqb (bit_xor x y % 2) 1 ≡ not (eqb (y % 2) 1)
     lowest x y e = ap (λ (n : ℕ). eqb n 1) (xor_mod x y 1) ∙ digits (x % 2) (y % 2) e (digit y)
 
-pub bit-none : (i : ℕ) → bit_of 0 i ≡ false
-bit-none i = rw (zero-div (2 ^ i))
+pub bit_none : (i : ℕ) → bit_of 0 i ≡ false
+bit_none i = rw (zero-div (2 ^ i))
 
 -- ---- the bits from n up
 
@@ -131,8 +131,8 @@ clear-below (suc k) n x l clear = by (dec_lt k n) (λ h. clear-below k n x (belo
     by (no h) rest = rest (omega arith)
 
 -- A number is below 2 ^ n exactly if its bits from n up are clear. (k bounds it, as every u64 is below 2 ^ 64.)
-pub clear-iff : (k n x : ℕ) → x < 2 ^ k → (x < 2 ^ n) ↔ ((i : ℕ) → n ≤ i → bit_of x i ≡ false)
-clear-iff k n x bound = (
+pub clear_iff : (k n x : ℕ) → x < 2 ^ k → (x < 2 ^ n) ↔ ((i : ℕ) → n ≤ i → bit_of x i ≡ false)
+clear_iff k n x bound = (
   λ l i h. let m : 2 ^ n ≤ 2 ^ i = pow_mono h in let e : x / 2 ^ i ≡ 0 = div-eq_of_lt (omega arith) in rw e,
   clear-below k n x bound,
 )

@@ -21,24 +21,24 @@ cond_both true R p q = p
 cond_both false R p q = q
 
 -- Two flags, each of which follows from the other.
-pub flags-same : (a b : Bool) → (a ≡ true → b ≡ true) → (b ≡ true → a ≡ true) → a ≡ b
-flags-same true b f g = sym (f refl)
-flags-same false true f g = g refl
-flags-same false false f g = refl
+pub flags_same : (a b : Bool) → (a ≡ true → b ≡ true) → (b ≡ true → a ≡ true) → a ≡ b
+flags_same true b f g = sym (f refl)
+flags_same false true f g = g refl
+flags_same false false f g = refl
 
-pub or-either : (a b : Bool) → (a || b) ≡ true → (a ≡ true) ⊎ (b ≡ true)
-or-either true b e = inl refl
-or-either false b e = inr e
+pub or_either : (a b : Bool) → (a || b) ≡ true → (a ≡ true) ⊎ (b ≡ true)
+or_either true b e = inl refl
+or_either false b e = inr e
 
-pub or-second : {b : Bool} (a : Bool) → b ≡ true → (a || b) ≡ true
-or-second a e = ap (λ (t : Bool). a || t) e ∙ or-true a
+pub or_second : {b : Bool} (a : Bool) → b ≡ true → (a || b) ≡ true
+or_second a e = ap (λ (t : Bool). a || t) e ∙ or-true a
 
-pub lt-or-le : (a b : ℕ) → (a < b) ⊎ (b ≤ a)
-lt-or-le a b = elim (dec_lt a b) [ yes h ↦ inl h | no h ↦ inr (omega arith) ]
+pub lt_or_le : (a b : ℕ) → (a < b) ⊎ (b ≤ a)
+lt_or_le a b = elim (dec_lt a b) [ yes h ↦ inl h | no h ↦ inr (omega arith) ]
 
 -- What holds at i and elsewhere holds everywhere.
-pub here-or-elsewhere : (P : ℕ → Type 0) (i : ℕ) → P i → ((x : ℕ) → x ≢ i → P x) → (x : ℕ) → P x
-here-or-elsewhere P i here there x = elim (ℕ_discrete x i) [ yes e ↦ subst P (sym e) here | no d ↦ there x d ]
+pub here_or_elsewhere : (P : ℕ → Type 0) (i : ℕ) → P i → ((x : ℕ) → x ≢ i → P x) → (x : ℕ) → P x
+here_or_elsewhere P i here there x = elim (ℕ_discrete x i) [ yes e ↦ subst P (sym e) here | no d ↦ there x d ]
 
 -- What holds below m and at m holds below suc m.
 pub below_suc : {m : ℕ} (P : ℕ → Type 0) → ((k : ℕ) → k < m → P k) → P m → (k : ℕ) → k < suc m → P k
@@ -47,8 +47,8 @@ below_suc {m} P all here k h = elim (ℕ_discrete k m) [ yes e ↦ subst P (sym 
 -- A list of numbers below n stays one where another such number is stored in it.
 pub set_below : (n : ℕ) (l : List ℕ) (k x : ℕ) → ((t : ℕ) → at l t < n) → x < n → (t : ℕ) → at (set l k x) t < n
 set_below n l k x h g =
-    here-or-elsewhere (λ t. at (set l k x) t < n) k
-    (elim (lt-or-le k (length l)) [
+    here_or_elsewhere (λ t. at (set l k x) t < n) k
+    (elim (lt_or_le k (length l)) [
       | inl a ↦ omega (arith, get_or-set_same l k x 0 a)
       | inr a ↦ omega (arith, ap (λ (z : List ℕ). at z k) (set_out l k x a), h k)
     ])

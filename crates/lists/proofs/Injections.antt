@@ -14,19 +14,19 @@ use Rattle.ints.proofs.Shapes.{zlin}
 use Rattle.lists.specs.Runs.{first}
 use Rattle.lists.specs.Sums.{sum}
 use Rattle.lists.specs.Permutations.{Injective}
-use Rattle.lists.proofs.Runs.{first-le, first_holds, first-before}
-use Rattle.lists.proofs.Sums.{sum-none, sum-last, sum-cong, sum-zero, sum-le, sum-sub, sum_ones, sum-change}
+use Rattle.lists.proofs.Runs.{first_le, first_holds, first-before}
+use Rattle.lists.proofs.Sums.{sum_none, sum-last, sum_cong, sum_zero, sum_le, sum_sub, sum_ones, sum_change}
 
 -- ---- composed, restricted, equal
 
-pub injective-compose : {l m n : ℕ} {f g : ℕ → ℕ} → Injective m n f → Injective l m g → Injective l n (λ i. f (g i))
-injective-compose {g = g} p q = record {
+pub injective_compose : {l m n : ℕ} {f g : ℕ → ℕ} → Injective m n f → Injective l m g → Injective l n (λ i. f (g i))
+injective_compose {g = g} p q = record {
   below = λ i h. p.below (g i) (q.below i h);
   once = λ i k h j e. q.once i k h j (p.once (g i) (g k) (q.below i h) (q.below k j) e);
 }
 
-pub injective-cong : {m n : ℕ} {f g : ℕ → ℕ} → ((i : ℕ) → i < m → f i ≡ g i) → Injective m n f → Injective m n g
-injective-cong e p = record {
+pub injective_cong : {m n : ℕ} {f g : ℕ → ℕ} → ((i : ℕ) → i < m → f i ≡ g i) → Injective m n f → Injective m n g
+injective_cong e p = record {
   below = λ i l. omega (arith, p.below i l, e i l);
   once = λ i k l h s. p.once i k l h (e i l ∙ s ∙ sym (e k h));
 }
@@ -43,12 +43,12 @@ source f m j = first m (λ i. eqb (f i) j)
 abbrev pub Reached : (ℕ → ℕ) → ℕ → ℕ → Type 0
 Reached f m j = (i : ℕ) × (i < m) × (f i ≡ j)
 
-pub reached-or-not : (f : ℕ → ℕ) (m j : ℕ) → Reached f m j ⊎ ((i : ℕ) → i < m → f i ≢ j)
-reached-or-not f m j = by (dec_lt (source f m j) m)
+pub reached_or_not : (f : ℕ → ℕ) (m j : ℕ) → Reached f m j ⊎ ((i : ℕ) → i < m → f i ≢ j)
+reached_or_not f m j = by (dec_lt (source f m j) m)
   where
     by : Dec (source f m j < m) → Reached f m j ⊎ ((i : ℕ) → i < m → f i ≢ j)
     by (yes l) = inl (source f m j, l, eqb-true (f (source f m j)) j (first_holds (λ i. eqb (f i) j) m l))
-    by (no l) = inr (λ i h. eqb-false (f i) j (first-before (λ k. eqb (f k) j) m i (omega (arith, first-le (λ k. eqb (f k) j) m))))
+    by (no l) = inr (λ i h. eqb-false (f i) j (first-before (λ k. eqb (f k) j) m i (omega (arith, first_le (λ k. eqb (f k) j) m))))
 
 pub source_of : {m n : ℕ} {f : ℕ → ℕ} → Injective m n f → (i : ℕ) → i < m → source f m (f i) ≡ i
 source_of {m} {f = f} p i l = by (dec_lt (source f m (f i)) m)
@@ -56,7 +56,7 @@ source_of {m} {f = f} p i l = by (dec_lt (source f m (f i)) m)
     by : Dec (source f m (f i) < m) → source f m (f i) ≡ i
     by (yes h) = p.once (source f m (f i)) i h l (eqb-true (f (source f m (f i))) (f i) (first_holds (λ k. eqb (f k) (f i)) m h))
     by (no h) =
-        absurd (eqb-false (f i) (f i) (first-before (λ k. eqb (f k) (f i)) m i (omega (arith, first-le (λ k. eqb (f k) (f i)) m))) refl)
+        absurd (eqb-false (f i) (f i) (first-before (λ k. eqb (f k) (f i)) m i (omega (arith, first_le (λ k. eqb (f k) (f i)) m))) refl)
 
 -- ---- sums over what is reached
 
@@ -78,19 +78,19 @@ module _ {n : ℕ} where
     omega (
       zlin,
       without_at w (f m),
-      sum-change n (f m) (without w (f m)) w (p.below m (omega arith)) (λ j l d. without_other w (f m) j d),
+      sum_change n (f m) (without w (f m)) w (p.below m (omega arith)) (λ j l d. without_other w (f m) j d),
     ),
-    sum-cong m (λ i. without w (f m) (f i)) (λ i. w (f i))
+    sum_cong m (λ i. without w (f m) (f i)) (λ i. w (f i))
         (λ i l. without_other w (f m) (f i) (λ e. let s = p.once i m (omega arith) (omega arith) e in omega arith)),
   )
 
   -- Where no term is above 0, the terms that an injection reaches come to at least all of them.
-  pub sum-injection-le : (m : ℕ) (f : ℕ → ℕ) (w : ℕ → ℤ) → Injective m n f → ((j : ℕ) → j < n → w j ≤ℤ pos 0) → sum n w ≤ℤ sum m (λ i. w (f i))
-  sum-injection-le zero f w p h =
-      omega (zlin, sum-none (λ i. w (f i)), sum-le n w (λ j. pos 0) h, sum-zero n (λ j. pos 0) (λ j l. refl))
-  sum-injection-le (suc m) f w p h =
+  pub sum_injection_le : (m : ℕ) (f : ℕ → ℕ) (w : ℕ → ℤ) → Injective m n f → ((j : ℕ) → j < n → w j ≤ℤ pos 0) → sum n w ≤ℤ sum m (λ i. w (f i))
+  sum_injection_le zero f w p h =
+      omega (zlin, sum_none (λ i. w (f i)), sum_le n w (λ j. pos 0) h, sum_zero n (λ j. pos 0) (λ j l. refl))
+  sum_injection_le (suc m) f w p h =
       let r = rest_sum m f w p in
-      omega (zlin, r.0, r.1, sum-last m (λ i. w (f i)), sum-injection-le m f (without w (f m)) (injective-fewer (omega arith) p) small)
+      omega (zlin, r.0, r.1, sum-last m (λ i. w (f i)), sum_injection_le m f (without w (f m)) (injective-fewer (omega arith) p) small)
     where
       small : (j : ℕ) → j < n → without w (f m) j ≤ℤ pos 0
       small j l =
@@ -100,12 +100,12 @@ module _ {n : ℕ} where
           ]
 
   -- Where every term that is not reached is 0, those that are come to all of them.
-  pub sum-injection : (m : ℕ) (f : ℕ → ℕ) (w : ℕ → ℤ) → Injective m n f
+  pub sum_injection : (m : ℕ) (f : ℕ → ℕ) (w : ℕ → ℤ) → Injective m n f
       → ((j : ℕ) → j < n → ((i : ℕ) → i < m → f i ≢ j) → w j ≡ pos 0) → sum n w ≡ sum m (λ i. w (f i))
-  sum-injection zero f w p h = sum-zero n w (λ j l. h j l (λ i m. absurd (omega arith))) ∙ sym (sum-none (λ i. w (f i)))
-  sum-injection (suc m) f w p h =
+  sum_injection zero f w p h = sum_zero n w (λ j l. h j l (λ i m. absurd (omega arith))) ∙ sym (sum_none (λ i. w (f i)))
+  sum_injection (suc m) f w p h =
       let r = rest_sum m f w p in
-      omega (zlin, r.0, r.1, sum-last m (λ i. w (f i)), sum-injection m f (without w (f m)) (injective-fewer (omega arith) p) none)
+      omega (zlin, r.0, r.1, sum-last m (λ i. w (f i)), sum_injection m f (without w (f m)) (injective-fewer (omega arith) p) none)
     where
       none : (j : ℕ) → j < n → ((i : ℕ) → i < m → f i ≢ j) → without w (f m) j ≡ pos 0
       none j l u =
@@ -122,11 +122,11 @@ module _ {n : ℕ} where
 
 -- An injection goes into no fewer.
 pub pigeonhole : {m n : ℕ} {f : ℕ → ℕ} → Injective m n f → m ≤ n
-pigeonhole {m} {n} {f} p = omega (zlin, sum-injection-le m f (λ j. negsuc 0) p (λ j l. omega zlin), count m, count n)
+pigeonhole {m} {n} {f} p = omega (zlin, sum_injection_le m f (λ j. negsuc 0) p (λ j l. omega zlin), count m, count n)
   where
     count : (k : ℕ) → sum k (λ j. negsuc 0) +ℤ pos k ≡ pos 0
     count k =
-        omega (zlin, sum-sub k (λ j. pos 0) (λ j. pos 1), sum-zero k (λ j. pos 0) (λ j l. refl), sum_ones k)
+        omega (zlin, sum_sub k (λ j. pos 0) (λ j. pos 1), sum_zero k (λ j. pos 0) (λ j l. refl), sum_ones k)
 
 -- f, which sends m to j besides.
 abbrev also : (ℕ → ℕ) → ℕ → ℕ → ℕ → ℕ
@@ -160,9 +160,9 @@ injective-also {m} {n} {f} p j l u =
 -- An injection of the numbers below n into themselves reaches each of them.
 pub reached : {n : ℕ} {f : ℕ → ℕ} → Injective n n f → (j : ℕ) → j < n → Reached f n j
 reached {n} {f} p j l =
-    ⊎_elim (λ r. r) (λ u. let h = pigeonhole (injective-also p j l u) in absurd (omega arith)) (reached-or-not f n j)
+    ⊎_elim (λ r. r) (λ u. let h = pigeonhole (injective-also p j l u) in absurd (omega arith)) (reached_or_not f n j)
 
 -- Its terms come to the sum of all.
-pub sum-permuted : {n : ℕ} {f : ℕ → ℕ} (w : ℕ → ℤ) → Injective n n f → sum n (λ i. w (f i)) ≡ sum n w
-sum-permuted {n} {f} w p =
-    sym (sum-injection n f w p (λ j l u. let r = reached p j l in absurd (u r.0 r.1 r.2)))
+pub sum_permuted : {n : ℕ} {f : ℕ → ℕ} (w : ℕ → ℤ) → Injective n n f → sum n (λ i. w (f i)) ≡ sum n w
+sum_permuted {n} {f} w p =
+    sym (sum_injection n f w p (λ j l u. let r = reached p j l in absurd (u r.0 r.1 r.2)))

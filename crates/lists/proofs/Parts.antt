@@ -30,18 +30,18 @@ module _ {A : Type 0} where
 
   -- ---- a store
 
-  set-append-add : (s t : List A) (i : ℕ) (x : A) → set (s ++ t) (length s + i) x ≡ s ++ set t i x
-  set-append-add [] t i x = rw zero-add
-  set-append-add (y ∷ s) t i x = rw suc-add (ap (λ (r : List A). y ∷ r) (set-append-add s t i x))
+  set_append_add : (s t : List A) (i : ℕ) (x : A) → set (s ++ t) (length s + i) x ≡ s ++ set t i x
+  set_append_add [] t i x = rw zero-add
+  set_append_add (y ∷ s) t i x = rw suc-add (ap (λ (r : List A). y ∷ r) (set_append_add s t i x))
 
   pub part-set : (a m : ℕ) (l : List A) (i : ℕ) (x : A) → i < m → part a m (set l (a + i) x) ≡ set (part a m l) i x
   part-set a m l i x h = ap (take m) (drop-set-add a l i x) ∙ take-set-lt m (drop a l) i x h
 
-  pub part-set-before : (a m : ℕ) (l : List A) (i : ℕ) (x : A) → i < a → part a m (set l i x) ≡ part a m l
-  part-set-before a m l i x h = ap (take m) (drop-set-lt a l i x h)
+  pub part_set_before : (a m : ℕ) (l : List A) (i : ℕ) (x : A) → i < a → part a m (set l i x) ≡ part a m l
+  part_set_before a m l i x h = ap (take m) (drop-set-lt a l i x h)
 
-  pub part-set-after : (a m : ℕ) (l : List A) (i : ℕ) (x : A) → a + m ≤ i → part a m (set l i x) ≡ part a m l
-  part-set-after a m l i x h =
+  pub part_set_after : (a m : ℕ) (l : List A) (i : ℕ) (x : A) → a + m ≤ i → part a m (set l i x) ≡ part a m l
+  part_set_after a m l i x h =
       let e : i ≡ a + (i - a) = omega arith in
       ap (λ (k : ℕ). take m (drop a (set l k x))) e ∙ ap (take m) (drop-set-add a l (i - a) x) ∙ take-set-le m (drop a l) (i - a) x (omega arith)
 
@@ -76,8 +76,8 @@ module _ {A : Type 0} where
     replaced-before = take_at (take a l) (p ++ drop (a + length p) l) a front
 
     -- What was written, with all before it.
-    pub replaced-front : take (a + length p) (replaced a p l) ≡ take a l ++ p
-    replaced-front =
+    pub replaced_front : take (a + length p) (replaced a p l) ≡ take a l ++ p
+    replaced_front =
         ap (take (a + length p)) (sym (append_assoc (take a l) p (drop (a + length p) l)))
         ∙ take_at (take a l ++ p) (drop (a + length p) l) (a + length p) (omega (arith, length-append (take a l) p, front))
 
@@ -88,8 +88,8 @@ module _ {A : Type 0} where
         ∙ drop_at p (drop (a + length p) l) (length p) refl
 
     -- Every other part is as it was.
-    pub replaced-part-before : (b m : ℕ) → b + m ≤ a → part b m (replaced a p l) ≡ part b m l
-    replaced-part-before b m h =
+    pub replaced_part_before : (b m : ℕ) → b + m ≤ a → part b m (replaced a p l) ≡ part b m l
+    replaced_part_before b m h =
         part_slice b m (replaced a p l)
         ∙ ap (drop b) (sym (take-take (b + m) a (replaced a p l) h) ∙ ap (take (b + m)) replaced-before ∙ take-take (b + m) a l h)
         ∙ sym (part_slice b m l)
@@ -100,35 +100,35 @@ module _ {A : Type 0} where
         ap (λ (k : ℕ). drop k (replaced a p l)) e ∙ sym (drop-drop (b - (a + length p)) (a + length p) (replaced a p l))
         ∙ ap (drop (b - (a + length p))) replaced-after ∙ drop-drop (b - (a + length p)) (a + length p) l ∙ ap (λ (k : ℕ). drop k l) (sym e)
 
-    pub replaced-part-after : (b m : ℕ) → a + length p ≤ b → part b m (replaced a p l) ≡ part b m l
-    replaced-part-after b m h = ap (take m) (replaced-drop b h)
+    pub replaced_part_after : (b m : ℕ) → a + length p ≤ b → part b m (replaced a p l) ≡ part b m l
+    replaced_part_after b m h = ap (take m) (replaced-drop b h)
 
     -- A store at offset + i is a store at i of what was written.
     pub replaced-set : (i : ℕ) (x : A) → i < length p → set (replaced a p l) (a + i) x ≡ replaced a (set p i x) l
     replaced-set i x h =
-        ap (λ (k : ℕ). set (replaced a p l) (k + i) x) (sym front) ∙ set-append-add (take a l) (p ++ drop (a + length p) l) i x
+        ap (λ (k : ℕ). set (replaced a p l) (k + i) x) (sym front) ∙ set_append_add (take a l) (p ++ drop (a + length p) l) i x
         ∙ ap (λ (t : List A). take a l ++ t) (set-append_left p (drop (a + length p) l) i x h)
         ∙ ap (λ (k : ℕ). take a l ++ (set p i x ++ drop (a + k) l)) (sym (length-set p i x))
 
     -- A store behind what was written is one in the list below.
-    pub replaced-set-after : (i : ℕ) (x : A) → a + length p ≤ i → set (replaced a p l) i x ≡ replaced a p (set l i x)
-    replaced-set-after i x h =
+    pub replaced_set_after : (i : ℕ) (x : A) → a + length p ≤ i → set (replaced a p l) i x ≡ replaced a p (set l i x)
+    replaced_set_after i x h =
         let e : i ≡ length (take a l) + (length p + (i - (a + length p))) = omega (arith, front) in
         let e' : i ≡ a + length p + (i - (a + length p)) = omega arith in
         ap (λ (k : ℕ). set (replaced a p l) k x) e
-        ∙ set-append-add (take a l) (p ++ drop (a + length p) l) (length p + (i - (a + length p))) x
-        ∙ ap (λ (t : List A). take a l ++ t) (set-append-add p (drop (a + length p) l) (i - (a + length p)) x)
+        ∙ set_append_add (take a l) (p ++ drop (a + length p) l) (length p + (i - (a + length p))) x
+        ∙ ap (λ (t : List A). take a l ++ t) (set_append_add p (drop (a + length p) l) (i - (a + length p)) x)
         ∙ sym
         (ap₂ (λ (s t : List A). s ++ (p ++ t)) (take-set-le a l i x (omega arith))
         (ap (λ (k : ℕ). drop (a + length p) (set l k x)) e' ∙ drop-set-add (a + length p) l (i - (a + length p)) x))
 
   -- A list copied whole, as the toolchain's `paste` has it.
-  pub pasted-whole : (a : ℕ) (p l : List A) → paste l a p (length p) ≡ replaced a p l
-  pasted-whole a p l =
+  pub pasted_whole : (a : ℕ) (p l : List A) → paste l a p (length p) ≡ replaced a p l
+  pasted_whole a p l =
       ap (λ (t : List A). take a l ++ t ++ drop (a + length p) l) (take-length p) ∙ append_assoc (take a l) p (drop (a + length p) l)
 
-  pub replaced-self : (a m : ℕ) (l : List A) → a + m ≤ length l → replaced a (part a m l) l ≡ l
-  replaced-self a m l h =
+  pub replaced_self : (a m : ℕ) (l : List A) → a + m ≤ length l → replaced a (part a m l) l ≡ l
+  replaced_self a m l h =
       ap (λ (k : ℕ). take a l ++ (part a m l ++ drop (a + k) l)) (part_length a m l h) ∙ ap (λ (t : List A). take a l ++ t) (part-drop a m l)
       ∙ take-append-drop a l
 
@@ -138,21 +138,21 @@ module _ {A : Type 0} where
       (ap (λ (k : ℕ). drop (a + k) (replaced a p l)) (sym e) ∙ replaced-after a p l h ∙ ap (λ (k : ℕ). drop (a + k) l) e)
 
   -- Two parts, one behind the other, may be written over in either order.
-  pub replaced-swap : (a b : ℕ) (p q l : List A) → a + length p ≤ b → b + length q ≤ length l
+  pub replaced_swap : (a b : ℕ) (p q l : List A) → a + length p ≤ b → b + length q ≤ length l
       → replaced b q (replaced a p l) ≡ replaced a p (replaced b q l)
-  replaced-swap a b p q l h fits =
-      let fits-p : a + length p ≤ length l = omega arith in
+  replaced_swap a b p q l h fits =
+      let fits_p : a + length p ≤ length l = omega arith in
       let between : List A = drop (a + length p) (take b l) in
       let rest : List A = q ++ drop (b + length q) l in
       let e : b ≡ a + length p + (b - (a + length p)) = omega arith in
-      let e' : b ≡ length (take a l) + (length p + (b - (a + length p))) = omega (arith, front a p l fits-p) in
+      let e' : b ≡ length (take a l) + (length p + (b - (a + length p))) = omega (arith, front a p l fits_p) in
       let to-b : take b (replaced a p l) ≡ take a l ++ (p ++ between) =
       ap (λ (k : ℕ). take k (replaced a p l)) e' ∙ take-append-add (take a l) (p ++ drop (a + length p) l) (length p + (b - (a + length p)))
       ∙ ap (λ (t : List A). take a l ++ t) (take-append-add p (drop (a + length p) l) (b - (a + length p)))
       ∙ ap (λ (t : List A). take a l ++ (p ++ t))
       (part_slice (a + length p) (b - (a + length p)) l ∙ ap (λ (k : ℕ). drop (a + length p) (take k l)) (sym e)) in
       let left : replaced b q (replaced a p l) ≡ take a l ++ (p ++ (between ++ rest)) =
-      ap₂ (λ (s t : List A). s ++ (q ++ t)) to-b (replaced-drop a p l fits-p (b + length q) (omega arith))
+      ap₂ (λ (s t : List A). s ++ (q ++ t)) to-b (replaced-drop a p l fits_p (b + length q) (omega arith))
       ∙ append_assoc (take a l) (p ++ between) rest
       ∙ ap (λ (t : List A). take a l ++ t) (append_assoc p between rest) in
       let right : replaced a p (replaced b q l) ≡ take a l ++ (p ++ (between ++ rest)) =
@@ -177,8 +177,8 @@ module _ {A : Type 0} where
       ap (λ (k : List A). part a (e - a) k) q ∙ ap (λ (k : ℕ). part a k (replaced a p l)) (long ∙ sym size) ∙ replaced-part a p l (omega arith)
 
   -- The first m entries, lent and come back.
-  pub front-lent : (m : ℕ) (l : List A) → take (m - 0) l ≡ take m l
-  front-lent m l = ap (λ (k : ℕ). take k l) (sub-zero m)
+  pub front_lent_lem : (m : ℕ) (l : List A) → take (m - 0) l ≡ take m l
+  front_lent_lem m l = ap (λ (k : ℕ). take k l) (sub-zero m)
 
-  pub front-back : (m : ℕ) (p l : List A) → take 0 l ++ (p ++ drop (m - 0) (drop 0 l)) ≡ p ++ drop m l
-  front-back m p l = ap (λ (k : ℕ). p ++ drop k l) (sub-zero m)
+  pub front_back : (m : ℕ) (p l : List A) → take 0 l ++ (p ++ drop (m - 0) (drop 0 l)) ≡ p ++ drop m l
+  front_back m p l = ap (λ (k : ℕ). p ++ drop k l) (sub-zero m)

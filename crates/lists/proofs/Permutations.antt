@@ -12,8 +12,8 @@ use borrow.Author.Tests.{eq-eqb, ne_eqb}
 use lib.ListN.{length, set, length-set}
 use lib.Seq.{get_or-set_same, get_or-set_other, lt-length-set}
 use Rattle.lists.specs.Permutations.{at, Injective, Permutation, exchange, table}
-use Rattle.lists.proofs.Injections.{injective-compose, injective-cong, source, source_of, reached}
-use Rattle.lists.proofs.Tables.{getD-table}
+use Rattle.lists.proofs.Injections.{injective_compose, injective_cong, source, source_of, reached}
+use Rattle.lists.proofs.Tables.{get_d_table}
 
 -- ---- an exchange of two places
 
@@ -31,8 +31,8 @@ module _ (l : List ℕ) (a b : ℕ) where
       by (yes e) = ap (at (exchange l a b)) e ∙ exchange-second g ∙ ap (at l) e
       by (no d) = get_or-set_other (set l a (at l b)) b a (at l a) 0 d ∙ get_or-set_same l a (at l b) 0 h
 
-  pub exchange-other : (i : ℕ) → i ≢ a → i ≢ b → at (exchange l a b) i ≡ at l i
-  exchange-other i da db = get_or-set_other (set l a (at l b)) b i (at l a) 0 db ∙ get_or-set_other l a i (at l b) 0 da
+  pub exchange_other : (i : ℕ) → i ≢ a → i ≢ b → at (exchange l a b) i ≡ at l i
+  exchange_other i da db = get_or-set_other (set l a (at l b)) b i (at l a) 0 db ∙ get_or-set_other l a i (at l b) 0 da
 
 -- Where an exchange takes what it puts at i from.
 abbrev swapped : ℕ → ℕ → ℕ → ℕ
@@ -41,33 +41,33 @@ swapped a b i = cond (eqb i a) b (cond (eqb i b) a i)
 Swapped : (a b i k : ℕ) → Type 0
 Swapped a b i k = ((i ≡ a) × (k ≡ b)) ⊎ ((i ≢ a) × (i ≡ b) × (k ≡ a)) ⊎ ((i ≢ a) × (i ≢ b) × (k ≡ i))
 
-swapped-cases : (a b i : ℕ) → Swapped a b i (swapped a b i)
+swapped_cases : (a b i : ℕ) → Swapped a b i (swapped a b i)
 unfolding Swapped
-swapped-cases a b i = by (ℕ_discrete i a) (ℕ_discrete i b)
+swapped_cases a b i = by (ℕ_discrete i a) (ℕ_discrete i b)
   where
     by : Dec (i ≡ a) → Dec (i ≡ b) → Swapped a b i (swapped a b i)
     by (yes e) d = inl (e, rw (eq-eqb i a e))
     by (no d) (yes e) = inr (inl (d, e, rw (ne_eqb i a d, eq-eqb i b e)))
     by (no d) (no e) = inr (inr (d, e, rw (ne_eqb i a d, ne_eqb i b e)))
 
-swapped-injective : (n a b : ℕ) → a < n → b < n → Injective n n (swapped a b)
+swapped_injective : (n a b : ℕ) → a < n → b < n → Injective n n (swapped a b)
 unfolding Swapped
-swapped-injective n a b ha hb = record {
-  below = λ i h. ⊎_elim (λ x. omega arith) (⊎_elim (λ x. omega arith) (λ x. omega arith)) (swapped-cases a b i);
+swapped_injective n a b ha hb = record {
+  below = λ i h. ⊎_elim (λ x. omega arith) (⊎_elim (λ x. omega arith) (λ x. omega arith)) (swapped_cases a b i);
   once = λ i k h g e.
       let other : (m : ℕ) → (m ≡ swapped a b k) → Swapped a b i m → i ≡ k = λ m s.
       ⊎_elim
-      (λ x. ⊎_elim (λ y. omega arith) (⊎_elim (λ y. omega arith) (λ y. omega arith)) (swapped-cases a b k))
+      (λ x. ⊎_elim (λ y. omega arith) (⊎_elim (λ y. omega arith) (λ y. omega arith)) (swapped_cases a b k))
       (⊎_elim
-      (λ x. ⊎_elim (λ y. omega arith) (⊎_elim (λ y. omega arith) (λ y. omega arith)) (swapped-cases a b k))
-      (λ x. ⊎_elim (λ y. omega arith) (⊎_elim (λ y. omega arith) (λ y. omega arith)) (swapped-cases a b k)))
-      in other (swapped a b i) e (swapped-cases a b i);
+      (λ x. ⊎_elim (λ y. omega arith) (⊎_elim (λ y. omega arith) (λ y. omega arith)) (swapped_cases a b k))
+      (λ x. ⊎_elim (λ y. omega arith) (⊎_elim (λ y. omega arith) (λ y. omega arith)) (swapped_cases a b k)))
+      in other (swapped a b i) e (swapped_cases a b i);
 }
 
-pub exchange-permutation : {n : ℕ} {l : List ℕ} → Permutation n l → (a b : ℕ) → a < n → b < n → Permutation n (exchange l a b)
-exchange-permutation {n} {l} p a b ha hb = record {
+pub exchange_permutation : {n : ℕ} {l : List ℕ} → Permutation n l → (a b : ℕ) → a < n → b < n → Permutation n (exchange l a b)
+exchange_permutation {n} {l} p a b ha hb = record {
   size = length-exchange l a b ∙ p.size;
-  injective = injective-cong (λ i h. sym (moved i h)) (injective-compose p.injective (swapped-injective n a b ha hb));
+  injective = injective_cong (λ i h. sym (moved i h)) (injective_compose p.injective (swapped_injective n a b ha hb));
 }
   where
     moved : (i : ℕ) → i < n → at (exchange l a b) i ≡ at l (swapped a b i)
@@ -78,7 +78,7 @@ exchange-permutation {n} {l} p a b ha hb = record {
             rw (eq-eqb i a e) (ap (at (exchange l a b)) e ∙ exchange-first l a b (omega (arith, p.size)) (omega (arith, p.size)))
         by (no d) (yes e) =
             rw (ne_eqb i a d, eq-eqb i b e) (ap (at (exchange l a b)) e ∙ exchange-second l a b (omega (arith, p.size)))
-        by (no d) (no e) = rw (ne_eqb i a d, ne_eqb i b e) (exchange-other l a b i d e)
+        by (no d) (no e) = rw (ne_eqb i a d, ne_eqb i b e) (exchange_other l a b i d e)
 
 -- ---- lists that name each other
 
@@ -98,5 +98,5 @@ back-back f g inside back j l =
 abbrev pub inverse : (ℕ → ℕ) → ℕ → ℕ → List ℕ
 inverse f m n = table n (λ j. source f m j)
 
-pub inverse-back : {m n : ℕ} {f : ℕ → ℕ} → Injective m n f → (i : ℕ) → i < m → at (inverse f m n) (f i) ≡ i
-inverse-back {m} {n} {f} p i l = getD-table n (λ j. source f m j) 0 (f i) (p.below i l) ∙ source_of p i l
+pub inverse_back : {m n : ℕ} {f : ℕ → ℕ} → Injective m n f → (i : ℕ) → i < m → at (inverse f m n) (f i) ≡ i
+inverse_back {m} {n} {f} p i l = get_d_table n (λ j. source f m j) 0 (f i) (p.below i l) ∙ source_of p i l

@@ -17,33 +17,33 @@ module _ {S : Type 0} where
       let e : a + suc m ≡ suc a + m = omega arith in
       ap (λ (k : ℕ). f k (turns a (suc m) f s)) e ∙ ap (f (suc a + m)) (turns-first a m f s)
 
-  turns-keep : (P : ℕ → S → Type 0) (a : ℕ) (f : ℕ → S → S) (s : S) → P a s → (m : ℕ)
+  turns_keep : (P : ℕ → S → Type 0) (a : ℕ) (f : ℕ → S → S) (s : S) → P a s → (m : ℕ)
       → ((k : ℕ) (t : S) → a ≤ k → k < a + m → P k t → P (suc k) (f k t)) → P (a + m) (turns a m f s)
   unfolding turns
-  turns-keep P a f s start zero step = subst (λ (k : ℕ). P k s) (sym (add-zero a)) start
-  turns-keep P a f s start (suc m) step =
+  turns_keep P a f s start zero step = subst (λ (k : ℕ). P k s) (sym (add-zero a)) start
+  turns_keep P a f s start (suc m) step =
       let e : suc (a + m) ≡ a + suc m = omega arith in
       subst (λ (k : ℕ). P k (f (a + m) (turns a m f s))) e
-      (step (a + m) (turns a m f s) (omega arith) (omega arith) (turns-keep P a f s start m (λ k t h l. step k t h (omega arith))))
+      (step (a + m) (turns a m f s) (omega arith) (omega arith) (turns_keep P a f s start m (λ k t h l. step k t h (omega arith))))
 
-  turns-cong : (a m : ℕ) (f g : ℕ → S → S) (s : S) → ((k : ℕ) (t : S) → a ≤ k → k < a + m → f k t ≡ g k t) → turns a m f s ≡ turns a m g s
+  turns_cong : (a m : ℕ) (f g : ℕ → S → S) (s : S) → ((k : ℕ) (t : S) → a ≤ k → k < a + m → f k t ≡ g k t) → turns a m f s ≡ turns a m g s
   unfolding turns
-  turns-cong a zero f g s e = refl
-  turns-cong a (suc m) f g s e =
-      ap (f (a + m)) (turns-cong a m f g s (λ k t h l. e k t h (omega arith))) ∙ e (a + m) (turns a m g s) (omega arith) (omega arith)
+  turns_cong a zero f g s e = refl
+  turns_cong a (suc m) f g s e =
+      ap (f (a + m)) (turns_cong a m f g s (λ k t h l. e k t h (omega arith))) ∙ e (a + m) (turns a m g s) (omega arith) (omega arith)
 
-  turns-split : (a m d : ℕ) (f : ℕ → S → S) (s : S) → turns a (m + d) f s ≡ turns (a + m) d f (turns a m f s)
+  turns_split : (a m d : ℕ) (f : ℕ → S → S) (s : S) → turns a (m + d) f s ≡ turns (a + m) d f (turns a m f s)
   unfolding turns
-  turns-split a m zero f s = ap (λ (k : ℕ). turns a k f s) (add-zero m)
-  turns-split a m (suc d) f s =
+  turns_split a m zero f s = ap (λ (k : ℕ). turns a k f s) (add-zero m)
+  turns_split a m (suc d) f s =
       let e : a + (m + d) ≡ a + m + d = omega arith in
-      ap (λ (k : ℕ). turns a k f s) (add-suc m d) ∙ ap (λ (k : ℕ). f k (turns a (m + d) f s)) e ∙ ap (f (a + m + d)) (turns-split a m d f s)
+      ap (λ (k : ℕ). turns a k f s) (add-suc m d) ∙ ap (λ (k : ℕ). f k (turns a (m + d) f s)) e ∙ ap (f (a + m + d)) (turns_split a m d f s)
 
   -- ---- upward
 
-  pub upward-none : (a b : ℕ) (f : ℕ → S → S) (s : S) → b ≤ a → upward a b f s ≡ s
+  pub upward_none : (a b : ℕ) (f : ℕ → S → S) (s : S) → b ≤ a → upward a b f s ≡ s
   unfolding upward turns
-  upward-none a b f s h = let e : b - a ≡ 0 = omega arith in ap (λ (m : ℕ). turns a m f s) e
+  upward_none a b f s h = let e : b - a ≡ 0 = omega arith in ap (λ (m : ℕ). turns a m f s) e
 
   pub upward-last : (a b : ℕ) (f : ℕ → S → S) (s : S) → a ≤ b → upward a (suc b) f s ≡ f b (upward a b f s)
   unfolding upward turns
@@ -59,65 +59,65 @@ module _ {S : Type 0} where
       ap (λ (m : ℕ). turns a m f s) e ∙ turns-first a (b - suc a) f s
 
   -- What holds at the start, and after a turn where it held before, holds at the end.
-  pub upward-keeps : (P : ℕ → S → Type 0) (a b : ℕ) (f : ℕ → S → S) (s : S) → a ≤ b → P a s
+  pub upward_keeps : (P : ℕ → S → Type 0) (a b : ℕ) (f : ℕ → S → S) (s : S) → a ≤ b → P a s
       → ((k : ℕ) (t : S) → a ≤ k → k < b → P k t → P (suc k) (f k t)) → P b (upward a b f s)
   unfolding upward
-  upward-keeps P a b f s h start step =
+  upward_keeps P a b f s h start step =
       let e : a + (b - a) ≡ b = omega arith in
-      subst (λ (k : ℕ). P k (turns a (b - a) f s)) e (turns-keep P a f s start (b - a) (λ k t l m. step k t l (omega arith)))
+      subst (λ (k : ℕ). P k (turns a (b - a) f s)) e (turns_keep P a f s start (b - a) (λ k t l m. step k t l (omega arith)))
 
   -- Only the turns of the range count.
-  pub upward-cong : (a b : ℕ) (f g : ℕ → S → S) (s : S) → ((k : ℕ) (t : S) → a ≤ k → k < b → f k t ≡ g k t) → upward a b f s ≡ upward a b g s
+  pub upward_cong : (a b : ℕ) (f g : ℕ → S → S) (s : S) → ((k : ℕ) (t : S) → a ≤ k → k < b → f k t ≡ g k t) → upward a b f s ≡ upward a b g s
   unfolding upward
-  upward-cong a b f g s e = turns-cong a (b - a) f g s (λ k t h l. e k t h (omega arith))
+  upward_cong a b f g s e = turns_cong a (b - a) f g s (λ k t h l. e k t h (omega arith))
 
   -- A run, cut in two.
-  pub upward-split : (a b c : ℕ) (f : ℕ → S → S) (s : S) → a ≤ b → b ≤ c → upward a c f s ≡ upward b c f (upward a b f s)
+  pub upward_split : (a b c : ℕ) (f : ℕ → S → S) (s : S) → a ≤ b → b ≤ c → upward a c f s ≡ upward b c f (upward a b f s)
   unfolding upward
-  upward-split a b c f s h l =
+  upward_split a b c f s h l =
       let e : c - a ≡ (b - a) + (c - b) = omega arith in
       let d : a + (b - a) ≡ b = omega arith in
-      ap (λ (m : ℕ). turns a m f s) e ∙ turns-split a (b - a) (c - b) f s ∙ ap (λ (k : ℕ). turns k (c - b) f (turns a (b - a) f s)) d
+      ap (λ (m : ℕ). turns a m f s) e ∙ turns_split a (b - a) (c - b) f s ∙ ap (λ (k : ℕ). turns k (c - b) f (turns a (b - a) f s)) d
 
   -- Turns that change nothing.
-  pub upward-idle : (a b : ℕ) (f : ℕ → S → S) (s : S) → ((k : ℕ) → a ≤ k → k < b → f k s ≡ s) → upward a b f s ≡ s
-  upward-idle a b f s idle = elim (dec_le a b) [
-    | yes h ↦ upward-keeps (λ k t. t ≡ s) a b f s h refl (λ k t l m e. ap (f k) e ∙ idle k l m)
-    | no h ↦ upward-none a b f s (omega arith)
+  pub upward_idle : (a b : ℕ) (f : ℕ → S → S) (s : S) → ((k : ℕ) → a ≤ k → k < b → f k s ≡ s) → upward a b f s ≡ s
+  upward_idle a b f s idle = elim (dec_le a b) [
+    | yes h ↦ upward_keeps (λ k t. t ≡ s) a b f s h refl (λ k t l m e. ap (f k) e ∙ idle k l m)
+    | no h ↦ upward_none a b f s (omega arith)
   ]
 
   -- What a run has come to, and no later turn changes, is where it ends.
-  pub upward-stays : (a b c : ℕ) (f : ℕ → S → S) (s t : S) → a ≤ b → b ≤ c → t ≡ upward a b f s → ((k : ℕ) → b ≤ k → k < c → f k t ≡ t)
+  pub upward_stays : (a b c : ℕ) (f : ℕ → S → S) (s t : S) → a ≤ b → b ≤ c → t ≡ upward a b f s → ((k : ℕ) → b ≤ k → k < c → f k t ≡ t)
       → t ≡ upward a c f s
-  upward-stays a b c f s t h l e idle = sym (upward-split a b c f s h l ∙ ap (upward b c f) (sym e) ∙ upward-idle b c f t idle)
+  upward_stays a b c f s t h l e idle = sym (upward_split a b c f s h l ∙ ap (upward b c f) (sym e) ∙ upward_idle b c f t idle)
 
   -- ---- downward
 
-  pub downward-none : (f : ℕ → S → S) (s : S) → downward 0 f s ≡ s
+  pub downward_none : (f : ℕ → S → S) (s : S) → downward 0 f s ≡ s
   unfolding downward
-  downward-none f s = refl
+  downward_none f s = refl
 
   pub downward-first : (n : ℕ) (f : ℕ → S → S) (s : S) → downward (suc n) f s ≡ downward n f (f n s)
   unfolding downward
   downward-first n f s = refl
 
-  pub downward-keeps : (P : ℕ → S → Type 0) (n : ℕ) (f : ℕ → S → S) (s : S) → P n s
+  pub downward_keeps : (P : ℕ → S → Type 0) (n : ℕ) (f : ℕ → S → S) (s : S) → P n s
       → ((k : ℕ) (t : S) → k < n → P (suc k) t → P k (f k t)) → P 0 (downward n f s)
   unfolding downward
-  downward-keeps P zero f s start step = start
-  downward-keeps P (suc n) f s start step =
-      downward-keeps P n f (f n s) (step n s (omega arith) start) (λ k t h. step k t (omega arith))
+  downward_keeps P zero f s start step = start
+  downward_keeps P (suc n) f s start step =
+      downward_keeps P n f (f n s) (step n s (omega arith) start) (λ k t h. step k t (omega arith))
 
 -- ---- until
 
 module _ {S R : Type 0} where
   -- A loop that was left stays left.
-  left-stays : (a b : ℕ) (f : ℕ → S → Turn S R) (r : R) → upward a b (λ k t. and_then t (f k)) (left r) ≡ left r
-  left-stays a b f r = upward-idle a b (λ k t. and_then t (f k)) (left r) (λ k l m. refl)
+  left_stays : (a b : ℕ) (f : ℕ → S → Turn S R) (r : R) → upward a b (λ k t. and_then t (f k)) (left r) ≡ left r
+  left_stays a b f r = upward_idle a b (λ k t. and_then t (f k)) (left r) (λ k l m. refl)
 
   pub until_none : (a b : ℕ) (f : ℕ → S → Turn S R) (s : S) → b ≤ a → until a b f s ≡ on s
   unfolding until
-  until_none a b f s h = upward-none a b (λ k t. and_then t (f k)) (on s) h
+  until_none a b f s h = upward_none a b (λ k t. and_then t (f k)) (on s) h
 
   pub until-last : (a b : ℕ) (f : ℕ → S → Turn S R) (s : S) → a ≤ b → until a (suc b) f s ≡ and_then (until a b f s) (f b)
   unfolding until
@@ -129,7 +129,7 @@ module _ {S R : Type 0} where
     where
       go : (t : Turn S R) → upward (suc a) b (λ k x. and_then x (f k)) t ≡ and_then t (λ x. upward (suc a) b (λ k y. and_then y (f k)) (on x))
       go (on x) = refl
-      go (left r) = left-stays (suc a) b f r
+      go (left r) = left_stays (suc a) b f r
 
 -- ---- the first place of a test
 
@@ -143,8 +143,8 @@ abbrev seek : (ℕ → Bool) → ℕ → ℕ → ℕ
 seek test k found = cond (ltb found k) found (cond (test k) k (suc k))
 
 module _ (test : ℕ → Bool) where
-  sought-more : (k found : ℕ) → Sought test k found → Sought test (suc k) (seek test k found)
-  sought-more k found h = by (dec_lt found k) (test k) refl
+  sought_more : (k found : ℕ) → Sought test k found → Sought test (suc k) (seek test k found)
+  sought_more k found h = by (dec_lt found k) (test k) refl
     where
       by : Dec (found < k) → (t : Bool) → test k ≡ t → Sought test (suc k) (seek test k found)
       by (yes l) t e =
@@ -164,12 +164,12 @@ module _ (test : ℕ → Bool) where
   sought : (n : ℕ) → Sought test n (first n test)
   unfolding first
   sought n =
-      upward-keeps (Sought test) 0 n (seek test) 0 (omega arith)
+      upward_keeps (Sought test) 0 n (seek test) 0 (omega arith)
       (record { reach = omega arith; holds = λ l. absurd (omega arith); before = λ i l. absurd (omega arith) })
-      (λ k found l m h. sought-more k found h)
+      (λ k found l m h. sought_more k found h)
 
-  pub first-le : (n : ℕ) → first n test ≤ n
-  first-le n = (sought n).reach
+  pub first_le : (n : ℕ) → first n test ≤ n
+  first_le n = (sought n).reach
 
   pub first_holds : (n : ℕ) → first n test < n → test (first n test) ≡ true
   first_holds n = (sought n).holds
@@ -186,9 +186,9 @@ module _ (test : ℕ → Bool) where
       by (no h) (yes g) = absurd (true≢false (sym e ∙ first-before n k g))
       by (no h) (no g) = omega arith
 
-  pub first-none : (n : ℕ) → ((i : ℕ) → i < n → test i ≡ false) → first n test ≡ n
-  first-none n f = by (dec_lt (first n test) n)
+  pub first_none : (n : ℕ) → ((i : ℕ) → i < n → test i ≡ false) → first n test ≡ n
+  first_none n f = by (dec_lt (first n test) n)
     where
       by : Dec (first n test < n) → first n test ≡ n
       by (yes h) = absurd (true≢false (sym (first_holds n h) ∙ f (first n test) h))
-      by (no h) = omega (arith, first-le n)
+      by (no h) = omega (arith, first_le n)

@@ -13,59 +13,59 @@ use Rattle.ints.proofs.Sums as ints
 use Rattle.ints.proofs.Shapes.{zlin}
 use Rattle.lists.specs.Sums.{sum}
 
-pub sum-none : (f : ℕ → ℤ) → sum 0 f ≡ pos 0
+pub sum_none : (f : ℕ → ℤ) → sum 0 f ≡ pos 0
 unfolding sum
-sum-none f = refl
+sum_none f = refl
 
 pub sum-last : (n : ℕ) (f : ℕ → ℤ) → sum (suc n) f ≡ sum n f +ℤ f n
 unfolding sum
 sum-last n f = refl
 
-pub sum-cong : (n : ℕ) (f g : ℕ → ℤ) → ((i : ℕ) → i < n → f i ≡ g i) → sum n f ≡ sum n g
+pub sum_cong : (n : ℕ) (f g : ℕ → ℤ) → ((i : ℕ) → i < n → f i ≡ g i) → sum n f ≡ sum n g
 unfolding sum
-sum-cong zero f g e = refl
-sum-cong (suc n) f g e = ap₂ ◌+ℤ◌ (sum-cong n f g (λ i l. e i (omega arith))) (e n (omega arith))
+sum_cong zero f g e = refl
+sum_cong (suc n) f g e = ap₂ ◌+ℤ◌ (sum_cong n f g (λ i l. e i (omega arith))) (e n (omega arith))
 
-pub sum-zero : (n : ℕ) (f : ℕ → ℤ) → ((i : ℕ) → i < n → f i ≡ pos 0) → sum n f ≡ pos 0
+pub sum_zero : (n : ℕ) (f : ℕ → ℤ) → ((i : ℕ) → i < n → f i ≡ pos 0) → sum n f ≡ pos 0
 unfolding sum
-sum-zero zero f e = refl
-sum-zero (suc n) f e = omega (zlin, sum-zero n f (λ i l. e i (omega arith)), e n (omega arith))
+sum_zero zero f e = refl
+sum_zero (suc n) f e = omega (zlin, sum_zero n f (λ i l. e i (omega arith)), e n (omega arith))
 
 -- The sum of the sums of two functions, and of their differences.
-pub sum-add : (n : ℕ) (f g : ℕ → ℤ) → sum n (λ i. f i +ℤ g i) ≡ sum n f +ℤ sum n g
+pub sum_add : (n : ℕ) (f g : ℕ → ℤ) → sum n (λ i. f i +ℤ g i) ≡ sum n f +ℤ sum n g
 unfolding sum
-sum-add zero f g = refl
-sum-add (suc n) f g =
-    omega (zlin, sum-add n f g, ints.sum (sum n f) (sum n g), ints.sum (f n) (g n), ints.sum (sum n f) (f n), ints.sum (sum n g) (g n))
+sum_add zero f g = refl
+sum_add (suc n) f g =
+    omega (zlin, sum_add n f g, ints.sum (sum n f) (sum n g), ints.sum (f n) (g n), ints.sum (sum n f) (f n), ints.sum (sum n g) (g n))
 
-pub sum-sub : (n : ℕ) (f g : ℕ → ℤ) → sum n (λ i. f i -ℤ g i) ≡ sum n f -ℤ sum n g
+pub sum_sub : (n : ℕ) (f g : ℕ → ℤ) → sum n (λ i. f i -ℤ g i) ≡ sum n f -ℤ sum n g
 unfolding sum
-sum-sub zero f g = refl
-sum-sub (suc n) f g =
-    omega (zlin, sum-sub n f g, ints.dif (sum n f) (sum n g), ints.dif (f n) (g n), ints.sum (sum n f) (f n), ints.sum (sum n g) (g n))
+sum_sub zero f g = refl
+sum_sub (suc n) f g =
+    omega (zlin, sum_sub n f g, ints.dif (sum n f) (sum n g), ints.dif (f n) (g n), ints.sum (sum n f) (f n), ints.sum (sum n g) (g n))
 
 -- A range in two parts.
-pub sum-split : (m n : ℕ) (f : ℕ → ℤ) → sum (m + n) f ≡ sum m f +ℤ sum n (λ i. f (m + i))
+pub sum_split : (m n : ℕ) (f : ℕ → ℤ) → sum (m + n) f ≡ sum m f +ℤ sum n (λ i. f (m + i))
 unfolding sum
-sum-split m zero f = ap (λ (k : ℕ). sum k f) (add-zero m) ∙ sym (+ℤ_idr (sum m f))
-sum-split m (suc n) f =
+sum_split m zero f = ap (λ (k : ℕ). sum k f) (add-zero m) ∙ sym (+ℤ_idr (sum m f))
+sum_split m (suc n) f =
     let e : m + suc n ≡ suc (m + n) = omega arith in
     ap (λ (k : ℕ). sum k f) e
-    ∙ omega (zlin, sum-split m n f, ints.sum (sum m f) (sum n (λ i. f (m + i))), ints.sum (sum n (λ i. f (m + i))) (f (m + n)))
+    ∙ omega (zlin, sum_split m n f, ints.sum (sum m f) (sum n (λ i. f (m + i))), ints.sum (sum n (λ i. f (m + i))) (f (m + n)))
 
-pub sum-le : (n : ℕ) (f g : ℕ → ℤ) → ((i : ℕ) → i < n → f i ≤ℤ g i) → sum n f ≤ℤ sum n g
+pub sum_le : (n : ℕ) (f g : ℕ → ℤ) → ((i : ℕ) → i < n → f i ≤ℤ g i) → sum n f ≤ℤ sum n g
 unfolding sum
-sum-le zero f g h = ≤ℤ_refl (pos 0)
-sum-le (suc n) f g h = omega (zlin, sum-le n f g (λ i l. h i (omega arith)), h n (omega arith))
+sum_le zero f g h = ≤ℤ_refl (pos 0)
+sum_le (suc n) f g h = omega (zlin, sum_le n f g (λ i l. h i (omega arith)), h n (omega arith))
 
 -- Where each f i is at most g i, and the g's come to no more than the f's, each two are equal.
-pub sum-le-tight : (n : ℕ) (f g : ℕ → ℤ) → ((i : ℕ) → i < n → f i ≤ℤ g i) → sum n g ≤ℤ sum n f → (i : ℕ) → i < n → f i ≡ g i
+pub sum_le_tight : (n : ℕ) (f g : ℕ → ℤ) → ((i : ℕ) → i < n → f i ≤ℤ g i) → sum n g ≤ℤ sum n f → (i : ℕ) → i < n → f i ≡ g i
 unfolding sum
-sum-le-tight zero f g h s i l = absurd (omega arith)
-sum-le-tight (suc n) f g h s i l = by (ℕ_discrete i n) (λ d. sum-le-tight n f g (λ k m. h k (omega arith)) rest i (omega arith))
+sum_le_tight zero f g h s i l = absurd (omega arith)
+sum_le_tight (suc n) f g h s i l = by (ℕ_discrete i n) (λ d. sum_le_tight n f g (λ k m. h k (omega arith)) rest i (omega arith))
   where
     below : sum n f ≤ℤ sum n g
-    below = sum-le n f g (λ k m. h k (omega arith))
+    below = sum_le n f g (λ k m. h k (omega arith))
 
     rest : sum n g ≤ℤ sum n f
     rest = omega (zlin, h n (omega arith))
@@ -92,14 +92,14 @@ sum-within (suc n) k f h =
     rw (suc-mul n k) (omega (zlin, h n (omega arith), ints.sum (sum n f) (f n)))
 
 -- Two functions that differ at k alone.
-pub sum-change : (n k : ℕ) (f g : ℕ → ℤ) → k < n → ((i : ℕ) → i < n → i ≢ k → f i ≡ g i) → sum n f +ℤ g k ≡ sum n g +ℤ f k
+pub sum_change : (n k : ℕ) (f g : ℕ → ℤ) → k < n → ((i : ℕ) → i < n → i ≢ k → f i ≡ g i) → sum n f +ℤ g k ≡ sum n g +ℤ f k
 unfolding sum
-sum-change zero k f g l e = absurd (omega arith)
-sum-change (suc n) k f g l e = by (ℕ_discrete k n) (λ d. sum-change n k f g (omega arith) (λ i m. e i (omega arith)))
+sum_change zero k f g l e = absurd (omega arith)
+sum_change (suc n) k f g l e = by (ℕ_discrete k n) (λ d. sum_change n k f g (omega arith) (λ i m. e i (omega arith)))
   where
     by : Dec (k ≡ n) → (k ≢ n → sum n f +ℤ g k ≡ sum n g +ℤ f k) → (sum n f +ℤ f n) +ℤ g k ≡ (sum n g +ℤ g n) +ℤ f k
     by (yes s) ih =
-        let same : sum n f ≡ sum n g = sum-cong n f g (λ i m. e i (omega arith) (λ d. omega arith)) in
+        let same : sum n f ≡ sum n g = sum_cong n f g (λ i m. e i (omega arith) (λ d. omega arith)) in
         omega (zlin, same, ap f s, ap g s, ints.sum (sum n f) (f n), ints.sum (sum n g) (g n))
     by (no d) ih =
         let same : f n ≡ g n = e n (omega arith) (λ s. d (sym s)) in

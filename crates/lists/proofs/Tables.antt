@@ -17,10 +17,10 @@ module _ {A : Type 0} where
   length-table zero f = refl
   length-table (suc n) f = omega (arith, length-append (table n f) (f n ∷ []), length-table n f)
 
-  pub getD-table : (n : ℕ) (f : ℕ → A) (d : A) (i : ℕ) → i < n → get_or (table n f) i d ≡ f i
+  pub get_d_table : (n : ℕ) (f : ℕ → A) (d : A) (i : ℕ) → i < n → get_or (table n f) i d ≡ f i
   unfolding table
-  getD-table zero f d i l = absurd (omega arith)
-  getD-table (suc n) f d i l = by (dec_lt i n) (getD-table n f d i)
+  get_d_table zero f d i l = absurd (omega arith)
+  get_d_table (suc n) f d i l = by (dec_lt i n) (get_d_table n f d i)
     where
       by : Dec (i < n) → (i < n → get_or (table n f) i d ≡ f i) → get_or (table n f ++ (f n ∷ [])) i d ≡ f i
       by (yes h) ih = get_or-append (table n f) (f n ∷ []) d i (omega (arith, length-table n f)) ∙ ih h
@@ -29,15 +29,15 @@ module _ {A : Type 0} where
           get_or_at (table n f) (f n) [] d i (length-table n f ∙ e) ∙ ap f e
 
   -- A list is the table of what stands in it.
-  pub table-getD : (l : List A) (d : A) → table (length l) (λ i. get_or l i d) ≡ l
-  table-getD l d =
+  pub table_get_d : (l : List A) (d : A) → table (length l) (λ i. get_or l i d) ≡ l
+  table_get_d l d =
       ext_get_or d (table (length l) (λ i. get_or l i d)) l (length-table (length l) (λ i. get_or l i d))
-      (λ i h. getD-table (length l) (λ k. get_or l k d) d i (omega (arith, length-table (length l) (λ k. get_or l k d))))
+      (λ i h. get_d_table (length l) (λ k. get_or l k d) d i (omega (arith, length-table (length l) (λ k. get_or l k d))))
 
-  pub table-cong : (n : ℕ) (f g : ℕ → A) → ((i : ℕ) → i < n → f i ≡ g i) → table n f ≡ table n g
+  pub table_cong : (n : ℕ) (f g : ℕ → A) → ((i : ℕ) → i < n → f i ≡ g i) → table n f ≡ table n g
   unfolding table
-  table-cong zero f g e = refl
-  table-cong (suc n) f g e = cc (table-cong n f g (λ i l. e i (omega arith)), e n (omega arith))
+  table_cong zero f g e = refl
+  table_cong (suc n) f g e = cc (table_cong n f g (λ i l. e i (omega arith)), e n (omega arith))
 
   -- ---- a list filled from the front: its first k entries are the table's
 
@@ -56,8 +56,8 @@ module _ {A : Type 0} where
   pub filled-length : (k : ℕ) (f : ℕ → A) (l : List A) → k ≤ length l → length (table k f ++ drop k l) ≡ length l
   filled-length k f l h = omega (arith, length-append (table k f) (drop k l), length-table k f, length-drop k l)
 
-  pub filled-all : (k : ℕ) (f : ℕ → A) (l : List A) → k ≡ length l → table k f ++ drop k l ≡ table (length l) f
-  filled-all k f l e = rw (e, drop-length l, append-nil)
+  pub filled_all : (k : ℕ) (f : ℕ → A) (l : List A) → k ≡ length l → table k f ++ drop k l ≡ table (length l) f
+  filled_all k f l e = rw (e, drop-length l, append-nil)
 
   -- The entry that the loop reads next is as it was.
   pub filled_next : (f : ℕ → A) (l : List A) (k : ℕ) (d : A) → k < length l → get_or (table k f ++ drop k l) k d ≡ get_or l k d
@@ -72,11 +72,11 @@ module _ {A : Type 0} where
 
   -- ---- a table in two parts, and a list whose next k entries are filled at once
 
-  pub table-add : (m k : ℕ) (f : ℕ → A) → table (m + k) f ≡ table m f ++ table k (λ i. f (m + i))
+  pub table_add : (m k : ℕ) (f : ℕ → A) → table (m + k) f ≡ table m f ++ table k (λ i. f (m + i))
   unfolding table
-  table-add m zero f = ap (λ (n : ℕ). table n f) (add-zero m) ∙ sym (append-nil (table m f))
-  table-add m (suc k) f =
-      ap (λ (n : ℕ). table n f) (add-suc m k) ∙ ap (λ (t : List A). t ++ (f (m + k) ∷ [])) (table-add m k f)
+  table_add m zero f = ap (λ (n : ℕ). table n f) (add-zero m) ∙ sym (append-nil (table m f))
+  table_add m (suc k) f =
+      ap (λ (n : ℕ). table n f) (add-suc m k) ∙ ap (λ (t : List A). t ++ (f (m + k) ∷ [])) (table_add m k f)
       ∙ append_assoc (table m f) (table k (λ i. f (m + i))) (f (m + k) ∷ [])
 
   pub filled-part : (m k : ℕ) (f g : ℕ → A) (l : List A) → ((i : ℕ) → i < k → g i ≡ f (m + i))
@@ -84,8 +84,8 @@ module _ {A : Type 0} where
   filled-part m k f g l same =
       ap₂ (λ (s t : List A). s ++ (table k g ++ t)) (take_at (table m f) (drop m l) m (length-table m f)) rest
       ∙ sym (append_assoc (table m f) (table k g) (drop (m + k) l))
-      ∙ ap (λ (t : List A). (table m f ++ t) ++ drop (m + k) l) (table-cong k g (λ i. f (m + i)) same)
-      ∙ ap (λ (t : List A). t ++ drop (m + k) l) (sym (table-add m k f))
+      ∙ ap (λ (t : List A). (table m f ++ t) ++ drop (m + k) l) (table_cong k g (λ i. f (m + i)) same)
+      ∙ ap (λ (t : List A). t ++ drop (m + k) l) (sym (table_add m k f))
     where
       rest : drop (m + length (table k g)) (table m f ++ drop m l) ≡ drop (m + k) l
       rest =
@@ -94,14 +94,14 @@ module _ {A : Type 0} where
 
   -- ---- all entries the same
 
-  pub table-constant : (n : ℕ) (x : A) → table n (λ i. x) ≡ replicate n x
-  table-constant n x =
+  pub table_constant : (n : ℕ) (x : A) → table n (λ i. x) ≡ replicate n x
+  table_constant n x =
       ext_get_or x (table n (λ i. x)) (replicate n x) (length-table n (λ i. x) ∙ sym (length-replicate n x))
-      (λ i h. let l : i < n = omega (arith, length-table n (λ k. x)) in getD-table n (λ k. x) x i l ∙ sym (get_or-replicate n i x x l))
+      (λ i h. let l : i < n = omega (arith, length-table n (λ k. x)) in get_d_table n (λ k. x) x i l ∙ sym (get_or-replicate n i x x l))
 
-  pub getD-constant : (n : ℕ) (x : A) (i : ℕ) → get_or (table n (λ k. x)) i x ≡ x
-  getD-constant n x i = by (dec_lt i n)
+  pub get_d_constant : (n : ℕ) (x : A) (i : ℕ) → get_or (table n (λ k. x)) i x ≡ x
+  get_d_constant n x i = by (dec_lt i n)
     where
       by : Dec (i < n) → get_or (table n (λ k. x)) i x ≡ x
-      by (yes l) = getD-table n (λ k. x) x i l
+      by (yes l) = get_d_table n (λ k. x) x i l
       by (no l) = get_or-eq_default (table n (λ k. x)) x {n = i} (omega (arith, length-table n (λ k. x)))

@@ -9,9 +9,9 @@ use mir.Syntax.{Width}
 use mir.Val.{SFits, to_z, of_z}
 use mir.Facts.{to_z-of_z}
 use Rattle.ints.specs.Parts.{Within}
-use Rattle.ints.proofs.Sums.{up_neg, down-neg}
-use Rattle.ints.proofs.Ranges.{zarith, within-orders}
-use Rattle.ints.proofs.Tests.{le-ltZ}
+use Rattle.ints.proofs.Sums.{up_neg, down_neg}
+use Rattle.ints.proofs.Ranges.{zarith, within_orders}
+use Rattle.ints.proofs.Tests.{le_lt_z}
 use Rattle.matrix.specs.Tests.{outside}
 
 neither : (a b : Bool) → (a || b) ≡ false → (a ≡ false) × (b ≡ false)
@@ -20,8 +20,8 @@ neither false b e = (refl, e)
 
 pub outside-within : (k : ℕ) (z : ℤ) → (outside (pos k) z ≡ false) ↔ Within k z
 outside-within k z = (
-  λ e. let h = neither (lt_z z (neg_ℤ (pos k))) (lt_z (pos k) z) e in omega (zarith, h, up_neg (pos k), down-neg (pos k)),
-  λ w. let o = (within-orders k z).0 w in rw (le-ltZ z (neg_ℤ (pos k)) o.0, le-ltZ (pos k) z o.1),
+  λ e. let h = neither (lt_z z (neg_ℤ (pos k))) (lt_z (pos k) z) e in omega (zarith, h, up_neg (pos k), down_neg (pos k)),
+  λ w. let o = (within_orders k z).0 w in rw (le_lt_z z (neg_ℤ (pos k)) o.0, le_lt_z (pos k) z o.1),
 )
 
 -- ---- minus a number, in a signed local

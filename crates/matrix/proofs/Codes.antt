@@ -9,15 +9,15 @@ use borrow.Author.Tests.{lt-ltb}
 use lib.IntN.{ℤ}
 use lib.ListN.{length}
 use Rattle.matrix.specs.Limits.{side}
-use Rattle.matrix.specs.Cost.{costTests, cost}
+use Rattle.matrix.specs.Cost.{cost_tests, cost}
 use Rattle.matrix.specs.Answers.{totalled}
-use Rattle.matrix.specs.Tests.{shaped, roomsLong}
+use Rattle.matrix.specs.Tests.{shaped, rooms_long}
 use Rattle.matrix.specs.Asked.{Tellable, TellableIn}
-use Rattle.matrix.specs.Refusals.{place_of, code_of, cappedCodeOf}
+use Rattle.matrix.specs.Refusals.{place_of, code_of, capped_code_of}
 use Rattle.matrix.specs.declared.Refusal.{Refusal}
 use Rattle.matrix.proofs.SmallLimits.{side-small}
-use Rattle.matrix.proofs.Verdicts.{then-iff, Small, then-small, failsIf-small, failsAt-small}
-use Rattle.matrix.proofs.Passed.{side-within, costs-fill, list-short}
+use Rattle.matrix.proofs.Verdicts.{then_iff, Small, then_small, fails_if-small, fails_at-small}
+use Rattle.matrix.proofs.Passed.{side-within, costs_fill_lem, list-short}
 use Rattle.matrix.specs.declared.Verdict.{Verdict}
 use Rattle.matrix.specs.declared.Verdict.TheVariants.{Passed, Fails}
 
@@ -29,7 +29,7 @@ pub square-small : (n m : ℕ) → n ≤ side → m ≡ n * n → m ≤ 2 ^ 32
 square-small n m h e = filled-small n n m h h e
 
 -- A place that is far below 2^48 is told as it is.
-pub capped_same : (refusal : Refusal) → Tellable refusal → cappedCodeOf refusal ≡ code_of refusal
+pub capped_same : (refusal : Refusal) → Tellable refusal → capped_code_of refusal ≡ code_of refusal
 capped_same refusal h = rw (lt-ltb (place_of refusal) (2 ^ 56) (omega (arith, h.1)))
 
 pub totalled-small : (verdict : Verdict) (total : ℤ) → Small verdict → TellableIn (totalled verdict total)
@@ -39,20 +39,20 @@ totalled-small (Fails refusal) total h = h
 
 pub shaped-small : (n : ℕ) (costs : List ℤ) (a b c d : ℕ) → Small (shaped n costs (a ∷ b ∷ c ∷ d ∷ []))
 shaped-small n costs a b c d =
-    then-small _ _ (then-small _ _ (failsIf-small _ _ _ (lit< tt) (λ e. lit< tt)) (λ e. failsIf-small _ _ _ (lit< tt) (λ e. lit< tt)))
-    (λ e. failsAt-small _ _ _ _ (lit< tt) (λ k l. omega arith))
+    then_small _ _ (then_small _ _ (fails_if-small _ _ _ (lit< tt) (λ e. lit< tt)) (λ e. fails_if-small _ _ _ (lit< tt) (λ e. lit< tt)))
+    (λ e. fails_at-small _ _ _ _ (lit< tt) (λ k l. omega arith))
 
-pub rooms-small : (n indices numbers : ℕ) → Small (roomsLong n indices numbers)
-rooms-small n indices numbers = then-small _ _ (failsIf-small _ _ _ (lit< tt) (λ e. lit< tt)) (λ e. failsIf-small _ _ _ (lit< tt) (λ e. lit< tt))
+pub rooms_small : (n indices numbers : ℕ) → Small (rooms_long n indices numbers)
+rooms_small n indices numbers = then_small _ _ (fails_if-small _ _ _ (lit< tt) (λ e. lit< tt)) (λ e. fails_if-small _ _ _ (lit< tt) (λ e. lit< tt))
 
 pub cost-places : (n : ℕ) (costs : List ℤ) (listed : List ℕ) → TellableIn (cost n costs listed)
-unfolding cost costTests
+unfolding cost cost_tests
 cost-places n costs listed =
     totalled-small _ _
-    (then-small _ _
-    (then-small _ _
-    (then-small _ _
-    (then-small _ _ (failsIf-small _ _ _ (lit< tt) (λ e. lit< tt)) (λ a. failsIf-small _ _ _ (lit< tt) (λ e. lit< tt)))
-    (λ b. failsIf-small _ _ _ (lit< tt) (λ e. lit< tt)))
-    (λ c. failsAt-small _ _ _ _ (lit< tt) (λ k l. let b = ((then-iff _ _).0 c).0 in omega (arith, square-small n (length costs) ((side-within side n).0 ((then-iff _ _).0 b).0) ((costs-fill n n costs).0 ((then-iff _ _).0 b).1)))))
-    (λ d. failsAt-small _ _ _ _ (lit< tt) (λ i l. let c = ((then-iff _ _).0 d).0 in omega (arith, side-small, (side-within side n).0 ((then-iff _ _).0 ((then-iff _ _).0 c).0).0, (list-short n (length listed)).0 ((then-iff _ _).0 c).1))))
+    (then_small _ _
+    (then_small _ _
+    (then_small _ _
+    (then_small _ _ (fails_if-small _ _ _ (lit< tt) (λ e. lit< tt)) (λ a. fails_if-small _ _ _ (lit< tt) (λ e. lit< tt)))
+    (λ b. fails_if-small _ _ _ (lit< tt) (λ e. lit< tt)))
+    (λ c. fails_at-small _ _ _ _ (lit< tt) (λ k l. let b = ((then_iff _ _).0 c).0 in omega (arith, square-small n (length costs) ((side-within side n).0 ((then_iff _ _).0 b).0) ((costs_fill_lem n n costs).0 ((then_iff _ _).0 b).1)))))
+    (λ d. fails_at-small _ _ _ _ (lit< tt) (λ i l. let c = ((then_iff _ _).0 d).0 in omega (arith, side-small, (side-within side n).0 ((then_iff _ _).0 ((then_iff _ _).0 c).0).0, (list-short n (length listed)).0 ((then_iff _ _).0 c).1))))

@@ -6,18 +6,18 @@ use native.Mathlib.Omega.{arith}
 use borrow.Author.Count.{below_none, below_more}
 use lib.Dec.{ltb}
 use Rattle.lists.specs.Runs.{first}
-use Rattle.lists.proofs.Runs.{upward-cong, first-at, first-none, first-before}
+use Rattle.lists.proofs.Runs.{upward_cong, first-at, first_none, first-before}
 
 -- The test holds at no place below i.
 abbrev pub Clear : (ℕ → Bool) → ℕ → Type 0
 Clear test i = (k : ℕ) → k < i → test k ≡ false
 
 module _ (test : ℕ → Bool) where
-  pub clear-start : Clear test 0
-  clear-start = below_none (λ k. test k ≡ false)
+  pub clear_start : Clear test 0
+  clear_start = below_none (λ k. test k ≡ false)
 
-  pub clear-more : (i : ℕ) → Clear test i → test i ≡ false → Clear test (i + 1)
-  clear-more = below_more (λ k. test k ≡ false)
+  pub clear_more : (i : ℕ) → Clear test i → test i ≡ false → Clear test (i + 1)
+  clear_more = below_more (λ k. test k ≡ false)
 
   -- The loop is left at i, where the test holds.
   pub found : (n i : ℕ) → i < n → Clear test i → test i ≡ true → i ≡ first n test
@@ -25,7 +25,7 @@ module _ (test : ℕ → Bool) where
 
   -- The loop ends.
   pub ended : (n i : ℕ) → i ≡ n → Clear test i → i ≡ first n test
-  ended n i e clear = e ∙ sym (first-none test n (λ k l. clear k (omega arith)))
+  ended n i e clear = e ∙ sym (first_none test n (λ k l. clear k (omega arith)))
 
   -- Where no place was found, the test holds at none.
   pub nowhere : (n : ℕ) → n ≤ first n test → Clear test n
@@ -35,4 +35,4 @@ module _ (test : ℕ → Bool) where
 pub first_cong : (n : ℕ) (f g : ℕ → Bool) → ((i : ℕ) → i < n → f i ≡ g i) → first n f ≡ first n g
 unfolding first
 first_cong n f g same =
-    upward-cong 0 n _ _ 0 (λ k found h l. ap (λ (t : Bool). cond (ltb found k) found (cond t k (suc k))) (same k l))
+    upward_cong 0 n _ _ 0 (λ k found h l. ap (λ (t : Bool). cond (ltb found k) found (cond t k (suc k))) (same k l))

@@ -5,7 +5,7 @@ use native.Mathlib.Omega.{arith}
 use borrow.Author.Tests.{ltb-false, le-ltb}
 use Rattle.matrix.specs.Tests.{short}
 use Rattle.matrix.specs.Asked.{Long}
-use Rattle.matrix.proofs.First.{Clear, clear-start, clear-more}
+use Rattle.matrix.proofs.First.{Clear, clear_start, clear_more}
 
 module _ (n a b c d : ℕ) where
   pub clear-long : Clear (short n (a ∷ b ∷ c ∷ d ∷ [])) 4 → Long n a b c d
@@ -13,17 +13,17 @@ module _ (n a b c d : ℕ) where
       record {
         first-long = ltb-false a n (clear 0 (omega arith));
         second-long = ltb-false b n (clear 1 (omega arith));
-        third-long = ltb-false c n (clear 2 (omega arith));
-        fourth-long = ltb-false d n (clear 3 (omega arith));
+        third_long = ltb-false c n (clear 2 (omega arith));
+        fourth_long = ltb-false d n (clear 3 (omega arith));
       }
 
   pub long-clear : Long n a b c d → Clear (short n (a ∷ b ∷ c ∷ d ∷ [])) 4
   long-clear l =
       let test = short n (a ∷ b ∷ c ∷ d ∷ []) in
-      clear-more test 3
-      (clear-more test 2
-      (clear-more test 1
-      (clear-more test 0 (clear-start test) (le-ltb a n l.first-long))
+      clear_more test 3
+      (clear_more test 2
+      (clear_more test 1
+      (clear_more test 0 (clear_start test) (le-ltb a n l.first-long))
       (le-ltb b n l.second-long))
-      (le-ltb c n l.third-long))
-      (le-ltb d n l.fourth-long)
+      (le-ltb c n l.third_long))
+      (le-ltb d n l.fourth_long)

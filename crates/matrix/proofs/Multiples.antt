@@ -15,5 +15,5 @@ module _ (k : ℕ) (few : k ≤ 10) (b : ℤ) (e : b ≡ pos K) (fits : mag b < 
   pub multiple : pos k *ℤ to_z w64 (of_z w64 b) ≡ pos (k * K)
   multiple = ap (λ (z : ℤ). pos k *ℤ z) (read_back w64 b fits ∙ e) ∙ pos-*ℤ-pos k K
 
-  pub multiple-fits : SFits w64 (pos k *ℤ to_z w64 (of_z w64 b))
-  multiple-fits = rw multiple (omega (zarith, K-small, mul-le-mul_right K few))
+  pub multiple_fits : SFits w64 (pos k *ℤ to_z w64 (of_z w64 b))
+  multiple_fits = rw multiple (omega (zarith, K-small, mul-le-mul_right K few))

@@ -1,7 +1,7 @@
 -- How large the limits are: all that proofs need of their values. Assumes nothing.
 use Prim.Native.Nat.{◌^◌, ◌≤◌, ◌<◌}
 use native.Mathlib.Omega.{arith}
-use Rattle.matrix.specs.Limits.{side, sheetSide, K}
+use Rattle.matrix.specs.Limits.{side, sheet_side, K}
 
 -- A side fits two bytes, so that side * side fits, and a sum of as many 32-bit numbers too.
 pub side-small : side < 2 ^ 16
@@ -9,19 +9,19 @@ unfolding side
 side-small = omega arith
 
 -- A sheet's side is one for which the state for sheets has room.
-pub sheetSide-small : sheetSide ≤ 64
-unfolding sheetSide
-sheetSide-small = omega arith
+pub sheet_side-small : sheet_side ≤ 64
+unfolding sheet_side
+sheet_side-small = omega arith
 
 -- The solver takes it.
-pub sheetSide-within : sheetSide ≤ side
-unfolding sheetSide side
-sheetSide-within = omega arith
+pub sheet_side-within : sheet_side ≤ side
+unfolding sheet_side side
+sheet_side-within = omega arith
 
 -- K is far above any score.
-pub K-large : 1000 ≤ K
+pub K_large : 1000 ≤ K
 unfolding K
-K-large = omega arith
+K_large = omega arith
 
 -- K fits a 32-bit signed number, so that sums of some 10K fit 64 bits.
 pub K-small : K < 2 ^ 31

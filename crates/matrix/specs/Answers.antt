@@ -1,6 +1,6 @@
 -- What the scope says of each case of an answer, and the answer from a verdict.
 use Rattle.std.specs.Prelude.{Bool, true, false, ℕ, ℤ, pos}
-use Rattle.matrix.specs.Refusals.{number_of, place_of, slackOf}
+use Rattle.matrix.specs.Refusals.{number_of, place_of, slack_of}
 use Rattle.matrix.specs.declared.Verdict.{Verdict}
 use Rattle.matrix.specs.declared.Verdict.TheVariants.{Passed, Fails}
 use Rattle.matrix.specs.declared.Answer.{Answer}
@@ -17,12 +17,12 @@ pub record Values : Type 0 where
 -- "A refusal has total 0, counts 0, a place".
 abbrev pub values_of : Answer → Values
 values_of (Total total) = record { accepted = true; number = 0; place = 0; slack = pos 0; total = total }
-values_of (Refused refusal) = record { accepted = false; number = number_of refusal; place = place_of refusal; slack = slackOf refusal; total = pos 0 }
+values_of (Refused refusal) = record { accepted = false; number = number_of refusal; place = place_of refusal; slack = slack_of refusal; total = pos 0 }
 
 -- An answer but for its slack.
-unfoldable pub bareAnswer : Answer → Answer
-bareAnswer (Total total) = Total total
-bareAnswer (Refused refusal) = Refused (record { number = number_of refusal; place = place_of refusal; slack = pos 0 })
+unfoldable pub bare_answer : Answer → Answer
+bare_answer (Total total) = Total total
+bare_answer (Refused refusal) = Refused (record { number = number_of refusal; place = place_of refusal; slack = pos 0 })
 
 -- An answer from the verdict on an input: the refusal, else the total.
 unfoldable pub totalled : Verdict → ℤ → Answer

@@ -33,8 +33,8 @@ pub record Listed (n : ℕ) (costs : List ℤ) (m : ℕ) (cols : List ℕ) : Typ
 pub record Long (n a b c d : ℕ) : Type 0 where
   pub first-long : n ≤ a
   pub second-long : n ≤ b
-  pub third-long : n ≤ c
-  pub fourth-long : n ≤ d
+  pub third_long : n ≤ c
+  pub fourth_long : n ≤ d
 
 -- A square of costs within the limit, and four lists that are long enough.
 pub record Shaped (n : ℕ) (costs : List ℤ) (a b c d : ℕ) : Type 0 where

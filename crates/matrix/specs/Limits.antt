@@ -6,8 +6,8 @@ unfoldable pub side : ℕ
 side = 4096
 
 -- "on a sheet, 0 to 64."
-unfoldable pub sheetSide : ℕ
-sheetSide = 64
+unfoldable pub sheet_side : ℕ
+sheet_side = 64
 
 -- "K = 1,000,000,000. Costs are 32-bit signed, in -K..K".
 unfoldable pub K : ℕ

@@ -121,13 +121,13 @@ abbrev pub place_of : Refusal → ℕ
 place_of refusal = refusal.place
 
 -- "Refusals 9 and 10 carry that signed number, all other refusals carry 0": the slack of the place named.
-abbrev pub slackOf : Refusal → ℤ
-slackOf refusal = refusal.slack
+abbrev pub slack_of : Refusal → ℤ
+slack_of refusal = refusal.slack
 
 -- "It gets 0, or number + 256*place": a refusal as one number.
 abbrev pub code_of : Refusal → ℕ
 code_of refusal = number_of refusal + 256 * place_of refusal
 
 -- The same whatever the place: one from 2^56 up, which would not fit, is told as 2^56 - 1.
-abbrev pub cappedCodeOf : Refusal → ℕ
-cappedCodeOf refusal = number_of refusal + 256 * cond (ltb (place_of refusal) (2 ^ 56)) (place_of refusal) (2 ^ 56 - 1)
+abbrev pub capped_code_of : Refusal → ℕ
+capped_code_of refusal = number_of refusal + 256 * cond (ltb (place_of refusal) (2 ^ 56)) (place_of refusal) (2 ^ 56 - 1)

@@ -2,9 +2,9 @@
 use Rattle.std.specs.Prelude.{Bool, not, ◌||◌, List, ℕ, ◌+◌, ◌*◌, leb, ltb, eqb, ℤ, pos, neg_ℤ, length}
 use Rattle.std.specs.Int.Signed.{lt_z}
 use Rattle.lists.specs.Permutations.{at}
-use Rattle.assignment.specs.Pairings.{signedAt}
+use Rattle.assignment.specs.Pairings.{signed_at}
 use Rattle.matrix.specs.Limits.{side, K}
-use Rattle.matrix.specs.Verdicts.{◌then◌, failsIf, failsAt}
+use Rattle.matrix.specs.Verdicts.{◌then◌, fails_if, fails_at}
 use Rattle.matrix.specs.Refusals.{SideOver, CostsLength, ListLength, RoomShort, CostOutside, ColumnOutside, PriceOutside}
 use Rattle.matrix.specs.declared.Verdict.{Verdict}
 
@@ -17,51 +17,51 @@ abbrev pub outside : ℤ → ℤ → Bool
 outside limit z = lt_z z (neg_ℤ limit) || lt_z limit z
 
 -- 1, "side over its limit".
-abbrev pub sideWithin : ℕ → ℕ → Verdict
-sideWithin limit n = failsIf SideOver 0 (ltb limit n)
+abbrev pub side_within : ℕ → ℕ → Verdict
+side_within limit n = fails_if SideOver 0 (ltb limit n)
 
 -- 2, "cost slice is not exactly n*n long": of m rows and n columns.
-abbrev pub costsFill : ℕ → ℕ → List ℤ → Verdict
-costsFill m n costs = failsIf CostsLength 0 (not (eqb (length costs) (m * n)))
+abbrev pub costs_fill : ℕ → ℕ → List ℤ → Verdict
+costs_fill m n costs = fails_if CostsLength 0 (not (eqb (length costs) (m * n)))
 
 -- 3, "output or list shorter than n", "first such, by its number": of four lists with these lengths.
-abbrev pub listsLong : ℕ → List ℕ → Verdict
-listsLong n lengths = failsAt ListLength (λ k. k + 1) 4 (short n lengths)
+abbrev pub lists_long : ℕ → List ℕ → Verdict
+lists_long n lengths = fails_at ListLength (λ k. k + 1) 4 (short n lengths)
 
 -- 3, of the list with this number, which needs n entries.
-abbrev pub listLong : ℕ → ℕ → ℕ → Verdict
-listLong number n length = failsIf ListLength number (ltb length n)
+abbrev pub list_long : ℕ → ℕ → ℕ → Verdict
+list_long number n length = fails_if ListLength number (ltb length n)
 
 -- 1, 2, 3 of a square night and its four lists.
 abbrev pub shaped : ℕ → List ℤ → List ℕ → Verdict
-shaped n costs lengths = sideWithin side n then costsFill n n costs then listsLong n lengths
+shaped n costs lengths = side_within side n then costs_fill n n costs then lists_long n lengths
 
 -- 3, "(`cost`: longer)".
-abbrev pub listShort : ℕ → ℕ → Verdict
-listShort n length = failsIf ListLength 1 (ltb n length)
+abbrev pub list_short : ℕ → ℕ → Verdict
+list_short n length = fails_if ListLength 1 (ltb n length)
 
 -- 4, "work room too short", "1 or 2": 4n indices and n numbers.
-abbrev pub roomsLong : ℕ → ℕ → ℕ → Verdict
-roomsLong n indices numbers = failsIf RoomShort 1 (ltb indices (4 * n)) then failsIf RoomShort 2 (ltb numbers n)
+abbrev pub rooms_long : ℕ → ℕ → ℕ → Verdict
+rooms_long n indices numbers = fails_if RoomShort 1 (ltb indices (4 * n)) then fails_if RoomShort 2 (ltb numbers n)
 
 -- 5, "a cost outside" -limit..limit, "first, in row order".
-abbrev pub costsIn : ℤ → List ℤ → Verdict
-costsIn limit costs = failsAt CostOutside (λ k. k) (length costs) (λ k. outside limit (signedAt costs k))
+abbrev pub costs_in : ℤ → List ℤ → Verdict
+costs_in limit costs = fails_at CostOutside (λ k. k) (length costs) (λ k. outside limit (signed_at costs k))
 
 -- 5, "a cost outside -K..K".
-abbrev pub costsWithin : List ℤ → Verdict
-costsWithin costs = costsIn (pos K) costs
+abbrev pub costs_within : List ℤ → Verdict
+costs_within costs = costs_in (pos K) costs
 
 -- 6, "a listed column is not below n", "first row", of the rows listed.
-abbrev pub columnsInside : ℕ → ℕ → List ℕ → Verdict
-columnsInside count n cols = failsAt ColumnOutside (λ i. i) count (λ i. leb n (at cols i))
+abbrev pub columns_inside : ℕ → ℕ → List ℕ → Verdict
+columns_inside count n cols = fails_at ColumnOutside (λ i. i) count (λ i. leb n (at cols i))
 
 -- A price outside -limit..limit, "first: row i, then n+j": m row prices, then n column prices.
-abbrev pub pricesIn : ℕ → ℤ → ℕ → ℕ → List ℤ → List ℤ → Verdict
-pricesIn number limit m n us vs =
-    failsAt number (λ i. i) m (λ i. outside limit (signedAt us i))
-    then failsAt number (λ j. m + j) n (λ j. outside limit (signedAt vs j))
+abbrev pub prices_in : ℕ → ℤ → ℕ → ℕ → List ℤ → List ℤ → Verdict
+prices_in number limit m n us vs =
+    fails_at number (λ i. i) m (λ i. outside limit (signed_at us i))
+    then fails_at number (λ j. m + j) n (λ j. outside limit (signed_at vs j))
 
 -- 8, "a price outside -10K..10K".
-abbrev pub pricesWithin : ℕ → ℕ → List ℤ → List ℤ → Verdict
-pricesWithin m n us vs = pricesIn PriceOutside (pos (10 * K)) m n us vs
+abbrev pub prices_within : ℕ → ℕ → List ℤ → List ℤ → Verdict
+prices_within m n us vs = prices_in PriceOutside (pos (10 * K)) m n us vs

@@ -21,17 +21,17 @@ bare Passed = Passed
 bare (Fails refusal) = Fails (record { number = number_of refusal; place = place_of refusal; slack = pos 0 })
 
 -- Refused where the test holds, with a slack.
-unfoldable pub failsBy : ℕ → ℕ → ℤ → Bool → Verdict
-failsBy number place slack test = cond test (Fails (record { number = number; place = place; slack = slack })) Passed
+unfoldable pub fails_by : ℕ → ℕ → ℤ → Bool → Verdict
+fails_by number place slack test = cond test (Fails (record { number = number; place = place; slack = slack })) Passed
 
 -- "all other refusals carry 0".
-abbrev pub failsIf : ℕ → ℕ → Bool → Verdict
-failsIf number place test = failsBy number place (pos 0) test
+abbrev pub fails_if : ℕ → ℕ → Bool → Verdict
+fails_if number place test = fails_by number place (pos 0) test
 
 -- Refused at the first of n places at which the test holds, with the slack of that place.
-unfoldable pub failsAtBy : ℕ → (ℕ → ℕ) → (ℕ → ℤ) → ℕ → (ℕ → Bool) → Verdict
-failsAtBy number place slack n test = failsBy number (place (first n test)) (slack (first n test)) (ltb (first n test) n)
+unfoldable pub fails_at_by : ℕ → (ℕ → ℕ) → (ℕ → ℤ) → ℕ → (ℕ → Bool) → Verdict
+fails_at_by number place slack n test = fails_by number (place (first n test)) (slack (first n test)) (ltb (first n test) n)
 
 -- The same, with slack 0.
-abbrev pub failsAt : ℕ → (ℕ → ℕ) → ℕ → (ℕ → Bool) → Verdict
-failsAt number place n test = failsAtBy number place (λ k. pos 0) n test
+abbrev pub fails_at : ℕ → (ℕ → ℕ) → ℕ → (ℕ → Bool) → Verdict
+fails_at number place n test = fails_at_by number place (λ k. pos 0) n test

@@ -5,7 +5,7 @@ ghost use Rattle.ints.specs.Parts.{Within};
 ghost use Rattle.matrix.specs.Answers.{values_of};
 ghost use Rattle.matrix.specs.Asked.{ColumnsListed, Listed};
 ghost use Rattle.matrix.specs.Limits.{side};
-ghost use Rattle.matrix.specs.Cost.{totalOf, costTests, cost};
+ghost use Rattle.matrix.specs.Cost.{total_of, cost_tests, cost};
 
 pub mod limits;
 pub mod refusals;
@@ -45,7 +45,7 @@ fn plus(total: i64, cost: i32) -> i64
 // What m rows of costs in n columns cost at their listed columns.
 pub fn total_of(m: usize, n: usize, costs: &[i32], cols: &[u32]) -> i64
     requires { (m ≤ side) × (n ≤ side) × (m * n ≤ length costs.now) × ColumnsListed m n cols.now }
-    ensures { result ≡ totalOf n costs.now m cols.now }
+    ensures { result ≡ total_of n costs.now m cols.now }
 {
     let mut total: i64 = 0;
     let mut start = 0;
@@ -62,14 +62,14 @@ pub fn total_of(m: usize, n: usize, costs: &[i32], cols: &[u32]) -> i64
 // What the first `count` rows of a square cost at their listed columns.
 pub fn total(n: usize, costs: &[i32], count: usize, cols: &[u32]) -> i64
     requires { Listed n costs.now count cols.now }
-    ensures { result ≡ totalOf n costs.now count cols.now }
+    ensures { result ≡ total_of n costs.now count cols.now }
 {
     total_of(count, n, costs, cols)
 }
 
 // Tests 1, 2, 3, 5, 6 of `cost`.
 fn cost_tested(n: usize, costs: &[i32], listed: &[u32]) -> Verdict
-    ensures { result ≡ costTests n costs.now listed.now }
+    ensures { result ≡ cost_tests n costs.now listed.now }
 {
     let sized = tests::side_within(limits::side(), n);
     let filled = tests::costs_fill(sized, n, n, costs);

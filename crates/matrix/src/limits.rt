@@ -1,6 +1,6 @@
 // The limits, each beside its definition in specs/Limits.antt.
 ghost use Rattle.std.specs.Prelude.{◌≡◌, ◌*◌, pos};
-ghost use Rattle.matrix.specs.Limits.{side, sheetSide, K};
+ghost use Rattle.matrix.specs.Limits.{side, sheet_side, K};
 
 // The number once more, beside specs/Limits.antt: code cannot read a definition. The promise holds the two together.
 pub fn side() -> usize
@@ -11,7 +11,7 @@ pub fn side() -> usize
 
 // As `side`.
 pub fn sheet_side() -> usize
-    ensures { result ≡ sheetSide }
+    ensures { result ≡ sheet_side }
 {
     64
 }

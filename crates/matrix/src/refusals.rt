@@ -1,6 +1,6 @@
 // The refusals' numbers, and a refusal as one number.
 ghost use Rattle.std.specs.Prelude.{◌≡◌, ◌<◌};
-ghost use Rattle.matrix.specs.Refusals.{number_of, place_of, slackOf, code_of, cappedCodeOf};
+ghost use Rattle.matrix.specs.Refusals.{number_of, place_of, slack_of, code_of, capped_code_of};
 ghost use Rattle.matrix.specs.Asked.{Tellable};
 
 use crate::Refusal;
@@ -76,7 +76,7 @@ pub fn place(refusal: Refusal) -> usize
 
 // The slack that a refusal carries.
 pub fn slack(refusal: Refusal) -> i64
-    ensures { result ≡ slackOf refusal }
+    ensures { result ≡ slack_of refusal }
 {
     refusal.slack
 }
@@ -92,7 +92,7 @@ pub fn code(refusal: Refusal) -> u64
 // A refusal as one number, whatever its place.
 pub fn capped_code(refusal: Refusal) -> u64
     requires { number_of refusal < 256 }
-    ensures { result ≡ cappedCodeOf refusal }
+    ensures { result ≡ capped_code_of refusal }
 {
     let place = refusal.place as u64;
     if place < 0x100_0000_0000_0000 {

@@ -4,10 +4,10 @@ ghost use Rattle.ints.specs.Parts.{Within};
 ghost use Rattle.lists.specs.Runs.{first};
 ghost use Rattle.lists.specs.Permutations.{at};
 ghost use Rattle.lists.specs.Counts.{some};
-ghost use Rattle.assignment.specs.Pairings.{signedAt};
+ghost use Rattle.assignment.specs.Pairings.{signed_at};
 ghost use Rattle.matrix.specs.Limits.{side, K};
-ghost use Rattle.matrix.specs.Verdicts.{Passes, ◌then◌, failsBy, failsIf};
-ghost use Rattle.matrix.specs.Tests.{short, outside, sideWithin, costsFill, listsLong, listLong, shaped, listShort, roomsLong, costsIn, costsWithin, columnsInside, pricesIn, pricesWithin};
+ghost use Rattle.matrix.specs.Verdicts.{Passes, ◌then◌, fails_by, fails_if};
+ghost use Rattle.matrix.specs.Tests.{short, outside, side_within, costs_fill, lists_long, list_long, shaped, list_short, rooms_long, costs_in, costs_within, columns_inside, prices_in, prices_within};
 
 use crate::limits::{bound, price_bound, side};
 use crate::{Refusal, Verdict, refusals};
@@ -22,7 +22,7 @@ fn outside(x: i64, limit: i64) -> bool
 
 // Refused where the test holds, with a slack.
 pub fn fails_by(test: bool, number: u64, place: usize, slack: i64) -> Verdict
-    ensures { result ≡ failsBy number place slack test }
+    ensures { result ≡ fails_by number place slack test }
 {
     if test {
         return Verdict::Fails(Refusal {
@@ -36,14 +36,14 @@ pub fn fails_by(test: bool, number: u64, place: usize, slack: i64) -> Verdict
 
 // Refused where the test holds, with slack 0.
 pub fn fails_if(test: bool, number: u64, place: usize) -> Verdict
-    ensures { result ≡ failsIf number place test }
+    ensures { result ≡ fails_if number place test }
 {
     fails_by(test, number, place, 0)
 }
 
 // Test 1.
 pub fn side_within(limit: usize, n: usize) -> Verdict
-    ensures { result ≡ sideWithin limit n }
+    ensures { result ≡ side_within limit n }
 {
     fails_if(limit < n, refusals::SIDE_OVER, 0)
 }
@@ -51,7 +51,7 @@ pub fn side_within(limit: usize, n: usize) -> Verdict
 // Test 2.
 pub fn costs_fill(before: Verdict, m: usize, n: usize, costs: &[i32]) -> Verdict
     requires { Passes before → (m ≤ side) × (n ≤ side) }
-    ensures { result ≡ (before then costsFill m n costs.now) }
+    ensures { result ≡ (before then costs_fill m n costs.now) }
 {
     match before {
         Verdict::Fails(refusal) => {
@@ -64,7 +64,7 @@ pub fn costs_fill(before: Verdict, m: usize, n: usize, costs: &[i32]) -> Verdict
 
 // Test 3 of `cost`.
 pub fn list_short(before: Verdict, n: usize, length: usize) -> Verdict
-    ensures { result ≡ (before then listShort n length) }
+    ensures { result ≡ (before then list_short n length) }
 {
     match before {
         Verdict::Fails(refusal) => {
@@ -103,7 +103,7 @@ pub fn lists_long(
     us: usize,
     vs: usize,
 ) -> Verdict
-    ensures { result ≡ (before then listsLong n (cols ∷ rows ∷ us ∷ vs ∷ [])) }
+    ensures { result ≡ (before then lists_long n (cols ∷ rows ∷ us ∷ vs ∷ [])) }
 {
     match before {
         Verdict::Fails(refusal) => {
@@ -117,7 +117,7 @@ pub fn lists_long(
 
 // Test 3, of the list with this number.
 pub fn list_long(before: Verdict, number: usize, n: usize, length: usize) -> Verdict
-    ensures { result ≡ (before then listLong number n length) }
+    ensures { result ≡ (before then list_long number n length) }
 {
     match before {
         Verdict::Fails(refusal) => {
@@ -140,7 +140,7 @@ pub fn shaped(n: usize, costs: &[i32], cols: usize, rows: usize, us: usize, vs: 
 // Test 4, given the lengths of the two rooms.
 pub fn rooms_long(before: Verdict, n: usize, indices: usize, numbers: usize) -> Verdict
     requires { Passes before → n ≤ side }
-    ensures { result ≡ (before then roomsLong n indices numbers) }
+    ensures { result ≡ (before then rooms_long n indices numbers) }
 {
     match before {
         Verdict::Fails(refusal) => {
@@ -157,7 +157,7 @@ pub fn rooms_long(before: Verdict, n: usize, indices: usize, numbers: usize) -> 
 // Whether some cost is outside -limit..limit. The pass ends at no cost and compares at the costs' own width, so that several are compared at once.
 fn some_cost_outside(limit: i32, costs: &[i32]) -> bool
     requires { Within K limit }
-    ensures { result ≡ some (length costs.now) (λ k. outside limit (signedAt costs.now k)) }
+    ensures { result ≡ some (length costs.now) (λ k. outside limit (signed_at costs.now k)) }
 {
     let low = -limit;
     let mut found = false;
@@ -174,7 +174,7 @@ fn some_cost_outside(limit: i32, costs: &[i32]) -> bool
 // limit is outside -K..K.
 fn first_cost_outside(limit: i64, costs: &[i32]) -> usize
     requires { Within (2 ^ 62) limit }
-    ensures { result ≡ first (length costs.now) (λ k. outside limit (signedAt costs.now k)) }
+    ensures { result ≡ first (length costs.now) (λ k. outside limit (signed_at costs.now k)) }
 {
     if !outside(limit, bound()) {
         if !some_cost_outside(limit as i32, costs) {
@@ -194,7 +194,7 @@ fn first_cost_outside(limit: i64, costs: &[i32]) -> usize
 // Test 5, of costs in -limit..limit.
 pub fn costs_in(before: Verdict, limit: i64, costs: &[i32]) -> Verdict
     requires { Within (2 ^ 62) limit }
-    ensures { result ≡ (before then costsIn limit costs.now) }
+    ensures { result ≡ (before then costs_in limit costs.now) }
 {
     match before {
         Verdict::Fails(refusal) => {
@@ -208,7 +208,7 @@ pub fn costs_in(before: Verdict, limit: i64, costs: &[i32]) -> Verdict
 
 // Test 5.
 pub fn costs_within(before: Verdict, costs: &[i32]) -> Verdict
-    ensures { result ≡ (before then costsWithin costs.now) }
+    ensures { result ≡ (before then costs_within costs.now) }
 {
     costs_in(before, bound(), costs)
 }
@@ -231,7 +231,7 @@ fn first_column_outside(n: usize, cols: &[u32], count: usize) -> usize
 // Test 6.
 pub fn columns_inside(before: Verdict, count: usize, n: usize, cols: &[u32]) -> Verdict
     requires { Passes before → count ≤ length cols.now }
-    ensures { result ≡ (before then columnsInside count n cols.now) }
+    ensures { result ≡ (before then columns_inside count n cols.now) }
 {
     match before {
         Verdict::Fails(refusal) => {
@@ -246,7 +246,7 @@ pub fn columns_inside(before: Verdict, count: usize, n: usize, cols: &[u32]) -> 
 // The first of n prices outside -limit..limit, or n where there is none.
 fn first_price_outside(limit: i64, n: usize, prices: &[i64]) -> usize
     requires { Within (2 ^ 62) limit × (n ≤ length prices.now) }
-    ensures { result ≡ first n (λ i. outside limit (signedAt prices.now i)) }
+    ensures { result ≡ first n (λ i. outside limit (signed_at prices.now i)) }
 {
     let mut i = 0;
     while i < n {
@@ -269,7 +269,7 @@ pub fn prices_in(
     vs: &[i64],
 ) -> Verdict
     requires { Within (2 ^ 62) limit × (Passes before → (m ≤ side) × (n ≤ side) × (m ≤ length us.now) × (n ≤ length vs.now)) }
-    ensures { result ≡ (before then pricesIn number limit m n us.now vs.now) }
+    ensures { result ≡ (before then prices_in number limit m n us.now vs.now) }
 {
     match before {
         Verdict::Fails(refusal) => {
@@ -288,7 +288,7 @@ pub fn prices_in(
 // Test 8.
 pub fn prices_within(before: Verdict, m: usize, n: usize, us: &[i64], vs: &[i64]) -> Verdict
     requires { Passes before → (m ≤ side) × (n ≤ side) × (m ≤ length us.now) × (n ≤ length vs.now) }
-    ensures { result ≡ (before then pricesWithin m n us.now vs.now) }
+    ensures { result ≡ (before then prices_within m n us.now vs.now) }
 {
     prices_in(before, refusals::PRICE_OUTSIDE, price_bound(), m, n, us, vs)
 }

@@ -6,23 +6,23 @@ use native.Mathlib.Decide.{dec_lt}
 use native.Mathlib.Omega.{arith}
 use lib.ListN.{length}
 use Rattle.matrix.specs.Refusals.{SheetOver, SheetEnded}
-use Rattle.sheet.specs.Reading.{sheetMost}
+use Rattle.sheet.specs.Reading.{sheet_most}
 use Rattle.pieces.specs.declared.Held.{Held}
 use Rattle.pieces.specs.declared.Held.TheVariants.{Taking, Over, Ended}
 use Rattle.pieces.specs.Kept.{Kept, held}
 use Rattle.pieces.specs.Calls.{Taken, taken, piece, Ending, ending, delivered, end}
-use Rattle.pieces.proofs.Calls.{piece-over, piece-ended, piece-long, piece-fits, end-over, end-ended, end-taking, marked-over, marked-ended}
+use Rattle.pieces.proofs.Calls.{piece-over, piece-ended, piece-long, piece-fits, end-over, end-ended, end_taking, marked-over, marked-ended}
 
 -- Every call but a reset answers this number and changes nothing.
 pub record Answers (number : ℕ) (k : Kept) : Type 0 where
   pub pieces : (sent : List ℕ) → piece sent k ≡ taken number k
   pub ends : (slip : List ℕ) → end slip k ≡ ending (delivered number slip) k
 
-over-answers : (k : Kept) → held k ≡ Over → Answers SheetOver k
-over-answers k e = record { pieces = λ sent. piece-over sent k e; ends = λ slip. end-over slip k e }
+over_answers : (k : Kept) → held k ≡ Over → Answers SheetOver k
+over_answers k e = record { pieces = λ sent. piece-over sent k e; ends = λ slip. end-over slip k e }
 
-ended-answers : (k : Kept) → held k ≡ Ended → Answers SheetEnded k
-ended-answers k e = record { pieces = λ sent. piece-ended sent k e; ends = λ slip. end-ended slip k e }
+ended_answers : (k : Kept) → held k ≡ Ended → Answers SheetEnded k
+ended_answers k e = record { pieces = λ sent. piece-ended sent k e; ends = λ slip. end-ended slip k e }
 
 module _ (k : Kept) (two : length k.state ≡ 2) where
   module _ (sent : List ℕ) where
@@ -31,19 +31,19 @@ module _ (k : Kept) (two : length k.state ≡ 2) where
     over_by Ended e q =
         let same : SheetEnded ≡ SheetOver = sym (ap (λ (t : Taken). t.number) (piece-ended sent k e)) ∙ q in
         absurd (omega arith)
-    over_by (Taking n) e q = by (dec_lt sheetMost (n + length sent))
+    over_by (Taking n) e q = by (dec_lt sheet_most (n + length sent))
       where
-        by : Dec (sheetMost < n + length sent) → held (piece sent k).kept ≡ Over
+        by : Dec (sheet_most < n + length sent) → held (piece sent k).kept ≡ Over
         by (yes l) = ap (λ (t : Taken). held t.kept) (piece-long sent k n e l) ∙ marked-over k two n e
         by (no l) =
             let same : 0 ≡ SheetOver = sym (ap (λ (t : Taken). t.number) (piece-fits sent k n e (omega arith))) ∙ q in
             absurd (omega arith)
 
     -- A piece that gives 17: so does every later call.
-    pub over-until-reset : (piece sent k).number ≡ SheetOver → Answers SheetOver (piece sent k).kept
-    over-until-reset q = over-answers (piece sent k).kept (over_by (held k) refl q)
+    pub over_until_reset : (piece sent k).number ≡ SheetOver → Answers SheetOver (piece sent k).kept
+    over_until_reset q = over_answers (piece sent k).kept (over_by (held k) refl q)
 
   -- The end while pieces are taken, refused or not: every later call gives 28.
-  pub ended-until-reset : (slip : List ℕ) (n : ℕ) → held k ≡ Taking n → Answers SheetEnded (end slip k).kept
-  ended-until-reset slip n e =
-      ended-answers (end slip k).kept (ap (λ (c : Ending). held c.kept) (end-taking slip k n e) ∙ marked-ended k two n e)
+  pub ended_until_reset : (slip : List ℕ) (n : ℕ) → held k ≡ Taking n → Answers SheetEnded (end slip k).kept
+  ended_until_reset slip n e =
+      ended_answers (end slip k).kept (ap (λ (c : Ending). held c.kept) (end_taking slip k n e) ∙ marked-ended k two n e)

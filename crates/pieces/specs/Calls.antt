@@ -2,9 +2,9 @@
 use Rattle.std.specs.Prelude.{cond, List, [], ◌∷◌, ℕ, ◌+◌, ltb, length, set, take}
 use Rattle.lists.specs.Parts.{replaced}
 use Rattle.matrix.specs.Refusals.{SheetOver, SheetEnded}
-use Rattle.sheet.specs.Reading.{sheetMost}
+use Rattle.sheet.specs.Reading.{sheet_most}
 use Rattle.sheet.specs.Settle.{Delivery, pair}
-use Rattle.pieces.specs.Kept.{Kept, kept, overMark, endMark, held}
+use Rattle.pieces.specs.Kept.{Kept, kept, over_mark, end_mark, held}
 use Rattle.pieces.specs.declared.Held.{Held}
 use Rattle.pieces.specs.declared.Held.TheVariants.{Taking, Over, Ended}
 
@@ -26,13 +26,13 @@ taken number k = record { number = number; kept = k }
 
 -- A piece: "A piece before the end that would pass 65,536 gives 17, as does every later call"; after the end "any call gives 28, place 0, changing
 -- nothing".
-abbrev pub pieceBy : List ℕ → Kept → Held → Taken
-pieceBy piece k (Taking n) = cond (ltb sheetMost (n + length piece)) (taken SheetOver (marked overMark k)) (taken 0 (longer n piece k))
-pieceBy piece k Over = taken SheetOver k
-pieceBy piece k Ended = taken SheetEnded k
+abbrev pub piece_by : List ℕ → Kept → Held → Taken
+piece_by piece k (Taking n) = cond (ltb sheet_most (n + length piece)) (taken SheetOver (marked over_mark k)) (taken 0 (longer n piece k))
+piece_by piece k Over = taken SheetOver k
+piece_by piece k Ended = taken SheetEnded k
 
 unfoldable pub piece : List ℕ → Kept → Taken
-piece bytes k = pieceBy bytes k (held k)
+piece bytes k = piece_by bytes k (held k)
 
 -- What the end answers and leaves in the slip's room, and what is kept then.
 pub record Ending : Type 0 where
@@ -47,13 +47,13 @@ abbrev pub delivered : ℕ → List ℕ → Delivery
 delivered number slip = record { number = number; slip = slip }
 
 -- The end: "give at the end what the whole would have given"; it marks the state, "refused or not".
-abbrev pub endBy : List ℕ → Kept → Held → Ending
-endBy slip k (Taking n) = ending (pair (take n k.bytes) slip) (marked endMark k)
-endBy slip k Over = ending (delivered SheetOver slip) k
-endBy slip k Ended = ending (delivered SheetEnded slip) k
+abbrev pub end_by : List ℕ → Kept → Held → Ending
+end_by slip k (Taking n) = ending (pair (take n k.bytes) slip) (marked end_mark k)
+end_by slip k Over = ending (delivered SheetOver slip) k
+end_by slip k Ended = ending (delivered SheetEnded slip) k
 
 unfoldable pub end : List ℕ → Kept → Ending
-end slip k = endBy slip k (held k)
+end slip k = end_by slip k (held k)
 
 -- "a reset returns to the fresh state": no byte of the room is touched.
 abbrev pub reset : Kept → Taken
@@ -68,4 +68,4 @@ pieces (bytes ∷ rest) k = pieces rest (piece bytes k).kept
 
 -- "what the whole would have given", 17 for a whole over 65,536 bytes.
 abbrev pub whole : List ℕ → List ℕ → Delivery
-whole sheet slip = cond (ltb sheetMost (length sheet)) (delivered SheetOver slip) (pair sheet slip)
+whole sheet slip = cond (ltb sheet_most (length sheet)) (delivered SheetOver slip) (pair sheet slip)

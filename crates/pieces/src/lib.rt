@@ -1,8 +1,8 @@
 // A sheet that arrives in pieces: they are kept in memory that the caller lends, and the end gives what the whole would have given.
 ghost use Rattle.std.specs.Prelude.{◌≡◌, [], ◌∷◌, ◌+◌, ◌≤◌, length};
 ghost use Rattle.lists.specs.Parts.{replaced};
-ghost use Rattle.sheet.specs.Reading.{sheetMost};
-ghost use Rattle.pieces.specs.Kept.{kept, heldBy};
+ghost use Rattle.sheet.specs.Reading.{sheet_most};
+ghost use Rattle.pieces.specs.Kept.{kept, held_by};
 ghost use Rattle.pieces.specs.Calls.{taken, piece, ending, delivered, end, reset};
 
 use matrix::refusals;
@@ -22,7 +22,7 @@ pub enum Held {
 
 // How the two numbers are read. The limit stands here once more, and in the types of the room for the sheet.
 fn read_state(came: u64, mark: u64) -> Held
-    ensures { result ≡ heldBy came mark }
+    ensures { result ≡ held_by came mark }
 {
     if 65536 < came {
         return Held::Over;
@@ -50,7 +50,7 @@ fn copy_in(room: &mut [u8], at: usize, piece: &[u8])
 
 // A piece, on slices: the length of an array is not at hand where it is lent as one.
 fn take_piece(bytes: &mut [u8], state: &mut [u64], sent: &[u8]) -> u64
-    requires { (length bytes.old ≡ sheetMost) × (length state.old ≡ 2) }
+    requires { (length bytes.old ≡ sheet_most) × (length state.old ≡ 2) }
     ensures { taken result (kept bytes.new state.new) ≡ piece sent.now (kept bytes.old state.old) }
 {
     match read_state(state[0], state[1]) {
@@ -77,7 +77,7 @@ pub fn piece(bytes: &mut [u8; 65536], state: &mut [u64; 2], sent: &[u8]) -> u64
 
 // The end, on slices.
 fn end_sheet(bytes: &[u8], state: &mut [u64], slip: &mut [u8]) -> u64
-    requires { (length bytes.now ≡ sheetMost) × (length state.old ≡ 2) }
+    requires { (length bytes.now ≡ sheet_most) × (length state.old ≡ 2) }
     ensures { ending (delivered result slip.new) (kept bytes.now state.new) ≡ end slip.old (kept bytes.now state.old) }
 {
     match read_state(state[0], state[1]) {

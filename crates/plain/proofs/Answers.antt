@@ -9,17 +9,17 @@ use lib.IntN.{ℤ}
 use lib.Signed.{◌≤ℤ◌}
 use borrow.Author.Tests.{not-true}
 use Rattle.ints.proofs.Ranges.{zarith}
-use Rattle.ints.proofs.Tests.{lt-ltZ, le-ltZ, not-true-false}
+use Rattle.ints.proofs.Tests.{lt_lt_z, le_lt_z, not_true_false}
 use Rattle.lists.specs.Counts.{some}
 use Rattle.lists.specs.Runs.{upward, first}
 use Rattle.lists.proofs.Cases.{below_suc}
-use Rattle.lists.proofs.Runs.{upward-keeps, first_holds, first-before, first-at}
+use Rattle.lists.proofs.Runs.{upward_keeps, first_holds, first-before, first-at}
 use Rattle.assignment.specs.Pairings.{Night, Pairing, total, Least}
-use Rattle.plain.specs.Engine.{listCount, list_of, isPairing, costOf, less, isLeast, chosen, written}
+use Rattle.plain.specs.Engine.{list_count, list_of, is_pairing, cost_of, less, is_least, chosen, written}
 use Rattle.plain.specs.declared.Found.{Found}
 use Rattle.plain.specs.declared.Found.TheVariants.{Nothing, Costs}
 use Rattle.plain.proofs.Numbers.{number, length_digits, digits-below, digits_number, number-below, number_digits, Before, before-lower}
-use Rattle.plain.proofs.Pairings.{clear_none, none-clear, passes-pairing, pairing-passes}
+use Rattle.plain.proofs.Pairings.{clear_none, none_clear, passes_pairing, pairing_passes}
 
 -- ---- what costs less
 
@@ -29,45 +29,45 @@ unfolding less
 less-over Nothing b f e g = absurd (true≢false (sym e))
 less-over (Costs t) Nothing f e g = refl
 less-over (Costs t) (Costs s) Nothing e g = absurd (true≢false g)
-less-over (Costs t) (Costs s) (Costs l) e g = lt-ltZ t s (omega zarith)
+less-over (Costs t) (Costs s) (Costs l) e g = lt_lt_z t s (omega zarith)
 
-less-not : (a b : Found) → less a b ≡ true → less b a ≡ false
+less_not : (a b : Found) → less a b ≡ true → less b a ≡ false
 unfolding less
-less-not Nothing b e = absurd (true≢false (sym e))
-less-not (Costs t) Nothing e = refl
-less-not (Costs t) (Costs s) e = le-ltZ s t (omega zarith)
+less_not Nothing b e = absurd (true≢false (sym e))
+less_not (Costs t) Nothing e = refl
+less_not (Costs t) (Costs s) e = le_lt_z s t (omega zarith)
 
-less-self : (a : Found) → less a a ≡ false
+less_self : (a : Found) → less a a ≡ false
 unfolding less
-less-self Nothing = refl
-less-self (Costs t) = le-ltZ t t (omega zarith)
+less_self Nothing = refl
+less_self (Costs t) = le_lt_z t t (omega zarith)
 
-nothing-never : (a : Found) → less Nothing a ≡ false
+nothing_never : (a : Found) → less Nothing a ≡ false
 unfolding less
-nothing-never a = refl
+nothing_never a = refl
 
-totals-not-less : (s t : ℤ) → t ≤ℤ s → less (Costs s) (Costs t) ≡ false
+totals_not_less : (s t : ℤ) → t ≤ℤ s → less (Costs s) (Costs t) ≡ false
 unfolding less
-totals-not-less s t h = le-ltZ s t h
+totals_not_less s t h = le_lt_z s t h
 
-nothing-less : (a : Found) → less Nothing a ≡ true → ⊥
+nothing_less : (a : Found) → less Nothing a ≡ true → ⊥
 unfolding less
-nothing-less a e = true≢false (sym e)
+nothing_less a e = true≢false (sym e)
 
-less-nothing : (a : Found) → less a Nothing ≡ false → a ≡ Nothing
+less_nothing : (a : Found) → less a Nothing ≡ false → a ≡ Nothing
 unfolding less
-less-nothing Nothing e = refl
-less-nothing (Costs t) e = absurd (true≢false e)
+less_nothing Nothing e = refl
+less_nothing (Costs t) e = absurd (true≢false e)
 
-not-less-totals : (s t : ℤ) → less (Costs s) (Costs t) ≡ false → t ≤ℤ s
+not_less_totals : (s t : ℤ) → less (Costs s) (Costs t) ≡ false → t ≤ℤ s
 unfolding less
-not-less-totals s t e = omega zarith
+not_less_totals s t e = omega zarith
 
 pub same-costs : (s t : ℤ) → Costs s ≡ Costs t → s ≡ t
 same-costs s t e = cc e
 
-pub costs-nothing : (t : ℤ) → Costs t ≡ Nothing → ⊥
-costs-nothing t e = let z : ◌≡◌ {A = ℕ} 0 1 = cc e in omega arith
+pub costs_nothing : (t : ℤ) → Costs t ≡ Nothing → ⊥
+costs_nothing t e = let z : ◌≡◌ {A = ℕ} 0 1 = cc e in omega arith
 
 -- There is a list of columns where rows are not more than columns.
 positive : (n m : ℕ) → m ≤ n → 0 < n ^ m
@@ -76,17 +76,17 @@ positive zero (suc m) h = absurd (omega arith)
 positive (suc n) m h = one-le-pow m (suc n) (omega arith)
 
 module _ (night : Night) (cols : List ℕ) where
-  pub cost-passed : isPairing night cols ≡ true → costOf night cols ≡ Costs (total night cols)
-  unfolding costOf
+  pub cost-passed : is_pairing night cols ≡ true → cost_of night cols ≡ Costs (total night cols)
+  unfolding cost_of
   cost-passed p = rw p refl
 
-  pub cost-failed : isPairing night cols ≡ false → costOf night cols ≡ Nothing
-  unfolding costOf
-  cost-failed p = rw p refl
+  pub cost_failed : is_pairing night cols ≡ false → cost_of night cols ≡ Nothing
+  unfolding cost_of
+  cost_failed p = rw p refl
 
 module _ (night : Night) where
-  abbrev pub costAt : ℕ → Found
-  costAt k = costOf night (list_of night k)
+  abbrev pub cost_at : ℕ → Found
+  cost_at k = cost_of night (list_of night k)
 
   -- ---- what is held after the lists below k
 
@@ -94,195 +94,195 @@ module _ (night : Night) where
   pub record Best (k : ℕ) (found : Found) (cols : List ℕ) : Type 0 where
     pub place : ℕ
     pub reach : place < k
-    pub costs : found ≡ costAt place
+    pub costs : found ≡ cost_at place
     pub columns : cols ≡ list_of night place
-    pub least : (j : ℕ) → j < k → less (costAt j) found ≡ false
-    pub first : (j : ℕ) → j < place → less found (costAt j) ≡ true
+    pub least : (j : ℕ) → j < k → less (cost_at j) found ≡ false
+    pub first : (j : ℕ) → j < place → less found (cost_at j) ≡ true
 
   abbrev pub Kept : ℕ → List ℕ → Found → List ℕ → Type 0
-  Kept k lent Nothing cols = ((j : ℕ) → j < k → less (costAt j) Nothing ≡ false) × (cols ≡ lent)
+  Kept k lent Nothing cols = ((j : ℕ) → j < k → less (cost_at j) Nothing ≡ false) × (cols ≡ lent)
   Kept k lent (Costs t) cols = Best k (Costs t) cols
 
-  pub kept-none : (lent : List ℕ) → Kept 0 lent Nothing lent
-  kept-none lent = (λ j l. absurd (omega arith), refl)
+  pub kept_none : (lent : List ℕ) → Kept 0 lent Nothing lent
+  kept_none lent = (λ j l. absurd (omega arith), refl)
 
-  no_less : (k : ℕ) (lent : List ℕ) (found : Found) (cols : List ℕ) → Kept k lent found cols → (j : ℕ) → j < k → less (costAt j) found ≡ false
+  no_less : (k : ℕ) (lent : List ℕ) (found : Found) (cols : List ℕ) → Kept k lent found cols → (j : ℕ) → j < k → less (cost_at j) found ≡ false
   no_less k lent Nothing cols h = h.0
   no_less k lent (Costs t) cols h = h.least
 
   -- A list that costs less is the best so far,
-  better : (k : ℕ) (lent : List ℕ) (found : Found) (cols : List ℕ) → Kept k lent found cols → (cost : Found) → cost ≡ costAt k → less cost found ≡ true
+  better : (k : ℕ) (lent : List ℕ) (found : Found) (cols : List ℕ) → Kept k lent found cols → (cost : Found) → cost ≡ cost_at k → less cost found ≡ true
       → Kept (suc k) lent cost (list_of night k)
-  better k lent found cols h Nothing e l = absurd (nothing-less found l)
+  better k lent found cols h Nothing e l = absurd (nothing_less found l)
   better k lent found cols h (Costs t) e l = record {
     place = k;
     reach = omega arith;
     costs = e;
     columns = refl;
-    least = below_suc (λ j. less (costAt j) (Costs t) ≡ false) (λ j m. less-not (Costs t) (costAt j) (over j m)) (rw (sym e) (less-self (Costs t)));
+    least = below_suc (λ j. less (cost_at j) (Costs t) ≡ false) (λ j m. less_not (Costs t) (cost_at j) (over j m)) (rw (sym e) (less_self (Costs t)));
     first = over;
   }
     where
-      over : (j : ℕ) → j < k → less (Costs t) (costAt j) ≡ true
-      over j m = less-over (Costs t) (costAt j) found l (no_less k lent found cols h j m)
+      over : (j : ℕ) → j < k → less (Costs t) (cost_at j) ≡ true
+      over j m = less-over (Costs t) (cost_at j) found l (no_less k lent found cols h j m)
 
   -- and any other leaves it.
-  worse : (k : ℕ) (lent : List ℕ) (found : Found) (cols : List ℕ) → Kept k lent found cols → less (costAt k) found ≡ false → Kept (suc k) lent found cols
-  worse k lent Nothing cols h l = (below_suc (λ j. less (costAt j) Nothing ≡ false) h.0 l, h.1)
+  worse : (k : ℕ) (lent : List ℕ) (found : Found) (cols : List ℕ) → Kept k lent found cols → less (cost_at k) found ≡ false → Kept (suc k) lent found cols
+  worse k lent Nothing cols h l = (below_suc (λ j. less (cost_at j) Nothing ≡ false) h.0 l, h.1)
   worse k lent (Costs t) cols h l = record {
     place = h.place;
     reach = omega (arith, h.reach);
     costs = h.costs;
     columns = h.columns;
-    least = below_suc (λ j. less (costAt j) (Costs t) ≡ false) h.least l;
+    least = below_suc (λ j. less (cost_at j) (Costs t) ≡ false) h.least l;
     first = h.first;
   }
 
   -- One list more.
-  abbrev pub keptCost : Found → Found → Found
-  keptCost cost found = cond (less cost found) cost found
+  abbrev pub kept_cost : Found → Found → Found
+  kept_cost cost found = cond (less cost found) cost found
 
-  abbrev pub keptList : Found → Found → List ℕ → List ℕ → List ℕ
-  keptList cost found list cols = cond (less cost found) list cols
+  abbrev pub kept_list : Found → Found → List ℕ → List ℕ → List ℕ
+  kept_list cost found list cols = cond (less cost found) list cols
 
   pub kept_more : (k : ℕ) (lent : List ℕ) (found : Found) (cols : List ℕ) → Kept k lent found cols
-      → Kept (suc k) lent (keptCost (costAt k) found) (keptList (costAt k) found (list_of night k) cols)
-  kept_more k lent found cols h = by (less (costAt k) found) refl
+      → Kept (suc k) lent (kept_cost (cost_at k) found) (kept_list (cost_at k) found (list_of night k) cols)
+  kept_more k lent found cols h = by (less (cost_at k) found) refl
     where
-      by : (b : Bool) → less (costAt k) found ≡ b → Kept (suc k) lent (keptCost (costAt k) found) (keptList (costAt k) found (list_of night k) cols)
-      by true e = rw e (better k lent found cols h (costAt k) refl e)
+      by : (b : Bool) → less (cost_at k) found ≡ b → Kept (suc k) lent (kept_cost (cost_at k) found) (kept_list (cost_at k) found (list_of night k) cols)
+      by true e = rw e (better k lent found cols h (cost_at k) refl e)
       by false e = rw e (worse k lent found cols h e)
 
   -- ---- the first least list
 
-  abbrev pub firstLeast : ℕ
-  firstLeast = first (listCount night) (isLeast night)
+  abbrev pub first_least : ℕ
+  first_least = first (list_count night) (is_least night)
 
   -- Whether no list costs less than list k, as a property.
   abbrev LeastList : ℕ → Type 0
-  LeastList k = (j : ℕ) → j < listCount night → less (costAt j) (costAt k) ≡ false
+  LeastList k = (j : ℕ) → j < list_count night → less (cost_at j) (cost_at k) ≡ false
 
-  least-list : (k : ℕ) → isLeast night k ≡ true → LeastList k
-  unfolding isLeast
-  least-list k e = none-clear (listCount night) (λ j. less (costAt j) (costAt k)) (not-true _ e)
+  least-list : (k : ℕ) → is_least night k ≡ true → LeastList k
+  unfolding is_least
+  least-list k e = none_clear (list_count night) (λ j. less (cost_at j) (cost_at k)) (not-true _ e)
 
-  list-least : (k : ℕ) → LeastList k → isLeast night k ≡ true
-  unfolding isLeast
-  list-least k h = ap not (clear_none (listCount night) (λ j. less (costAt j) (costAt k)) h)
+  list-least : (k : ℕ) → LeastList k → is_least night k ≡ true
+  unfolding is_least
+  list-least k h = ap not (clear_none (list_count night) (λ j. less (cost_at j) (cost_at k)) h)
 
-  best-first : (t : ℤ) (cols : List ℕ) (b : Best (listCount night) (Costs t) cols) → firstLeast ≡ b.place
-  best-first t cols b =
-      first-at (isLeast night) (listCount night) b.place b.reach
-      (list-least b.place (λ j l. subst (λ (f : Found). less (costAt j) f ≡ false) b.costs (b.least j l)))
-      (λ j l. not-true-false (λ e. true≢false (sym (over j l) ∙ least-list j e b.place b.reach)))
+  best_first : (t : ℤ) (cols : List ℕ) (b : Best (list_count night) (Costs t) cols) → first_least ≡ b.place
+  best_first t cols b =
+      first-at (is_least night) (list_count night) b.place b.reach
+      (list-least b.place (λ j l. subst (λ (f : Found). less (cost_at j) f ≡ false) b.costs (b.least j l)))
+      (λ j l. not_true_false (λ e. true≢false (sym (over j l) ∙ least-list j e b.place b.reach)))
     where
-      over : (j : ℕ) → j < b.place → less (costAt b.place) (costAt j) ≡ true
-      over j l = subst (λ (f : Found). less f (costAt j) ≡ true) b.costs (b.first j l)
+      over : (j : ℕ) → j < b.place → less (cost_at b.place) (cost_at j) ≡ true
+      over j l = subst (λ (f : Found). less f (cost_at j) ≡ true) b.costs (b.first j l)
 
-  none_first : 0 < listCount night → ((j : ℕ) → j < listCount night → less (costAt j) Nothing ≡ false) → firstLeast ≡ 0
+  none_first : 0 < list_count night → ((j : ℕ) → j < list_count night → less (cost_at j) Nothing ≡ false) → first_least ≡ 0
   none_first some none =
-      first-at (isLeast night) (listCount night) 0 some
-      (list-least 0 (λ j l. subst (λ (f : Found). less (costAt j) f ≡ false) (sym (less-nothing (costAt 0) (none 0 some))) (none j l)))
+      first-at (is_least night) (list_count night) 0 some
+      (list-least 0 (λ j l. subst (λ (f : Found). less (cost_at j) f ≡ false) (sym (less_nothing (cost_at 0) (none 0 some))) (none j l)))
       (λ j l. absurd (omega arith))
 
   -- After all lists the engine's answer is held.
-  pub kept-found : 0 < listCount night → (lent : List ℕ) (found : Found) (cols : List ℕ) → Kept (listCount night) lent found cols
-      → (found ≡ costOf night (chosen night)) × (cols ≡ written found (chosen night) lent)
+  pub kept-found : 0 < list_count night → (lent : List ℕ) (found : Found) (cols : List ℕ) → Kept (list_count night) lent found cols
+      → (found ≡ cost_of night (chosen night)) × (cols ≡ written found (chosen night) lent)
   unfolding chosen
   kept-found some lent Nothing cols h =
       let e = none_first some h.0 in
-      (sym (ap costAt e ∙ less-nothing (costAt 0) (h.0 0 some)), h.1)
+      (sym (ap cost_at e ∙ less_nothing (cost_at 0) (h.0 0 some)), h.1)
   kept-found some lent (Costs t) cols h =
-      let e = best-first t cols h in
-      (h.costs ∙ ap costAt (sym e), h.columns ∙ ap (list_of night) (sym e))
+      let e = best_first t cols h in
+      (h.costs ∙ ap cost_at (sym e), h.columns ∙ ap (list_of night) (sym e))
 
   -- ---- what is answered
 
   -- The number of a list of columns.
   abbrev pub number_of : List ℕ → ℕ
-  number_of cols = number night.columnCount night.rowCount cols
+  number_of cols = number night.column_count night.row_count cols
 
   -- Every pairing has its number: it is below the count, and its list is the pairing.
-  pub pairing-number : (cols : List ℕ) → Pairing night cols → number_of cols < listCount night
-  pairing-number cols p = number-below night.columnCount night.rowCount cols p.inside
+  pub pairing-number : (cols : List ℕ) → Pairing night cols → number_of cols < list_count night
+  pairing-number cols p = number-below night.column_count night.row_count cols p.inside
 
   pub number-list : (cols : List ℕ) → Pairing night cols → list_of night (number_of cols) ≡ cols
-  number-list cols p = digits_number night.columnCount night.rowCount cols p.size p.inside
+  number-list cols p = digits_number night.column_count night.row_count cols p.size p.inside
 
-  pairing-cost : (cols : List ℕ) → Pairing night cols → costOf night cols ≡ Costs (total night cols)
-  pairing-cost cols p = cost-passed night cols (pairing-passes night cols p)
+  pairing-cost : (cols : List ℕ) → Pairing night cols → cost_of night cols ≡ Costs (total night cols)
+  pairing-cost cols p = cost-passed night cols (pairing_passes night cols p)
 
-  number-cost : (cols : List ℕ) → Pairing night cols → costAt (number_of cols) ≡ Costs (total night cols)
-  number-cost cols p = ap (costOf night) (number-list cols p) ∙ pairing-cost cols p
+  number-cost : (cols : List ℕ) → Pairing night cols → cost_at (number_of cols) ≡ Costs (total night cols)
+  number-cost cols p = ap (cost_of night) (number-list cols p) ∙ pairing-cost cols p
 
-  module _ (enough : night.rowCount ≤ night.columnCount) where
-    pub some-list : 0 < listCount night
-    some-list = positive night.columnCount night.rowCount enough
+  module _ (enough : night.row_count ≤ night.column_count) where
+    pub some-list : 0 < list_count night
+    some-list = positive night.column_count night.row_count enough
 
     -- A list that costs something is a pairing, and that is its total.
-    cost-pairing : (k : ℕ) (t : ℤ) → costAt k ≡ Costs t → Pairing night (list_of night k) × (t ≡ total night (list_of night k))
-    cost-pairing k t e = by (isPairing night (list_of night k)) refl
+    cost-pairing : (k : ℕ) (t : ℤ) → cost_at k ≡ Costs t → Pairing night (list_of night k) × (t ≡ total night (list_of night k))
+    cost-pairing k t e = by (is_pairing night (list_of night k)) refl
       where
-        by : (b : Bool) → isPairing night (list_of night k) ≡ b → Pairing night (list_of night k) × (t ≡ total night (list_of night k))
+        by : (b : Bool) → is_pairing night (list_of night k) ≡ b → Pairing night (list_of night k) × (t ≡ total night (list_of night k))
         by true p = (
-          passes-pairing night (list_of night k) (length_digits night.columnCount night.rowCount k)
-              (λ i l. digits-below night.columnCount night.rowCount k (omega arith) i l) p,
+          passes_pairing night (list_of night k) (length_digits night.column_count night.row_count k)
+              (λ i l. digits-below night.column_count night.row_count k (omega arith) i l) p,
           same-costs t (total night (list_of night k)) (sym e ∙ cost-passed night (list_of night k) p),
         )
-        by false p = absurd (costs-nothing t (sym e ∙ cost-failed night (list_of night k) p))
+        by false p = absurd (costs_nothing t (sym e ∙ cost_failed night (list_of night k) p))
 
     -- There is a first least list: the run over all lists ends with it.
-    first-there : firstLeast < listCount night
-    first-there = by run.0 run.1 ran
+    first_there : first_least < list_count night
+    first_there = by run.0 run.1 ran
       where
         turn : ℕ → Found × List ℕ → Found × List ℕ
-        turn k s = (keptCost (costAt k) s.0, keptList (costAt k) s.0 (list_of night k) s.1)
+        turn k s = (kept_cost (cost_at k) s.0, kept_list (cost_at k) s.0 (list_of night k) s.1)
 
         run : Found × List ℕ
-        run = upward 0 (listCount night) turn (Nothing, [])
+        run = upward 0 (list_count night) turn (Nothing, [])
 
-        ran : Kept (listCount night) [] run.0 run.1
+        ran : Kept (list_count night) [] run.0 run.1
         ran =
-            upward-keeps (λ k s. Kept k [] s.0 s.1) 0 (listCount night) turn (Nothing, []) (omega arith) (kept-none [])
+            upward_keeps (λ k s. Kept k [] s.0 s.1) 0 (list_count night) turn (Nothing, []) (omega arith) (kept_none [])
             (λ k s l m h. kept_more k [] s.0 s.1 h)
 
-        by : (found : Found) (cols : List ℕ) → Kept (listCount night) [] found cols → firstLeast < listCount night
+        by : (found : Found) (cols : List ℕ) → Kept (list_count night) [] found cols → first_least < list_count night
         by Nothing cols h = let e = none_first some-list h.0 in omega (arith, some-list)
-        by (Costs t) cols h = let e = best-first t cols h in omega (arith, h.reach)
+        by (Costs t) cols h = let e = best_first t cols h in omega (arith, h.reach)
 
-    chosen-list : LeastList firstLeast
-    chosen-list = least-list firstLeast (first_holds (isLeast night) (listCount night) first-there)
+    chosen-list : LeastList first_least
+    chosen-list = least-list first_least (first_holds (is_least night) (list_count night) first_there)
 
     -- Where nothing is found there is no pairing;
-    pub nothing-none : costOf night (chosen night) ≡ Nothing → (cols : List ℕ) → Pairing night cols → ⊥
+    pub nothing_none : cost_of night (chosen night) ≡ Nothing → (cols : List ℕ) → Pairing night cols → ⊥
     unfolding chosen less
-    nothing-none e cols p =
+    nothing_none e cols p =
         let l = chosen-list (number_of cols) (pairing-number cols p) in
         let m : less (Costs (total night cols)) Nothing ≡ false = rw (number-cost cols p, e) at l in
         true≢false m
 
     -- what costs something is a least pairing, and that is its total;
-    pub found-least : (t : ℤ) → costOf night (chosen night) ≡ Costs t → Least night (chosen night) × (t ≡ total night (chosen night))
+    pub found-least : (t : ℤ) → cost_of night (chosen night) ≡ Costs t → Least night (chosen night) × (t ≡ total night (chosen night))
     unfolding chosen
     found-least t e =
-        let c = cost-pairing firstLeast t e in
+        let c = cost-pairing first_least t e in
         let same = c.1 in (
           record {
             pairing = c.0;
             least = λ other p.
                 let l = chosen-list (number_of other) (pairing-number other p) in
-                let m = not-less-totals (total night other) t (rw (number-cost other p, e) at l) in
+                let m = not_less_totals (total night other) t (rw (number-cost other p, e) at l) in
                 omega zarith;
           },
           same,
         )
 
     -- and where there is a pairing, one is found.
-    pub pairing-found : (cols : List ℕ) → Pairing night cols → costOf night (chosen night) ≡ Costs (total night (chosen night))
-    pairing-found cols p = by (costOf night (chosen night)) refl
+    pub pairing-found : (cols : List ℕ) → Pairing night cols → cost_of night (chosen night) ≡ Costs (total night (chosen night))
+    pairing-found cols p = by (cost_of night (chosen night)) refl
       where
-        by : (found : Found) → costOf night (chosen night) ≡ found → costOf night (chosen night) ≡ Costs (total night (chosen night))
-        by Nothing e = absurd (nothing-none e cols p)
+        by : (found : Found) → cost_of night (chosen night) ≡ found → cost_of night (chosen night) ≡ Costs (total night (chosen night))
+        by Nothing e = absurd (nothing_none e cols p)
         by (Costs t) e = e ∙ ap Costs (found-least t e).1
 
     pub chosen-least : (cols : List ℕ) → Pairing night cols → Least night (chosen night)
@@ -297,21 +297,21 @@ module _ (night : Night) where
           omega zarith
 
       -- and none of them comes before it in dictionary order.
-      pub chosen-first : Before night.rowCount other (chosen night) → ⊥
+      pub chosen-first : Before night.row_count other (chosen night) → ⊥
       unfolding chosen
       chosen-first b =
           let p = o.pairing in
-          let l : number_of other < number_of (list_of night firstLeast) =
-          before-lower night.columnCount night.rowCount other (list_of night firstLeast) p.inside b in
-          let n : number_of (list_of night firstLeast) ≡ firstLeast = number_digits night.columnCount night.rowCount firstLeast first-there in
-          true≢false (sym (list-least (number_of other) none) ∙ first-before (isLeast night) (listCount night) (number_of other) (omega arith))
+          let l : number_of other < number_of (list_of night first_least) =
+          before-lower night.column_count night.row_count other (list_of night first_least) p.inside b in
+          let n : number_of (list_of night first_least) ≡ first_least = number_digits night.column_count night.row_count first_least first_there in
+          true≢false (sym (list-least (number_of other) none) ∙ first-before (is_least night) (list_count night) (number_of other) (omega arith))
         where
           none : LeastList (number_of other)
-          none j l = by (costAt j) refl
+          none j l = by (cost_at j) refl
             where
-              by : (found : Found) → costAt j ≡ found → less (costAt j) (costAt (number_of other)) ≡ false
-              by Nothing e = rw e (nothing-never (costAt (number_of other)))
+              by : (found : Found) → cost_at j ≡ found → less (cost_at j) (cost_at (number_of other)) ≡ false
+              by Nothing e = rw e (nothing_never (cost_at (number_of other)))
               by (Costs t) e =
                   let c = cost-pairing j t e in
                   let m : total night other ≤ℤ t = rw (sym c.1) at (o.least (list_of night j) c.0) in
-                  rw (e, number-cost other o.pairing) (totals-not-less t (total night other) m)
+                  rw (e, number-cost other o.pairing) (totals_not_less t (total night other) m)

@@ -9,7 +9,7 @@ use native.Mathlib.Omega.{arith}
 use lib.ListN.{length, take, length-append, get_or-append}
 use lib.Seq.{get_or_at, get_or-take, length-take-le}
 use Rattle.lists.specs.Permutations.{at, table}
-use Rattle.lists.proofs.Tables.{getD-table, table-getD, table-cong}
+use Rattle.lists.proofs.Tables.{get_d_table, table_get_d, table_cong}
 use Rattle.plain.specs.Engine.{digits}
 
 -- The number whose digits are the first m entries of a list.
@@ -48,37 +48,37 @@ digits-below n (suc m) k h i l = by (dec_lt i m) (digits-below n m (k / n) h i)
     by (no b) ih = let e : m ≡ i = omega arith in subst (λ (x : ℕ). at (digits n (suc m) k) x < n) e (rw (at_last n m k) (mod-lt k h))
 
 -- A number with one digit more, taken apart.
-pub digit-off : (n a d : ℕ) → d < n → (a * n + d) / n ≡ a
-digit-off n a d l = mul-add-div_right {m = n} (omega arith) a d ∙ ap (λ (x : ℕ). a + x) (div-eq_of_lt l) ∙ add-zero a
+pub digit_off : (n a d : ℕ) → d < n → (a * n + d) / n ≡ a
+digit_off n a d l = mul-add-div_right {m = n} (omega arith) a d ∙ ap (λ (x : ℕ). a + x) (div-eq_of_lt l) ∙ add-zero a
 
-pub digit-last : (n a d : ℕ) → d < n → (a * n + d) % n ≡ d
-digit-last n a d l = mul-add-mod_self_right a n d ∙ mod-eq_of_lt l
+pub digit_last : (n a d : ℕ) → d < n → (a * n + d) % n ≡ d
+digit_last n a d l = mul-add-mod_self_right a n d ∙ mod-eq_of_lt l
 
 pub digits_more : (n m a d : ℕ) → d < n → digits n (suc m) (a * n + d) ≡ digits n m a ++ (d ∷ [])
 unfolding digits
-digits_more n m a d l = rw (digit-off n a d l, digit-last n a d l) refl
+digits_more n m a d l = rw (digit_off n a d l, digit_last n a d l) refl
 
 -- The digits of a list's number are its entries.
 digits-table : (n m : ℕ) (cols : List ℕ) → Below n m cols → digits n m (number n m cols) ≡ table m (at cols)
 unfolding digits number table
 digits-table n zero cols h = refl
 digits-table n (suc m) cols h =
-    rw (digit-off n (number n m cols) (at cols m) (h m (omega arith)), digit-last n (number n m cols) (at cols m) (h m (omega arith)))
+    rw (digit_off n (number n m cols) (at cols m) (h m (omega arith)), digit_last n (number n m cols) (at cols m) (h m (omega arith)))
     (ap (λ (l : List ℕ). l ++ (at cols m ∷ [])) (digits-table n m cols (below-fewer n m cols h)))
 
 pub digits-take : (n m : ℕ) (cols : List ℕ) → m ≤ length cols → Below n m cols → digits n m (number n m cols) ≡ take m cols
 digits-take n m cols enough h =
-    digits-table n m cols h ∙ table-cong m (at cols) (at (take m cols)) (λ i l. sym (get_or-take m cols i 0 l))
-    ∙ subst (λ (k : ℕ). table k (at (take m cols)) ≡ take m cols) (length-take-le m cols enough) (table-getD (take m cols) 0)
+    digits-table n m cols h ∙ table_cong m (at cols) (at (take m cols)) (λ i l. sym (get_or-take m cols i 0 l))
+    ∙ subst (λ (k : ℕ). table k (at (take m cols)) ≡ take m cols) (length-take-le m cols enough) (table_get_d (take m cols) 0)
 
 pub digits_number : (n m : ℕ) (cols : List ℕ) → length cols ≡ m → Below n m cols → digits n m (number n m cols) ≡ cols
-digits_number n m cols size h = digits-table n m cols h ∙ subst (λ (k : ℕ). table k (at cols) ≡ cols) size (table-getD cols 0)
+digits_number n m cols size h = digits-table n m cols h ∙ subst (λ (k : ℕ). table k (at cols) ≡ cols) size (table_get_d cols 0)
 
 -- Only the first m entries count.
-pub number-cong : (n m : ℕ) (cols other : List ℕ) → ((i : ℕ) → i < m → at cols i ≡ at other i) → number n m cols ≡ number n m other
+pub number_cong : (n m : ℕ) (cols other : List ℕ) → ((i : ℕ) → i < m → at cols i ≡ at other i) → number n m cols ≡ number n m other
 unfolding number
-number-cong n zero cols other e = refl
-number-cong n (suc m) cols other e = cc (number-cong n m cols other (λ i l. e i (omega arith)), e m (omega arith))
+number_cong n zero cols other e = refl
+number_cong n (suc m) cols other e = cc (number_cong n m cols other (λ i l. e i (omega arith)), e m (omega arith))
 
 -- A list's number is below n ^ m.
 pub number-below : (n m : ℕ) (cols : List ℕ) → Below n m cols → number n m cols < n ^ m
@@ -90,17 +90,17 @@ number-below n (suc m) cols h =
     omega (arith, pow-suc n m, h m (omega arith))
 
 -- The number of k's digits is k.
-some-base : (n m k : ℕ) → k < n ^ suc m → 0 < n
-some-base zero m k l = absurd (omega (arith, pow-suc 0 m))
-some-base (suc n) m k l = omega arith
+some_base : (n m k : ℕ) → k < n ^ suc m → 0 < n
+some_base zero m k l = absurd (omega (arith, pow-suc 0 m))
+some_base (suc n) m k l = omega arith
 
 pub number_digits : (n m k : ℕ) → k < n ^ m → number n m (digits n m k) ≡ k
 unfolding number
 number_digits n zero k l = omega (arith, pow-zero n)
 number_digits n (suc m) k l =
-    let q : k / n < n ^ m = (div-lt_iff_lt-mul {k = n} {x = k} {y = n ^ m} (some-base n m k l)).1 (rw (sym (pow-suc n m)) l) in
+    let q : k / n < n ^ m = (div-lt_iff_lt-mul {k = n} {x = k} {y = n ^ m} (some_base n m k l)).1 (rw (sym (pow-suc n m)) l) in
     let e : number n m (digits n (suc m) k) ≡ k / n =
-    number-cong n m (digits n (suc m) k) (digits n m (k / n)) (at_before n m k) ∙ number_digits n m (k / n) q in
+    number_cong n m (digits n (suc m) k) (digits n m (k / n)) (at_before n m k) ∙ number_digits n m (k / n) q in
     rw (e, at_last n m k) (div-add-mod' k n)
 
 -- One list comes before another in dictionary order: they are the same up to a place, and there it is the lower.
@@ -129,7 +129,7 @@ before-lower n (suc m) cols other h b =
     by (yes l) ih = omega (arith, wider n (number n m cols) (number n m other) (at cols m) (ih l) (h m (omega arith)))
     by (no l) ih =
         let q : b.place ≡ m = omega (arith, b.reach) in
-        let c : number n m cols ≡ number n m other = number-cong n m cols other (λ i k. b.same i (omega arith)) in
+        let c : number n m cols ≡ number n m other = number_cong n m cols other (λ i k. b.same i (omega arith)) in
         rw c (omega (arith, subst (λ (x : ℕ). at cols x < at other x) q b.lower))
 
 -- and the lower number comes before.
@@ -151,6 +151,6 @@ lower-before n (suc m) cols other h g l =
         record {
           place = m;
           reach = omega arith;
-          same = λ i k. sym (getD-table m (at cols) 0 i k) ∙ ap (λ (t : List ℕ). at t i) f ∙ getD-table m (at other) 0 i k;
+          same = λ i k. sym (get_d_table m (at cols) 0 i k) ∙ ap (λ (t : List ℕ). at t i) f ∙ get_d_table m (at other) 0 i k;
           lower = omega (arith, ap (λ (x : ℕ). x * n) e);
         }

@@ -10,26 +10,26 @@ use lib.IntN.{ℤ}
 use lib.ListN.{length}
 use borrow.Author.Tests.{ltb-true, ltb-false}
 use Rattle.lists.specs.Permutations.{table}
-use Rattle.lists.proofs.Tables.{length-table, getD-constant}
+use Rattle.lists.proofs.Tables.{length-table, get_d_constant}
 use Rattle.assignment.specs.Pairings.{Night}
-use Rattle.bars.specs.Barred.{nightOf}
-use Rattle.plain.specs.Engine.{digits, costOf, chosen, written}
+use Rattle.bars.specs.Barred.{night_of}
+use Rattle.plain.specs.Engine.{digits, cost_of, chosen, written}
 use Rattle.plain.specs.declared.Found.{Found}
 use Rattle.plain.specs.declared.Found.TheVariants.{Nothing}
 use Rattle.plain.proofs.Numbers.{number, Below, length_digits, digits-below, digits_number, number-below, number_digits}
-use Rattle.plain.proofs.Answers.{Kept, kept-none, kept_more, kept-found, some-list, keptCost, keptList}
+use Rattle.plain.proofs.Answers.{Kept, kept_none, kept_more, kept-found, some-list, kept_cost, kept_list}
 
 -- Numbers past the first are written with digits that are not 0.
-some-digit : (n m k : ℕ) → suc k < n ^ m → 0 < n
-some-digit zero zero k l = absurd (omega (arith, pow-zero 0))
-some-digit zero (suc m) k l = absurd (omega (arith, pow-suc 0 m))
-some-digit (suc n) m k l = omega arith
+some_digit : (n m k : ℕ) → suc k < n ^ m → 0 < n
+some_digit zero zero k l = absurd (omega (arith, pow-zero 0))
+some_digit zero (suc m) k l = absurd (omega (arith, pow-suc 0 m))
+some_digit (suc n) m k l = omega arith
 
 -- The first list is all zeros.
 zeros-number : (n m k : ℕ) → number n m (table k (λ i. 0)) ≡ 0
 unfolding number
 zeros-number n zero k = refl
-zeros-number n (suc m) k = omega (arith, ap (λ (x : ℕ). x * n) (zeros-number n m k), getD-constant {A = ℕ} k 0 m)
+zeros-number n (suc m) k = omega (arith, ap (λ (x : ℕ). x * n) (zeros-number n m k), get_d_constant {A = ℕ} k 0 m)
 
 -- The list that `next` leaves, by its number.
 pub counted : (n m : ℕ) (list following : List ℕ) (more : Bool) → length list ≡ m → Below n m list
@@ -44,7 +44,7 @@ counted n m list following more size below left =
 
 module _ (n m : ℕ) (costs : List ℤ) (bars lent : List ℕ) where
   abbrev pub night : Night
-  night = nightOf m n costs bars
+  night = night_of m n costs bars
 
   -- What holds before each turn.
   pub record Head (list cols : List ℕ) (found : Found) : Type 0 where
@@ -57,23 +57,23 @@ module _ (n m : ℕ) (costs : List ℤ) (bars lent : List ℕ) where
   head_first list few same e = record {
     size = ap length e ∙ length-table m (λ i. 0);
     same = same;
-    below = subst (Below n m) (sym e) (λ i l. omega (arith, getD-constant {A = ℕ} m 0 i));
-    kept = subst (λ (k : ℕ). Kept night k lent Nothing lent) (sym (ap (number n m) e ∙ zeros-number n m m)) (kept-none night lent);
+    below = subst (Below n m) (sym e) (λ i l. omega (arith, get_d_constant {A = ℕ} m 0 i));
+    kept = subst (λ (k : ℕ). Kept night k lent Nothing lent) (sym (ap (number n m) e ∙ zeros-number n m m)) (kept_none night lent);
   }
 
   -- A turn: the list is tried, and the next one counted.
   module _ (list cols : List ℕ) (found : Found) (h : Head list cols found) (r : Found) (left : List ℕ)
-      (found-is : r ≡ keptCost night (costOf night list) found) (left_is : left ≡ keptList night (costOf night list) found list cols) where
+      (found_is : r ≡ kept_cost night (cost_of night list) found) (left_is : left ≡ kept_list night (cost_of night list) found list cols) where
     turned : Kept night (suc (number n m list)) lent r left
     turned =
-        subst (λ (f : Found). Kept night (suc (number n m list)) lent f left) (sym found-is)
-        (subst (Kept night (suc (number n m list)) lent (keptCost night (costOf night list) found)) (sym left_is)
-        (subst (λ (l : List ℕ). Kept night (suc (number n m list)) lent (keptCost night (costOf night l) found) (keptList night (costOf night l) found l cols))
+        subst (λ (f : Found). Kept night (suc (number n m list)) lent f left) (sym found_is)
+        (subst (Kept night (suc (number n m list)) lent (kept_cost night (cost_of night list) found)) (sym left_is)
+        (subst (λ (l : List ℕ). Kept night (suc (number n m list)) lent (kept_cost night (cost_of night l) found) (kept_list night (cost_of night l) found l cols))
         (digits_number n m list h.size h.below) (kept_more night (number n m list) lent found cols h.kept)))
 
     -- The last list: the engine's answer is held.
-    pub head-last : m ≤ n → ltb (suc (number n m list)) (n ^ m) ≡ false → (r ≡ costOf night (chosen night)) × (left ≡ written r (chosen night) lent)
-    head-last enough l =
+    pub head_last : m ≤ n → ltb (suc (number n m list)) (n ^ m) ≡ false → (r ≡ cost_of night (chosen night)) × (left ≡ written r (chosen night) lent)
+    head_last enough l =
         let e : suc (number n m list) ≡ n ^ m = omega (arith, ltb-false (suc (number n m list)) (n ^ m) l, number-below n m list h.below) in
         kept-found night (some-list night enough) lent r left (subst (λ (k : ℕ). Kept night k lent r left) e turned)
 
@@ -82,16 +82,16 @@ module _ (n m : ℕ) (costs : List ℤ) (bars lent : List ℕ) where
       reach : suc (number n m list) < n ^ m
       reach = ltb-true (suc (number n m list)) (n ^ m) l
 
-      next-number : number n m next ≡ suc (number n m list)
-      next-number = ap (number n m) next-is ∙ number_digits n m (suc (number n m list)) reach
+      next_number : number n m next ≡ suc (number n m list)
+      next_number = ap (number n m) next-is ∙ number_digits n m (suc (number n m list)) reach
 
       pub head_more : length left ≡ m → Head next left r
       head_more same = record {
         size = ap length next-is ∙ length_digits n m (suc (number n m list));
         same = same;
-        below = subst (Below n m) (sym next-is) (digits-below n m (suc (number n m list)) (some-digit n m (number n m list) reach));
-        kept = subst (λ (k : ℕ). Kept night k lent r left) (sym next-number) turned;
+        below = subst (Below n m) (sym next-is) (digits-below n m (suc (number n m list)) (some_digit n m (number n m list) reach));
+        kept = subst (λ (k : ℕ). Kept night k lent r left) (sym next_number) turned;
       }
 
-      pub head-nearer : n ^ m - number n m next < n ^ m - number n m list
-      head-nearer = omega (arith, next-number, reach)
+      pub head_nearer : n ^ m - number n m next < n ^ m - number n m list
+      head_nearer = omega (arith, next_number, reach)

@@ -6,7 +6,7 @@ use Rattle.lists.specs.Counts.{some}
 use Rattle.lists.specs.Permutations.{at}
 use Rattle.lists.specs.Runs.{first}
 use Rattle.assignment.specs.Pairings.{Night, total, square}
-use Rattle.matrix.specs.Tests.{sideWithin, costsFill, listLong, costsWithin}
+use Rattle.matrix.specs.Tests.{side_within, costs_fill, list_long, costs_within}
 use Rattle.matrix.specs.Verdicts.{◌then◌}
 use Rattle.matrix.specs.declared.Answer.{Answer}
 use Rattle.matrix.specs.declared.Answer.TheVariants.{Total, Refused}
@@ -21,23 +21,23 @@ digits n zero k = []
 digits n (suc m) k = digits n m (k / n) ++ (k % n ∷ [])
 
 -- How many lists of columns a night has, and list k.
-abbrev pub listCount : Night → ℕ
-listCount night = night.columnCount ^ night.rowCount
+abbrev pub list_count : Night → ℕ
+list_count night = night.column_count ^ night.row_count
 
 abbrev pub list_of : Night → ℕ → List ℕ
-list_of night k = digits night.columnCount night.rowCount k
+list_of night k = digits night.column_count night.row_count k
 
 -- Whether a row before row i has its column.
 abbrev pub taken : List ℕ → ℕ → Bool
 taken cols i = some i (λ h. eqb (at cols h) (at cols i))
 
 -- Whether a list is a pairing: no row's place is barred, and no row has the column of one before it.
-unfoldable pub isPairing : Night → List ℕ → Bool
-isPairing night cols = not (some night.rowCount (λ i. not (night.allowed i (at cols i)) || taken cols i))
+unfoldable pub is_pairing : Night → List ℕ → Bool
+is_pairing night cols = not (some night.row_count (λ i. not (night.allowed i (at cols i)) || taken cols i))
 
 -- What a list costs: nothing is found where it is no pairing.
-unfoldable pub costOf : Night → List ℕ → Found
-costOf night cols = cond (isPairing night cols) (Costs (total night cols)) Nothing
+unfoldable pub cost_of : Night → List ℕ → Found
+cost_of night cols = cond (is_pairing night cols) (Costs (total night cols)) Nothing
 
 -- Whether one costs less than the other: any total is less than nothing found.
 unfoldable pub less : Found → Found → Bool
@@ -46,12 +46,12 @@ less (Costs t) Nothing = true
 less (Costs t) (Costs least) = lt_z t least
 
 -- Whether no list costs less than list k.
-unfoldable pub isLeast : Night → ℕ → Bool
-isLeast night k = not (some (listCount night) (λ j. less (costOf night (list_of night j)) (costOf night (list_of night k))))
+unfoldable pub is_least : Night → ℕ → Bool
+is_least night k = not (some (list_count night) (λ j. less (cost_of night (list_of night j)) (cost_of night (list_of night k))))
 
 -- "the first pairing, in dictionary order of columns, that reaches" the least total.
 unfoldable pub chosen : Night → List ℕ
-chosen night = list_of night (first (listCount night) (isLeast night))
+chosen night = list_of night (first (list_count night) (is_least night))
 
 -- What then stands in the lent list: what was there, where nothing is found.
 abbrev pub written : Found → List ℕ → List ℕ → List ℕ
@@ -59,13 +59,13 @@ written Nothing cols lent = lent
 written (Costs t) cols lent = cols
 
 -- The entry's tests: "1 (over 8), 2, 3 (list 1), 5".
-unfoldable pub plainTests : ℕ → List ℤ → List ℕ → Verdict
-plainTests n costs cols = sideWithin 8 n then costsFill n n costs then listLong 1 n (length cols) then costsWithin costs
+unfoldable pub plain_tests : ℕ → List ℤ → List ℕ → Verdict
+plain_tests n costs cols = side_within 8 n then costs_fill n n costs then list_long 1 n (length cols) then costs_within costs
 
 -- "refused it writes nothing; accepted, the first n entries of cols".
 unfoldable pub answered : Verdict → Night → List ℕ → Answer × List ℕ
 answered (Fails refusal) night cols = (Refused refusal, cols)
-answered Passed night cols = (Total (total night (chosen night)), chosen night ++ drop night.rowCount cols)
+answered Passed night cols = (Total (total night (chosen night)), chosen night ++ drop night.row_count cols)
 
 abbrev pub plain : ℕ → List ℤ → List ℕ → Answer × List ℕ
-plain n costs cols = answered (plainTests n costs cols) (square n costs) cols
+plain n costs cols = answered (plain_tests n costs cols) (square n costs) cols

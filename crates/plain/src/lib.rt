@@ -2,8 +2,8 @@
 // What is promised is said in specs/. Nothing here knows the solver.
 ghost use Rattle.std.specs.Prelude.{◌≡◌, cond, ℕ, suc, ◌*◌, ◌^◌, ◌<◌, ◌≤◌, ltb, length};
 ghost use Rattle.lists.specs.Permutations.{at};
-ghost use Rattle.bars.specs.Barred.{nightOf};
-ghost use Rattle.plain.specs.Engine.{digits, taken, costOf, less, chosen, written, plain};
+ghost use Rattle.bars.specs.Barred.{night_of};
+ghost use Rattle.plain.specs.Engine.{digits, taken, cost_of, less, chosen, written, plain};
 
 use bars::bits::has;
 use bars::bits_at;
@@ -34,7 +34,7 @@ fn taken(cols: &[u32], i: usize) -> bool
 // What a list costs: nothing is found where it is no pairing.
 fn cost(n: usize, costs: &[i32], bars: &[u64], cols: &[u32]) -> Found
     requires { (length cols.now ≤ n) × (n ≤ 8) × (length costs.now ≡ length cols.now * n) × ((i : ℕ) → i < length cols.now → at cols.now i < n) }
-    ensures { result ≡ costOf (nightOf (length cols.now) n costs.now bars.now) cols.now }
+    ensures { result ≡ cost_of (night_of (length cols.now) n costs.now bars.now) cols.now }
 {
     let mut total: i64 = 0;
     let mut i = 0;
@@ -99,8 +99,8 @@ fn next(n: usize, list: &mut [u32]) -> bool
 // The engine, for as many rows as `cols` has entries and for n columns: it counts in `list`, and leaves the first least pairing in `cols`.
 pub fn engine(n: usize, costs: &[i32], bars: &[u64], list: &mut [u32], cols: &mut [u32]) -> Found
     requires { (length cols.old ≤ n) × (n ≤ 8) × (length costs.now ≡ length cols.old * n) × (length list.old ≡ length cols.old) }
-    ensures found { result ≡ costOf (nightOf (length cols.old) n costs.now bars.now) (chosen (nightOf (length cols.old) n costs.now bars.now)) }
-    ensures columns { cols.new ≡ written result (chosen (nightOf (length cols.old) n costs.now bars.now)) cols.old }
+    ensures found { result ≡ cost_of (night_of (length cols.old) n costs.now bars.now) (chosen (night_of (length cols.old) n costs.now bars.now)) }
+    ensures columns { cols.new ≡ written result (chosen (night_of (length cols.old) n costs.now bars.now)) cols.old }
 {
     lists::fill(list, 0);
     let mut found = Found::Nothing;

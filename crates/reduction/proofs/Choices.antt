@@ -21,57 +21,57 @@ use Rattle.rules.specs.declared.TwoLowest.{TwoLowest}
 use Rattle.rules.specs.declared.TwoLowest.TheVariants.{One, Two}
 use Rattle.rules.specs.declared.Choice.{Choice}
 use Rattle.rules.specs.declared.Pass.{Pass}
-use Rattle.rules.specs.Rows.{keepPrice, lowerPrice, choose, passAt, displace}
+use Rattle.rules.specs.Rows.{keep_price, lower_price, choose, pass_at, displace}
 use Rattle.matrix.specs.Limits.{near}
 use Rattle.reduction.specs.Rows.{Inside, placed_at}
 
 -- ---- a choice
 
 module _ (n : ℕ) (early : Bool) (v : List ℤ) (rows : List ℕ) (two : TwoLowest) where
-  pub choose_one : (a : Low) → two ≡ One a → keepPrice v a.place ≡ choose n early v rows two
+  pub choose_one : (a : Low) → two ≡ One a → keep_price v a.place ≡ choose n early v rows two
   choose_one a e = rw e refl
 
   module _ (a b : Low) (e : two ≡ Two a b) where
-    pub choose-lowers : early ≡ true → lt_z a.value b.value ≡ true → lowerPrice v a.place a.value b.value ≡ choose n early v rows two
-    choose-lowers y l = rw (e, y, l) refl
+    pub choose_lowers : early ≡ true → lt_z a.value b.value ≡ true → lower_price v a.place a.value b.value ≡ choose n early v rows two
+    choose_lowers y l = rw (e, y, l) refl
 
-    pub choose-second : early ≡ true → lt_z a.value b.value ≡ false → at rows a.place < n → keepPrice v b.place ≡ choose n early v rows two
+    pub choose-second : early ≡ true → lt_z a.value b.value ≡ false → at rows a.place < n → keep_price v b.place ≡ choose n early v rows two
     choose-second y l h = rw (e, y, l, lt-ltb (at rows a.place) n h) refl
 
-    pub choose-first : early ≡ true → lt_z a.value b.value ≡ false → n ≤ at rows a.place → keepPrice v a.place ≡ choose n early v rows two
+    pub choose-first : early ≡ true → lt_z a.value b.value ≡ false → n ≤ at rows a.place → keep_price v a.place ≡ choose n early v rows two
     choose-first y l h = rw (e, y, l, le-ltb (at rows a.place) n h) refl
 
-    pub choose-late : early ≡ false → keepPrice v a.place ≡ choose n early v rows two
-    choose-late y = rw (e, y) refl
+    pub choose_late : early ≡ false → keep_price v a.place ≡ choose n early v rows two
+    choose_late y = rw (e, y) refl
 
 -- A choice is a column of the two.
 pub choose-below : (n : ℕ) (early : Bool) (v : List ℤ) (rows : List ℕ) (two : TwoLowest) → Inside n two → (choose n early v rows two).column < n
 choose-below n early v rows (One a) h = h
 choose-below n early v rows (Two a b) h =
     let Below : Choice → Type 0 = λ w. w.column < n in
-    let kept = keepPrice v (cond (ltb (at rows a.place) n) b.place a.place) in
-    cond_cases early Below (cond (lt_z a.value b.value) (lowerPrice v a.place a.value b.value) kept) (keepPrice v a.place)
-    (λ t. cond_cases (lt_z a.value b.value) Below (lowerPrice v a.place a.value b.value) kept (λ l. h.0)
+    let kept = keep_price v (cond (ltb (at rows a.place) n) b.place a.place) in
+    cond_cases early Below (cond (lt_z a.value b.value) (lower_price v a.place a.value b.value) kept) (keep_price v a.place)
+    (λ t. cond_cases (lt_z a.value b.value) Below (lower_price v a.place a.value b.value) kept (λ l. h.0)
     (λ l. cond_cases (ltb (at rows a.place) n) (λ j. j < n) b.place a.place (λ k. h.1) (λ k. h.0)))
     (λ t. h.0)
 
 -- ---- a displaced row
 
 module _ (n : ℕ) (frees : List ℕ) (p : Pass) (back : Bool) (h : ℕ) where
-  pub displace-back : h < n → back ≡ true → placed_at (set frees p.current h) (passAt p.current p.left (p.looks + 1)) ≡ displace n frees p back h
+  pub displace-back : h < n → back ≡ true → placed_at (set frees p.current h) (pass_at p.current p.left (p.looks + 1)) ≡ displace n frees p back h
   displace-back l y = rw (lt-ltb h n l, y) refl
 
-  pub displace-next : h < n → back ≡ false → placed_at (set frees p.left h) (passAt (p.current + 1) (p.left + 1) (p.looks + 1)) ≡ displace n frees p back h
-  displace-next l y = rw (lt-ltb h n l, y) refl
+  pub displace_next : h < n → back ≡ false → placed_at (set frees p.left h) (pass_at (p.current + 1) (p.left + 1) (p.looks + 1)) ≡ displace n frees p back h
+  displace_next l y = rw (lt-ltb h n l, y) refl
 
-  pub displace-none : n ≤ h → placed_at frees (passAt (p.current + 1) p.left (p.looks + 1)) ≡ displace n frees p back h
-  displace-none l = rw (le-ltb h n l) refl
+  pub displace_none : n ≤ h → placed_at frees (pass_at (p.current + 1) p.left (p.looks + 1)) ≡ displace n frees p back h
+  displace_none l = rw (le-ltb h n l) refl
 
 -- ---- the price x, lowered by second minus lowest
 
 module _ (x lowest second : ℤ) (hx : Within near x) (hl : Within (near + near) lowest) (hs : Within (near + near) second) where
-  fits-x : SFits w64 x
-  fits-x = omega (zlin, hx)
+  fits_x : SFits w64 x
+  fits_x = omega (zlin, hx)
 
   fits-lowest : SFits w64 lowest
   fits-lowest = omega (zlin, hl)
@@ -79,17 +79,17 @@ module _ (x lowest second : ℤ) (hx : Within near x) (hl : Within (near + near)
   fits-second : SFits w64 second
   fits-second = omega (zlin, hs)
 
-  fits-step : SFits w64 (second -ℤ lowest)
-  fits-step = omega (zlin, hl, hs)
+  fits_step : SFits w64 (second -ℤ lowest)
+  fits_step = omega (zlin, hl, hs)
 
   fits-lowered : SFits w64 (x -ℤ (second -ℤ lowest))
   fits-lowered = omega (zlin, hx, hl, hs, dif second lowest)
 
   pub step_fits : SFits w64 (to_z w64 (of_z w64 second) -ℤ to_z w64 (of_z w64 lowest))
-  step_fits = simp (to_z-of_z fits-lowest, to_z-of_z fits-second) fits-step
+  step_fits = simp (to_z-of_z fits-lowest, to_z-of_z fits-second) fits_step
 
   pub lowered-fits : SFits w64 (to_z w64 (of_z w64 x) -ℤ to_z w64 (of_z w64 (to_z w64 (of_z w64 second) -ℤ to_z w64 (of_z w64 lowest))))
-  lowered-fits = simp (to_z-of_z fits-lowest, to_z-of_z fits-second, to_z-of_z fits-x, to_z-of_z fits-step) fits-lowered
+  lowered-fits = simp (to_z-of_z fits-lowest, to_z-of_z fits-second, to_z-of_z fits_x, to_z-of_z fits_step) fits-lowered
 
   pub lowered-back : to_z w64 (of_z w64 (to_z w64 (of_z w64 x) -ℤ to_z w64 (of_z w64 (to_z w64 (of_z w64 second) -ℤ to_z w64 (of_z w64 lowest))))) ≡ x -ℤ (second -ℤ lowest)
-  lowered-back = simp (to_z-of_z fits-lowest, to_z-of_z fits-second, to_z-of_z fits-x, to_z-of_z fits-step, to_z-of_z fits-lowered)
+  lowered-back = simp (to_z-of_z fits-lowest, to_z-of_z fits-second, to_z-of_z fits_x, to_z-of_z fits_step, to_z-of_z fits-lowered)

@@ -12,29 +12,29 @@ use lib.ListN.{length, take, drop}
 use lib.Signed.{lt_z, ◌≤ℤ◌, ≤ℤ_refl}
 use Rattle.lists.specs.Parts.{part}
 use Rattle.lists.specs.Permutations.{at, table}
-use Rattle.lists.proofs.Tables.{getD-table}
-use Rattle.assignment.specs.Pairings.{square, signedAt}
+use Rattle.lists.proofs.Tables.{get_d_table}
+use Rattle.assignment.specs.Pairings.{square, signed_at}
 use Rattle.rules.specs.declared.TwoLowest.{TwoLowest}
-use Rattle.rules.specs.Lowest.{reduced, twoLowest}
+use Rattle.rules.specs.Lowest.{reduced, two_lowest}
 use Rattle.rules.specs.Rows.{Passing, look}
 use Rattle.reduction.specs.Candidates.{Candidates, seen, unseen, Roomy, Keeps, Told, AllKept, Fell}
 use Rattle.reduction.specs.Rows.{Keeping}
-use Rattle.reduction.proofs.RoomParts.{back-lent, back-length, frontReturned, front-size, back-left}
-use Rattle.reduction.proofs.RowParts.{row-length, row_at, row-twoLowest}
-use Rattle.reduction.proofs.Recalled.{candidates-rise}
-use Rattle.reduction.proofs.Falling.{look-falls, candidates-last}
+use Rattle.reduction.proofs.RoomParts.{back-lent, back-length, front_returned, front_size, back-left}
+use Rattle.reduction.proofs.RowParts.{row-length, row_at, row-two_lowest}
+use Rattle.reduction.proofs.Recalled.{candidates_rise}
+use Rattle.reduction.proofs.Falling.{look_falls, candidates_last}
 
 -- Marks only: nothing is kept.
-pub kept-none : (n : ℕ) (cost : ℕ → ℕ → ℤ) (v : List ℤ) (kept : List ℕ) (limits : List ℤ) → limits ≡ table n (λ k. unseen) → AllKept n cost v kept limits
-kept-none n cost v kept limits e = record {
-  rows = λ i l h. absurd (true≢false (sym h ∙ ap (λ (w : ℤ). lt_z w seen) (ap (λ (t : List ℤ). signedAt t i) e ∙ getD-table n (λ k. unseen) (pos 0) i l)));
+pub kept_none : (n : ℕ) (cost : ℕ → ℕ → ℤ) (v : List ℤ) (kept : List ℕ) (limits : List ℤ) → limits ≡ table n (λ k. unseen) → AllKept n cost v kept limits
+kept_none n cost v kept limits e = record {
+  rows = λ i l h. absurd (true≢false (sym h ∙ ap (λ (w : ℤ). lt_z w seen) (ap (λ (t : List ℤ). signed_at t i) e ∙ get_d_table n (λ k. unseen) (pos 0) i l)));
 }
 
 -- Over a look.
 kept-look : (n : ℕ) (cost : ℕ → ℕ → ℤ) (x y : Passing) (kept : List ℕ) (limits : List ℤ) → y ≡ look n cost x → AllKept n cost x.prices kept limits
     → AllKept n cost y.prices kept limits
 kept-look n cost x y kept limits e all = record {
-  rows = λ i l h. candidates-last cost i (all.rows i l h) (subst (λ (z : Passing). Fell x.prices z.prices) (sym e) (look-falls n cost x));
+  rows = λ i l h. candidates_last cost i (all.rows i l h) (subst (λ (z : Passing). Fell x.prices z.prices) (sym e) (look_falls n cost x));
 }
 
 -- ---- a row as it was handed back
@@ -44,10 +44,10 @@ module _ (n i : ℕ) (costs row v : List ℤ) (inside : i < n) (size : length co
   cost = (square n costs).cost
 
   abbrev here : ℕ → ℤ
-  here j = signedAt row j -ℤ signedAt v j
+  here j = signed_at row j -ℤ signed_at v j
 
-  here-is : (k : ℕ) → k < n → here k ≡ reduced cost (signedAt v) i k
-  here-is k h = ap (λ (x : ℤ). x -ℤ signedAt v k) (row_at n i costs row inside size is k h)
+  here_is : (k : ℕ) → k < n → here k ≡ reduced cost (signed_at v) i k
+  here_is k h = ap (λ (x : ℤ). x -ℤ signed_at v k) (row_at n i costs row inside size is k h)
 
   long : length row ≡ n
   long = row-length n i costs row inside size is
@@ -69,40 +69,40 @@ module _ (n i : ℕ) (costs row v : List ℤ) (inside : i < n) (size : length co
     lent-kept : AllKept n cost v lent limits
     lent-kept = subst (λ (kept : List ℕ). AllKept n cost v kept limits) (sym lent_is) keeping.kept
 
-    pub lent-keeps : Keeps here (length row) i lent limits
-    lent-keeps h =
-        subst (λ (m : ℕ). Candidates here m (at lent (3 * i)) (at lent (3 * i + 1)) (at lent (3 * i + 2)) (signedAt limits i)) (sym long)
-        (candidates-rise (lent-kept.rows i inside h) (λ k l. subst (λ (z : ℤ). z ≤ℤ here k) (here-is k l) (≤ℤ_refl (here k))))
+    pub lent_keeps : Keeps here (length row) i lent limits
+    lent_keeps h =
+        subst (λ (m : ℕ). Candidates here m (at lent (3 * i)) (at lent (3 * i + 1)) (at lent (3 * i + 2)) (signed_at limits i)) (sym long)
+        (candidates_rise (lent-kept.rows i inside h) (λ k l. subst (λ (z : ℤ). z ≤ℤ here k) (here_is k l) (≤ℤ_refl (here k))))
 
     module _ {kept : List ℕ} {limits' : List ℤ} {two : TwoLowest} (told : Told here (length row) i lent limits kept limits' two) where
-      pub two-told : two ≡ twoLowest n (reduced cost (signedAt v) i)
-      two-told = told.two-are ∙ row-twoLowest n i costs row inside size is v
+      pub two_told : two ≡ two_lowest n (reduced cost (signed_at v) i)
+      two_told = told.two_are ∙ row-two_lowest n i costs row inside size is v
 
-      own-told : Keeps (reduced cost (signedAt v) i) n i kept limits'
+      own-told : Keeps (reduced cost (signed_at v) i) n i kept limits'
       own-told h =
-          candidates-rise
-          (subst (λ (m : ℕ). Candidates here m (at kept (3 * i)) (at kept (3 * i + 1)) (at kept (3 * i + 2)) (signedAt limits' i)) long (told.own h))
-          (λ k l. subst (λ (z : ℤ). here k ≤ℤ z) (here-is k l) (≤ℤ_refl (here k)))
+          candidates_rise
+          (subst (λ (m : ℕ). Candidates here m (at kept (3 * i)) (at kept (3 * i + 1)) (at kept (3 * i + 2)) (signed_at limits' i)) long (told.own h))
+          (λ k l. subst (λ (z : ℤ). here k ≤ℤ z) (here_is k l) (≤ℤ_refl (here k)))
 
-      other-told : (k : ℕ) → k < n → k ≢ i → Keeps (reduced cost (signedAt v) k) n k kept limits'
-      other-told k l d =
-          subst (λ (m : ℕ). Keeps (reduced cost (signedAt v) k) m k kept limits') long
-          (told.others (reduced cost (signedAt v) k) k d
-          (subst (λ (m : ℕ). Keeps (reduced cost (signedAt v) k) m k lent limits) (sym long) (lent-kept.rows k l)))
+      other_told : (k : ℕ) → k < n → k ≢ i → Keeps (reduced cost (signed_at v) k) n k kept limits'
+      other_told k l d =
+          subst (λ (m : ℕ). Keeps (reduced cost (signed_at v) k) m k kept limits') long
+          (told.others (reduced cost (signed_at v) k) k d
+          (subst (λ (m : ℕ). Keeps (reduced cost (signed_at v) k) m k lent limits) (sym long) (lent-kept.rows k l)))
 
       pub kept-told : AllKept n cost v kept limits'
       kept-told = record {
         rows = λ k l. elim (ℕ_discrete k i) [
-          | yes e ↦ subst (λ (m : ℕ). Keeps (reduced cost (signedAt v) m) n m kept limits') (sym e) own-told
-          | no d ↦ other-told k l d
+          | yes e ↦ subst (λ (m : ℕ). Keeps (reduced cost (signed_at v) m) n m kept limits') (sym e) own-told
+          | no d ↦ other_told k l d
         ];
       }
 
       -- After the look: the room in which the back came back as `kept`, then the front as `frees`.
-      pub keeping-look : (x y : Passing) → x.prices ≡ v → y ≡ look n cost x → (kept-size : length kept ≡ n + n + n) (frees : List ℕ) (frees-size : length frees ≡ n)
-          → length limits' ≡ n → Keeping n costs y.prices (frontReturned n room keeping.room-size kept kept-size frees frees-size) limits'
-      keeping-look x y at-v e kept-size frees frees-size limits-size = record {
-        room-size = front-size n room keeping.room-size kept kept-size frees frees-size;
+      pub keeping_look : (x y : Passing) → x.prices ≡ v → y ≡ look n cost x → (kept-size : length kept ≡ n + n + n) (frees : List ℕ) (frees-size : length frees ≡ n)
+          → length limits' ≡ n → Keeping n costs y.prices (front_returned n room keeping.room-size kept kept-size frees frees-size) limits'
+      keeping_look x y at-v e kept-size frees frees-size limits-size = record {
+        room-size = front_size n room keeping.room-size kept kept-size frees frees-size;
         limits-size = limits-size;
         kept = subst (λ (k : List ℕ). AllKept n cost y.prices k limits') (sym (back-left n room keeping.room-size kept kept-size frees frees-size))
             (kept-look n cost x y kept limits' e (subst (λ (u : List ℤ). AllKept n cost u kept limits') (sym at-v) kept-told));

@@ -11,31 +11,31 @@ use lib.Dec.{ltb}
 use lib.IntN.{ℤ}
 use lib.ListN.{length, set, length-set}
 use Rattle.lists.specs.Permutations.{at}
-use Rattle.lists.proofs.Runs.{upward-keeps}
+use Rattle.lists.proofs.Runs.{upward_keeps}
 use Rattle.lists.proofs.Cases.{cond_cases}
-use Rattle.assignment.specs.Pairings.{square, signedAt}
+use Rattle.assignment.specs.Pairings.{square, signed_at}
 use Rattle.rules.specs.declared.Choice.{Choice}
 use Rattle.rules.specs.declared.Pass.{Pass}
-use Rattle.rules.specs.Lowest.{reduced, twoLowest}
+use Rattle.rules.specs.Lowest.{reduced, two_lowest}
 use Rattle.rules.specs.Columns.{Stage}
-use Rattle.rules.specs.Rows.{Passing, Placed, choose, passAt, displace, settle, isEarly, look, looks, passStart, rowReduction}
-use Rattle.rules.proofs.Passes.{looks-none, looks-more, looks-rest}
+use Rattle.rules.specs.Rows.{Passing, Placed, choose, pass_at, displace, settle, is_early, look, looks, pass_start, row_reduction}
+use Rattle.rules.proofs.Passes.{looks_none, looks_more, looks-rest}
 use Rattle.matrix.proofs.SmallLimits.{side-small}
 use Rattle.reduction.specs.Ranges.{Near, Square}
-use Rattle.reduction.specs.Columns.{stageAt}
-use Rattle.reduction.specs.Rows.{placed_at, passingAt, Ready, Passable}
+use Rattle.reduction.specs.Columns.{stage_at}
+use Rattle.reduction.specs.Rows.{placed_at, passing_at, Ready, Passable}
 
 module _ (n : ℕ) (cost : ℕ → ℕ → ℤ) (x : Passing) where
   -- What the free row at `current` chooses.
   abbrev pub choice_of : Choice
   choice_of =
-      choose n (isEarly n x.pass) x.prices x.pairs.rows (twoLowest n (reduced cost (signedAt x.prices) (at x.frees x.pass.current)))
+      choose n (is_early n x.pass) x.prices x.pairs.rows (two_lowest n (reduced cost (signed_at x.prices) (at x.frees x.pass.current)))
 
   pub look_is : (i : ℕ) → i ≡ at x.frees x.pass.current → (w : Choice) → w ≡ choice_of → (f : List ℕ) (q : Pass)
       → placed_at f q ≡ displace n x.frees x.pass w.back (at x.pairs.rows w.column)
-      → passingAt (set x.pairs.cols i w.column) (set x.pairs.rows w.column i) (set x.prices w.column w.price) f q ≡ look n cost x
+      → passing_at (set x.pairs.cols i w.column) (set x.pairs.rows w.column i) (set x.prices w.column w.price) f q ≡ look n cost x
   look_is i r w e f q p =
-      ap (λ (y : Placed). passingAt (set x.pairs.cols i w.column) (set x.pairs.rows w.column i) (set x.prices w.column w.price) y.frees y.pass) p
+      ap (λ (y : Placed). passing_at (set x.pairs.cols i w.column) (set x.pairs.rows w.column i) (set x.prices w.column w.price) y.frees y.pass) p
       ∙ ap (λ (k : ℕ). settle n x k w) r ∙ ap (settle n x (at x.frees x.pass.current)) e
 
 -- ---- what every look keeps
@@ -56,9 +56,9 @@ record Moved (n looks : ℕ) (y : Placed) : Type 0 where
 
 displace-moved : (n m : ℕ) (frees : List ℕ) (p : Pass) (back : Bool) (h : ℕ) → length frees ≡ m → p.left ≤ p.current → Moved m p.looks (displace n frees p back h)
 displace-moved n m frees p back h size most =
-    let again = placed_at (set frees p.current h) (passAt p.current p.left (p.looks + 1)) in
-    let next = placed_at (set frees p.left h) (passAt (p.current + 1) (p.left + 1) (p.looks + 1)) in
-    let none = placed_at frees (passAt (p.current + 1) p.left (p.looks + 1)) in
+    let again = placed_at (set frees p.current h) (pass_at p.current p.left (p.looks + 1)) in
+    let next = placed_at (set frees p.left h) (pass_at (p.current + 1) (p.left + 1) (p.looks + 1)) in
+    let none = placed_at frees (pass_at (p.current + 1) p.left (p.looks + 1)) in
     cond_cases (ltb h n) (Moved m p.looks) (cond back again next) none
     (λ t. cond_cases back (Moved m p.looks) again next
     (λ r. record { frees-size = length-set frees p.current h ∙ size; left-most = most; one_more = refl })
@@ -71,8 +71,8 @@ module _ (n : ℕ) (cost : ℕ → ℕ → ℤ) (x : Passing) (s : Sized n x) wh
       let w = choice_of n cost x in
       displace-moved n n x.frees x.pass w.back (at x.pairs.rows w.column) s.frees-size s.left-most
 
-  look-sized : Sized n (look n cost x)
-  look-sized =
+  look_sized : Sized n (look n cost x)
+  look_sized =
       let i = at x.frees x.pass.current in
       let w = choice_of n cost x in
       record {
@@ -86,21 +86,21 @@ module _ (n : ℕ) (cost : ℕ → ℕ → ℤ) (x : Passing) (s : Sized n x) wh
   look-counts : (look n cost x).pass.looks ≡ x.pass.looks + 1
   look-counts = look-moved.one_more
 
-looks-sized : (n : ℕ) (cost : ℕ → ℕ → ℤ) (count : ℕ) (x : Passing) → Sized n x → (m : ℕ) → Sized n (looks n cost count m x)
+looks_sized : (n : ℕ) (cost : ℕ → ℕ → ℤ) (count : ℕ) (x : Passing) → Sized n x → (m : ℕ) → Sized n (looks n cost count m x)
 unfolding looks
-looks-sized n cost count x s m =
-    upward-keeps (λ k. Sized n) 0 m (λ k y. cond (ltb y.pass.current count) (look n cost y) y) x (omega arith) s
-    (λ k y l h z. cond_cases (ltb y.pass.current count) (Sized n) (look n cost y) y (λ t. look-sized n cost y z) (λ t. z))
+looks_sized n cost count x s m =
+    upward_keeps (λ k. Sized n) 0 m (λ k y. cond (ltb y.pass.current count) (look n cost y) y) x (omega arith) s
+    (λ k y l h z. cond_cases (ltb y.pass.current count) (Sized n) (look n cost y) y (λ t. look_sized n cost y z) (λ t. z))
 
 -- A pass keeps the sizes, over any of its rows.
-pub pass-sized : (n : ℕ) (cost : ℕ → ℕ → ℤ) (s : Stage) → Sized n (passStart s) → Sized n (rowReduction n cost s)
-unfolding rowReduction
-pass-sized n cost s z = looks-sized n cost s.count (passStart s) z (s.count * n)
+pub pass_sized : (n : ℕ) (cost : ℕ → ℕ → ℤ) (s : Stage) → Sized n (pass_start s) → Sized n (row_reduction n cost s)
+unfolding row_reduction
+pass_sized n cost s z = looks_sized n cost s.count (pass_start s) z (s.count * n)
 
 -- A pass over no rows asks for nothing but sizes.
-pub passable-none : (n : ℕ) (costs : List ℤ) (s : Stage) → Square n costs → Sized n (passStart s)
+pub passable_none : (n : ℕ) (costs : List ℤ) (s : Stage) → Square n costs → Sized n (pass_start s)
     → Passable n costs s.pairs.cols s.pairs.rows s.prices s.frees 0
-passable-none n costs s squared z = record {
+passable_none n costs s squared z = record {
   squared = squared;
   cols-size = z.cols-size;
   rows-size = z.rows-size;
@@ -123,10 +123,10 @@ module _ {n : ℕ} {costs : List ℤ} {cols rows : List ℕ} {v : List ℤ} {fre
   cost = (square n costs).cost
 
   abbrev begin : Passing
-  begin = passStart (stageAt cols rows v frees count)
+  begin = pass_start (stage_at cols rows v frees count)
 
-  pub head-start : Head n cost count begin begin
-  head-start = record { stands = sym (looks-none n cost count begin); most = omega arith }
+  pub head_start : Head n cost count begin begin
+  head_start = record { stands = sym (looks_none n cost count begin); most = omega arith }
 
   -- Where the pass stands after m turns.
   abbrev after : ℕ → Passing
@@ -136,7 +136,7 @@ module _ {n : ℕ} {costs : List ℤ} {cols rows : List ℕ} {v : List ℤ} {fre
     pub sized : Sized n y
     sized =
         subst (Sized n) (sym h.stands)
-        (looks-sized n cost count begin
+        (looks_sized n cost count begin
         (record { cols-size = p.cols-size; rows-size = p.rows-size; prices-size = p.prices-size; frees-size = p.frees-size; left-most = omega arith })
         y.pass.looks)
 
@@ -146,7 +146,7 @@ module _ {n : ℕ} {costs : List ℤ} {cols rows : List ℕ} {v : List ℤ} {fre
       here = subst (λ (z : Passing). z.pass.current < count) h.stands more
 
       pub below : y.pass.looks < count * n
-      unfolding rowReduction
+      unfolding row_reduction
       below = by (dec_lt y.pass.looks (count * n))
         where
           by : Dec (y.pass.looks < count * n) → y.pass.looks < count * n
@@ -167,9 +167,9 @@ module _ {n : ℕ} {costs : List ℤ} {cols rows : List ℕ} {v : List ℤ} {fre
             rows-size = sized.rows-size;
             prices-size = sized.prices-size;
             frees-size = sized.frees-size;
-            current-below = omega (arith, p.count_most);
+            current_below = omega (arith, p.count_most);
             left-most = sized.left-most;
-            looks-fit = omega (arith, below, mul-le-mul count_fits side-fits);
+            looks_fit = omega (arith, below, mul-le-mul count_fits side-fits);
             row_below = subst (λ (z : Passing). at z.frees z.pass.current < n) (sym h.stands) (p.row_below y.pass.looks below here);
             near-prices = subst (λ (z : Passing). Near n z.prices) (sym h.stands) (p.near-prices y.pass.looks below here);
           }
@@ -177,18 +177,18 @@ module _ {n : ℕ} {costs : List ℤ} {cols rows : List ℕ} {v : List ℤ} {fre
       counted : (z : Passing) → z ≡ look n cost y → z.pass.looks ≡ suc y.pass.looks
       counted z e = ap (λ (q : Passing). q.pass.looks) e ∙ look-counts n cost y sized ∙ add-one y.pass.looks
 
-      pub head-next : (z : Passing) → z ≡ look n cost y → Head n cost count begin z
-      head-next z e = record {
-        stands = e ∙ ap (look n cost) h.stands ∙ sym (looks-more n cost count begin y.pass.looks here) ∙ ap after (sym (counted z e));
+      pub head_next : (z : Passing) → z ≡ look n cost y → Head n cost count begin z
+      head_next z e = record {
+        stands = e ∙ ap (look n cost) h.stands ∙ sym (looks_more n cost count begin y.pass.looks here) ∙ ap after (sym (counted z e));
         most = omega (arith, counted z e, below);
       }
 
       pub nearer : (z : Passing) → z ≡ look n cost y → count * n - z.pass.looks < count * n - y.pass.looks
       nearer z e = omega (arith, counted z e, below)
 
-    pub head-ends : count ≤ y.pass.current → y ≡ rowReduction n cost (stageAt cols rows v frees count)
-    unfolding rowReduction
-    head-ends l =
+    pub head_ends : count ≤ y.pass.current → y ≡ row_reduction n cost (stage_at cols rows v frees count)
+    unfolding row_reduction
+    head_ends l =
         let m = y.pass.looks in
         let e : m + (count * n - m) ≡ count * n = omega (arith, h.most) in
         h.stands ∙ sym (looks-rest n cost count begin m (subst (λ (z : Passing). count ≤ z.pass.current) h.stands l) (count * n - m)) ∙ ap after e

@@ -6,55 +6,55 @@ use lib.IntN.{ℤ, pos}
 use lib.ListN.{length}
 use Rattle.lists.specs.Parts.{part}
 use Rattle.lists.specs.Permutations.{at, table}
-use Rattle.lists.proofs.Tables.{getD-table, table-getD, table-cong}
-use Rattle.assignment.specs.Pairings.{square, signedAt}
+use Rattle.lists.proofs.Tables.{get_d_table, table_get_d, table_cong}
+use Rattle.assignment.specs.Pairings.{square, signed_at}
 use Rattle.rules.specs.declared.Low.{Low}
 use Rattle.rules.specs.Lowest.{lowest}
-use Rattle.reduction.specs.Columns.{lowAt}
-use Rattle.reduction.proofs.Turns.{lower-cong, lowest-one, lowest-more}
+use Rattle.reduction.specs.Columns.{low_at}
+use Rattle.reduction.proofs.Turns.{lower_cong, lowest_one, lowest_more}
 use Rattle.reduction.proofs.RowParts.{row-length, row_at}
 
 module _ (n : ℕ) (costs : List ℤ) where
   -- The lowest of the first i rows in column j.
-  abbrev pub lowestOf : ℕ → ℕ → Low
-  lowestOf i j = lowest i (λ k. (square n costs).cost k j)
+  abbrev pub lowest_of : ℕ → ℕ → Low
+  lowest_of i j = lowest i (λ k. (square n costs).cost k j)
 
   -- Where each stands, and its value.
   abbrev pub places : ℕ → List ℕ
-  places i = table n (λ j. (lowestOf i j).place)
+  places i = table n (λ j. (lowest_of i j).place)
 
   abbrev pub values : ℕ → List ℤ
-  values i = table n (λ j. (lowestOf i j).value)
+  values i = table n (λ j. (lowest_of i j).value)
 
 module _ (n i : ℕ) (costs row : List ℤ) (inside : i < n) (size : length costs ≡ n * n) (is : row ≡ part (i * n) n costs) where
-  lowAt-is : 1 ≤ i → (rows : List ℕ) (v : List ℤ) → rows ≡ places n costs i → v ≡ values n costs i → (j : ℕ) → j < n
-      → lowAt i row v rows j ≡ lowestOf n costs (i + 1) j
-  lowAt-is one rows v e f j h =
-      let value : signedAt v j ≡ (lowestOf n costs i j).value = ap (λ (x : List ℤ). signedAt x j) f ∙ getD-table n (λ k. (lowestOf n costs i k).value) (pos 0) j h in
-      let place : at rows j ≡ (lowestOf n costs i j).place = ap (λ (x : List ℕ). at x j) e ∙ getD-table n (λ k. (lowestOf n costs i k).place) 0 j h in
-      let here : signedAt row j ≡ (square n costs).cost i j = row_at n i costs row inside size is j h in
-      lower-cong i value place here ∙ sym (lowest-more (λ k. (square n costs).cost k j) i one)
+  low_at_is : 1 ≤ i → (rows : List ℕ) (v : List ℤ) → rows ≡ places n costs i → v ≡ values n costs i → (j : ℕ) → j < n
+      → low_at i row v rows j ≡ lowest_of n costs (i + 1) j
+  low_at_is one rows v e f j h =
+      let value : signed_at v j ≡ (lowest_of n costs i j).value = ap (λ (x : List ℤ). signed_at x j) f ∙ get_d_table n (λ k. (lowest_of n costs i k).value) (pos 0) j h in
+      let place : at rows j ≡ (lowest_of n costs i j).place = ap (λ (x : List ℕ). at x j) e ∙ get_d_table n (λ k. (lowest_of n costs i k).place) 0 j h in
+      let here : signed_at row j ≡ (square n costs).cost i j = row_at n i costs row inside size is j h in
+      lower_cong i value place here ∙ sym (lowest_more (λ k. (square n costs).cost k j) i one)
 
   module _ (one : 1 ≤ i) (rows : List ℕ) (v : List ℤ) (e : rows ≡ places n costs i) (f : v ≡ values n costs i) where
-    pub places-more : table (length row) (λ j. (lowAt i row v rows j).place) ≡ places n costs (i + 1)
-    places-more =
-        ap (λ (m : ℕ). table m (λ j. (lowAt i row v rows j).place)) (row-length n i costs row inside size is)
-        ∙ table-cong n (λ j. (lowAt i row v rows j).place) (λ j. (lowestOf n costs (i + 1) j).place)
-        (λ j h. ap (λ (x : Low). x.place) (lowAt-is one rows v e f j h))
+    pub places_more : table (length row) (λ j. (low_at i row v rows j).place) ≡ places n costs (i + 1)
+    places_more =
+        ap (λ (m : ℕ). table m (λ j. (low_at i row v rows j).place)) (row-length n i costs row inside size is)
+        ∙ table_cong n (λ j. (low_at i row v rows j).place) (λ j. (lowest_of n costs (i + 1) j).place)
+        (λ j h. ap (λ (x : Low). x.place) (low_at_is one rows v e f j h))
 
-    pub values-more : table (length row) (λ j. (lowAt i row v rows j).value) ≡ values n costs (i + 1)
-    values-more =
-        ap (λ (m : ℕ). table m (λ j. (lowAt i row v rows j).value)) (row-length n i costs row inside size is)
-        ∙ table-cong n (λ j. (lowAt i row v rows j).value) (λ j. (lowestOf n costs (i + 1) j).value)
-        (λ j h. ap (λ (x : Low). x.value) (lowAt-is one rows v e f j h))
+    pub values_more : table (length row) (λ j. (low_at i row v rows j).value) ≡ values n costs (i + 1)
+    values_more =
+        ap (λ (m : ℕ). table m (λ j. (low_at i row v rows j).value)) (row-length n i costs row inside size is)
+        ∙ table_cong n (λ j. (low_at i row v rows j).value) (λ j. (lowest_of n costs (i + 1) j).value)
+        (λ j h. ap (λ (x : Low). x.value) (low_at_is one rows v e f j h))
 
 module _ (n : ℕ) (costs row : List ℤ) (inside : 0 < n) (size : length costs ≡ n * n) (is : row ≡ part (0 * n) n costs) where
-  pub places-one : table n (λ j. 0) ≡ places n costs 1
-  places-one =
-      table-cong n (λ j. 0) (λ j. (lowestOf n costs 1 j).place) (λ j h. sym (ap (λ (x : Low). x.place) (lowest-one (λ k. (square n costs).cost k j))))
+  pub places_one : table n (λ j. 0) ≡ places n costs 1
+  places_one =
+      table_cong n (λ j. 0) (λ j. (lowest_of n costs 1 j).place) (λ j h. sym (ap (λ (x : Low). x.place) (lowest_one (λ k. (square n costs).cost k j))))
 
   pub values_one : row ≡ values n costs 1
   values_one =
-      sym (table-getD row (pos 0)) ∙ ap (λ (m : ℕ). table m (signedAt row)) (row-length n 0 costs row inside size is)
-      ∙ table-cong n (signedAt row) (λ j. (lowestOf n costs 1 j).value)
-      (λ j h. row_at n 0 costs row inside size is j h ∙ sym (ap (λ (x : Low). x.value) (lowest-one (λ k. (square n costs).cost k j))))
+      sym (table_get_d row (pos 0)) ∙ ap (λ (m : ℕ). table m (signed_at row)) (row-length n 0 costs row inside size is)
+      ∙ table_cong n (signed_at row) (λ j. (lowest_of n costs 1 j).value)
+      (λ j h. row_at n 0 costs row inside size is j h ∙ sym (ap (λ (x : Low). x.value) (lowest_one (λ k. (square n costs).cost k j))))

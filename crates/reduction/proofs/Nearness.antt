@@ -8,39 +8,39 @@ use mir.Syntax.{w64}
 use mir.Val.{SFits}
 use Rattle.ints.specs.Parts.{Within}
 use Rattle.ints.proofs.Shapes.{zlin}
-use Rattle.assignment.specs.Pairings.{square, signedAt}
+use Rattle.assignment.specs.Pairings.{square, signed_at}
 use Rattle.rules.specs.declared.Low.{Low}
 use Rattle.rules.specs.declared.TwoLowest.{TwoLowest}
 use Rattle.rules.specs.declared.TwoLowest.TheVariants.{One, Two}
 use Rattle.rules.specs.declared.LeastSoFar.{LeastSoFar}
 use Rattle.rules.specs.declared.LeastSoFar.TheVariants.{NoneYet, Of}
-use Rattle.rules.specs.Lowest.{reduced, twoLowest, leastBut}
-use Rattle.rules.proofs.Lowest.{RightTwo, twoLowest-is, RightBut, leastBut-is}
+use Rattle.rules.specs.Lowest.{reduced, two_lowest, least_but}
+use Rattle.rules.proofs.Lowest.{RightTwo, two_lowest_is, RightBut, least_but_is}
 use Rattle.matrix.specs.Limits.{near}
 use Rattle.reduction.specs.Ranges.{Near, Square}
 use Rattle.reduction.specs.Columns.{NearLeast}
 use Rattle.reduction.specs.Rows.{Inside}
 
-pub twice-fits : {z : ℤ} → Within (near + near) z → SFits w64 z
-twice-fits {z} h = omega zlin
+pub twice_fits : {z : ℤ} → Within (near + near) z → SFits w64 z
+twice_fits {z} h = omega zlin
 
 module _ (n : ℕ) (costs v : List ℤ) (s : Square n costs) (prices : Near n v) where
-  reduced-near : (i j : ℕ) (z : ℤ) → i < n → j < n → z ≡ reduced (square n costs).cost (signedAt v) i j → Within (near + near) z
+  reduced-near : (i j : ℕ) (z : ℤ) → i < n → j < n → z ≡ reduced (square n costs).cost (signed_at v) i j → Within (near + near) z
   reduced-near i j z li lj e = omega (zlin, s.near-costs i j li lj, prices j lj)
 
   module _ (i : ℕ) (li : i < n) where
-    two-near : (two : TwoLowest) → 1 ≤ n → RightTwo (reduced (square n costs).cost (signedAt v) i) n two → Inside n two
-    two-near (One a) one r = omega (arith, ap (λ (x : Low). x.place) r.1)
-    two-near (Two a b) one r =
-        (r.first-inside, r.second-inside, reduced-near i a.place a.value li r.first-inside r.first-is, reduced-near i b.place b.value li r.second-inside r.second_is)
+    two_near : (two : TwoLowest) → 1 ≤ n → RightTwo (reduced (square n costs).cost (signed_at v) i) n two → Inside n two
+    two_near (One a) one r = omega (arith, ap (λ (x : Low). x.place) r.1)
+    two_near (Two a b) one r =
+        (r.first-inside, r.second-inside, reduced-near i a.place a.value li r.first-inside r.first_is, reduced-near i b.place b.value li r.second-inside r.second_is)
 
-    pub twoLowest-near : Inside n (twoLowest n (reduced (square n costs).cost (signedAt v) i))
-    twoLowest-near =
-        two-near (twoLowest n (reduced (square n costs).cost (signedAt v) i)) (omega arith) (twoLowest-is n (reduced (square n costs).cost (signedAt v) i) (omega arith))
+    pub two_lowest-near : Inside n (two_lowest n (reduced (square n costs).cost (signed_at v) i))
+    two_lowest-near =
+        two_near (two_lowest n (reduced (square n costs).cost (signed_at v) i)) (omega arith) (two_lowest_is n (reduced (square n costs).cost (signed_at v) i) (omega arith))
 
-    least-near : (j : ℕ) (o : LeastSoFar) → RightBut (reduced (square n costs).cost (signedAt v) i) j n o → NearLeast o
+    least-near : (j : ℕ) (o : LeastSoFar) → RightBut (reduced (square n costs).cost (signed_at v) i) j n o → NearLeast o
     least-near j NoneYet r = tt
     least-near j (Of b) r = reduced-near i r.one.0 b li r.one.1 r.one.3
 
-    pub leastBut-near : (j : ℕ) → NearLeast (leastBut n (reduced (square n costs).cost (signedAt v) i) j)
-    leastBut-near j = least-near j (leastBut n (reduced (square n costs).cost (signedAt v) i) j) (leastBut-is n (reduced (square n costs).cost (signedAt v) i) j)
+    pub least_but-near : (j : ℕ) → NearLeast (least_but n (reduced (square n costs).cost (signed_at v) i) j)
+    least_but-near j = least-near j (least_but n (reduced (square n costs).cost (signed_at v) i) j) (least_but_is n (reduced (square n costs).cost (signed_at v) i) j)

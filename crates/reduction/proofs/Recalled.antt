@@ -13,27 +13,27 @@ use Rattle.lists.proofs.Cases.{cond_cases}
 use Rattle.rules.specs.declared.Low.{Low}
 use Rattle.rules.specs.declared.TwoLowest.{TwoLowest}
 use Rattle.rules.specs.declared.TwoLowest.TheVariants.{Two}
-use Rattle.rules.specs.Lowest.{low, twoLowest}
-use Rattle.reduction.specs.Candidates.{Before, FirstTwo, Candidates, standsBefore, comesBefore, besideTwo, firstTwo, settled}
-use Rattle.reduction.proofs.Order.{before-below, before-left, before-trans, first-two-found}
+use Rattle.rules.specs.Lowest.{low, two_lowest}
+use Rattle.reduction.specs.Candidates.{Before, FirstTwo, Candidates, stands_before, comes_before, beside_two, first_two, settled}
+use Rattle.reduction.proofs.Order.{before-below, before-left, before_trans, first_two_found}
 
 -- ---- the order by its test
 
-stands-before : (x y : Low) → standsBefore x y ≡ true → x.place < y.place
-stands-before x y e = ltb-true x.place y.place e
+stands_before_lem : (x y : Low) → stands_before x y ≡ true → x.place < y.place
+stands_before_lem x y e = ltb-true x.place y.place e
 
-stands_after : (x y : Low) → x.place ≢ y.place → standsBefore x y ≡ false → y.place < x.place
+stands_after : (x y : Low) → x.place ≢ y.place → stands_before x y ≡ false → y.place < x.place
 stands_after x y d e = omega (arith, ltb-false x.place y.place e, d)
 
 module _ (f : ℕ → ℤ) (a b : ℕ) where
-  comes-before : comesBefore (low (f a) a) (low (f b) b) ≡ true → Before f a b
-  comes-before =
+  comes_before_lem : comes_before (low (f a) a) (low (f b) b) ≡ true → Before f a b
+  comes_before_lem =
       cond_cases (lt_z (f a) (f b)) (λ (t : Bool). t ≡ true → Before f a b) true _ (λ h e. before-below (omega zarith))
       (λ h. cond_cases (lt_z (f b) (f a)) (λ (t : Bool). t ≡ true → Before f a b) false _ (λ k e. absurd (true≢false (sym e)))
-      (λ k e. before-left (stands-before (low (f a) a) (low (f b) b) e) (omega zarith)))
+      (λ k e. before-left (stands_before_lem (low (f a) a) (low (f b) b) e) (omega zarith)))
 
-  comes-after : a ≢ b → comesBefore (low (f a) a) (low (f b) b) ≡ false → Before f b a
-  comes-after d =
+  comes_after : a ≢ b → comes_before (low (f a) a) (low (f b) b) ≡ false → Before f b a
+  comes_after d =
       cond_cases (lt_z (f a) (f b)) (λ (t : Bool). t ≡ false → Before f b a) true _ (λ h e. absurd (true≢false e))
       (λ h. cond_cases (lt_z (f b) (f a)) (λ (t : Bool). t ≡ false → Before f b a) false _ (λ k e. before-below (omega zarith))
       (λ k e. before-left (stands_after (low (f a) a) (low (f b) b) d e) (omega zarith)))
@@ -42,49 +42,49 @@ module _ (f : ℕ → ℤ) (a b : ℕ) where
 
 module _ {n p q r : ℕ} {w : ℤ} where
   -- What bounds the others bounds them as they rise.
-  pub candidates-rise : {f g : ℕ → ℤ} → Candidates g n p q r w → ((k : ℕ) → k < n → g k ≤ℤ f k) → Candidates f n p q r w
-  candidates-rise c up = record {
-    p-inside = c.p-inside;
-    q-inside = c.q-inside;
-    r-inside = c.r-inside;
-    p-q = c.p-q;
-    p-r = c.p-r;
-    q-r = c.q-r;
+  pub candidates_rise : {f g : ℕ → ℤ} → Candidates g n p q r w → ((k : ℕ) → k < n → g k ≤ℤ f k) → Candidates f n p q r w
+  candidates_rise c up = record {
+    p_inside = c.p_inside;
+    q_inside = c.q_inside;
+    r_inside = c.r_inside;
+    p_q = c.p_q;
+    p_r = c.p_r;
+    q_r = c.q_r;
     others = λ k l d e h. omega (zarith, c.others k l d e h, up k l);
   }
 
   -- In another order.
-  pub candidates-qpr : {f : ℕ → ℤ} → Candidates f n p q r w → Candidates f n q p r w
-  candidates-qpr c = record {
-    p-inside = c.q-inside;
-    q-inside = c.p-inside;
-    r-inside = c.r-inside;
-    p-q = λ e. c.p-q (sym e);
-    p-r = c.q-r;
-    q-r = c.p-r;
+  pub candidates_qpr : {f : ℕ → ℤ} → Candidates f n p q r w → Candidates f n q p r w
+  candidates_qpr c = record {
+    p_inside = c.q_inside;
+    q_inside = c.p_inside;
+    r_inside = c.r_inside;
+    p_q = λ e. c.p_q (sym e);
+    p_r = c.q_r;
+    q_r = c.p_r;
     others = λ k l d e h. c.others k l e d h;
   }
 
-  pub candidates-prq : {f : ℕ → ℤ} → Candidates f n p q r w → Candidates f n p r q w
-  candidates-prq c = record {
-    p-inside = c.p-inside;
-    q-inside = c.r-inside;
-    r-inside = c.q-inside;
-    p-q = c.p-r;
-    p-r = c.p-q;
-    q-r = λ e. c.q-r (sym e);
+  pub candidates_prq : {f : ℕ → ℤ} → Candidates f n p q r w → Candidates f n p r q w
+  candidates_prq c = record {
+    p_inside = c.p_inside;
+    q_inside = c.r_inside;
+    r_inside = c.q_inside;
+    p_q = c.p_r;
+    p_r = c.p_q;
+    q_r = λ e. c.q_r (sym e);
     others = λ k l d e h. c.others k l d h e;
   }
 
   -- The second of them is below all others: the first two of them are the first two of all.
-  candidates-first : {f : ℕ → ℤ} → Candidates f n p q r w → Before f p q → Before f q r → f q <ℤ w → FirstTwo f n p q
-  candidates-first {f} c pq qr low-enough = record {
-    first-inside = c.p-inside;
-    second-inside = c.q-inside;
-    apart = c.p-q;
+  candidates_first : {f : ℕ → ℤ} → Candidates f n p q r w → Before f p q → Before f q r → f q <ℤ w → FirstTwo f n p q
+  candidates_first {f} c pq qr low-enough = record {
+    first-inside = c.p_inside;
+    second-inside = c.q_inside;
+    apart = c.p_q;
     first = λ k l d. elim (ℕ_discrete k q) [
       | yes e ↦ subst (Before f p) (sym e) pq
-      | no e ↦ before-trans pq (second k l d e)
+      | no e ↦ before_trans pq (second k l d e)
     ];
     second = second;
   }
@@ -100,30 +100,30 @@ module _ {n p q r : ℕ} {w : ℤ} where
 -- As code puts them in order: where the second is below the limit they are the two lowest.
 module _ (n : ℕ) (f : ℕ → ℤ) (limit : ℤ) where
   abbrev Settles : TwoLowest → Type 0
-  Settles two = settled two limit ≡ true → two ≡ twoLowest n f
+  Settles two = settled two limit ≡ true → two ≡ two_lowest n f
 
-  candidates-settle : {p q r : ℕ} → Candidates f n p q r limit → Before f p q → Before f q r → Settles (Two (low (f p) p) (low (f q) q))
-  candidates-settle c pq qr below = sym (first-two-found (candidates-first c pq qr (omega zarith)))
+  candidates_settle : {p q r : ℕ} → Candidates f n p q r limit → Before f p q → Before f q r → Settles (Two (low (f p) p) (low (f q) q))
+  candidates_settle c pq qr below = sym (first_two_found (candidates_first c pq qr (omega zarith)))
 
-  beside-settles : (p q r : ℕ) → Candidates f n p q r limit → Before f p q → Settles (besideTwo (low (f p) p) (low (f q) q) (low (f r) r))
-  beside-settles p q r c pq =
+  beside_settles : (p q r : ℕ) → Candidates f n p q r limit → Before f p q → Settles (beside_two (low (f p) p) (low (f q) q) (low (f r) r))
+  beside_settles p q r c pq =
       let x = low (f p) p in
       let y = low (f q) q in
       let z = low (f r) r in
-      cond_cases (comesBefore z y) Settles (cond (comesBefore z x) (Two z x) (Two x z)) (Two x y)
-      (λ t. cond_cases (comesBefore z x) Settles (Two z x) (Two x z)
-      (λ u. candidates-settle (candidates-qpr (candidates-prq c)) (comes-before f r p u) pq)
-      (λ u. candidates-settle (candidates-prq c) (comes-after f r p (λ e. c.p-r (sym e)) u) (comes-before f r q t)))
-      (λ t. candidates-settle c pq (comes-after f r q (λ e. c.q-r (sym e)) t))
+      cond_cases (comes_before z y) Settles (cond (comes_before z x) (Two z x) (Two x z)) (Two x y)
+      (λ t. cond_cases (comes_before z x) Settles (Two z x) (Two x z)
+      (λ u. candidates_settle (candidates_qpr (candidates_prq c)) (comes_before_lem f r p u) pq)
+      (λ u. candidates_settle (candidates_prq c) (comes_after f r p (λ e. c.p_r (sym e)) u) (comes_before_lem f r q t)))
+      (λ t. candidates_settle c pq (comes_after f r q (λ e. c.q_r (sym e)) t))
 
-  pub first-two-settles : (p q r : ℕ) → Candidates f n p q r limit → Settles (firstTwo (low (f p) p) (low (f q) q) (low (f r) r))
-  first-two-settles p q r c =
+  pub first_two_settles : (p q r : ℕ) → Candidates f n p q r limit → Settles (first_two (low (f p) p) (low (f q) q) (low (f r) r))
+  first_two_settles p q r c =
       let x = low (f p) p in
       let y = low (f q) q in
       let z = low (f r) r in
-      cond_cases (comesBefore y x) Settles (besideTwo y x z) (besideTwo x y z)
-      (λ t. beside-settles q p r (candidates-qpr c) (comes-before f q p t))
-      (λ t. beside-settles p q r c (comes-after f q p (λ e. c.p-q (sym e)) t))
+      cond_cases (comes_before y x) Settles (beside_two y x z) (beside_two x y z)
+      (λ t. beside_settles q p r (candidates_qpr c) (comes_before_lem f q p t))
+      (λ t. beside_settles p q r c (comes_after f q p (λ e. c.p_q (sym e)) t))
 
-pub first-two-cong : {x y z a b c : Low} → x ≡ a → y ≡ b → z ≡ c → firstTwo x y z ≡ firstTwo a b c
-first-two-cong p q r = cc
+pub first_two_cong : {x y z a b c : Low} → x ≡ a → y ≡ b → z ≡ c → first_two x y z ≡ first_two a b c
+first_two_cong p q r = cc

@@ -5,7 +5,7 @@ use Prim.Native.Nat.{ℕ, ◌+◌, ◌-◌, ◌*◌}
 use native.Mathlib.Omega.{arith}
 use lib.ListN.{length, take, drop}
 use Rattle.lists.specs.Parts.{part, replaced}
-use Rattle.lists.proofs.Parts.{part_length, replaced-length, replaced-part, replaced-part-before, replaced-part-after, lent_back, front-lent}
+use Rattle.lists.proofs.Parts.{part_length, replaced-length, replaced-part, replaced_part_before, replaced_part_after, lent_back, front_lent_lem}
 
 module _ (n : ℕ) (room : List ℕ) (size : length room ≡ n + n + n + n) where
   rest : 4 * n - n ≡ n + n + n
@@ -20,41 +20,41 @@ module _ (n : ℕ) (room : List ℕ) (size : length room ≡ n + n + n + n) wher
 
   module _ (kept : List ℕ) (kept-size : length kept ≡ n + n + n) where
     -- The room in which the back came back as `kept`.
-    abbrev pub backReturned : List ℕ
-    backReturned = take n room ++ (kept ++ drop (4 * n - n) (drop n room))
+    abbrev pub back_returned : List ℕ
+    back_returned = take n room ++ (kept ++ drop (4 * n - n) (drop n room))
 
-    back_is : backReturned ≡ replaced n kept room
+    back_is : back_returned ≡ replaced n kept room
     back_is = lent_back n (4 * n) kept room (kept-size ∙ sym rest)
 
-    back-size : length backReturned ≡ n + n + n + n
+    back-size : length back_returned ≡ n + n + n + n
     back-size = ap length back_is ∙ replaced-length n kept room (omega arith) ∙ size
 
     -- Its front, as it is lent, is the front that it was.
-    pub front-left : take (n - 0) (drop 0 backReturned) ≡ part 0 n room
-    front-left = front-lent n backReturned ∙ ap (part 0 n) back_is ∙ replaced-part-before n kept room (omega arith) 0 n (omega arith)
+    pub front_left : take (n - 0) (drop 0 back_returned) ≡ part 0 n room
+    front_left = front_lent_lem n back_returned ∙ ap (part 0 n) back_is ∙ replaced_part_before n kept room (omega arith) 0 n (omega arith)
 
-    back-part : part n (n + n + n) backReturned ≡ kept
+    back-part : part n (n + n + n) back_returned ≡ kept
     back-part =
         ap (part n (n + n + n)) back_is ∙ ap (λ (k : ℕ). part n k (replaced n kept room)) (sym kept-size)
         ∙ replaced-part n kept room (omega arith)
 
     module _ (frees : List ℕ) (frees-size : length frees ≡ n) where
       -- The room in which the front came back too.
-      abbrev pub frontReturned : List ℕ
-      frontReturned = take 0 backReturned ++ (frees ++ drop (n - 0) (drop 0 backReturned))
+      abbrev pub front_returned : List ℕ
+      front_returned = take 0 back_returned ++ (frees ++ drop (n - 0) (drop 0 back_returned))
 
-      front-is : frontReturned ≡ replaced 0 frees backReturned
-      front-is = lent_back 0 n frees backReturned (omega arith)
+      front_is : front_returned ≡ replaced 0 frees back_returned
+      front_is = lent_back 0 n frees back_returned (omega arith)
 
-      pub front-size : length frontReturned ≡ n + n + n + n
-      front-size = ap length front-is ∙ replaced-length 0 frees backReturned (omega (arith, back-size)) ∙ back-size
+      pub front_size : length front_returned ≡ n + n + n + n
+      front_size = ap length front_is ∙ replaced-length 0 frees back_returned (omega (arith, back-size)) ∙ back-size
 
-      pub front-part : part 0 n frontReturned ≡ frees
-      front-part =
-          ap (part 0 n) front-is ∙ ap (λ (k : ℕ). part 0 k (replaced 0 frees backReturned)) (sym frees-size)
-          ∙ replaced-part 0 frees backReturned (omega (arith, back-size))
+      pub front_part : part 0 n front_returned ≡ frees
+      front_part =
+          ap (part 0 n) front_is ∙ ap (λ (k : ℕ). part 0 k (replaced 0 frees back_returned)) (sym frees-size)
+          ∙ replaced-part 0 frees back_returned (omega (arith, back-size))
 
-      pub back-left : part n (n + n + n) frontReturned ≡ kept
+      pub back-left : part n (n + n + n) front_returned ≡ kept
       back-left =
-          ap (part n (n + n + n)) front-is
-          ∙ replaced-part-after 0 frees backReturned (omega (arith, back-size)) n (n + n + n) (omega arith) ∙ back-part
+          ap (part n (n + n + n)) front_is
+          ∙ replaced_part_after 0 frees back_returned (omega (arith, back-size)) n (n + n + n) (omega arith) ∙ back-part

@@ -10,48 +10,48 @@ use lib.ListN.{length, set, length-set}
 use lib.Seq.{get_or-set_same, get_or-set_other}
 use lib.Signed.{lt_z}
 use Rattle.lists.specs.Permutations.{at}
-use Rattle.assignment.specs.Pairings.{signedAt}
+use Rattle.assignment.specs.Pairings.{signed_at}
 use Rattle.rules.specs.declared.TwoLowest.{TwoLowest}
 use Rattle.rules.specs.declared.TwoLowest.TheVariants.{Two}
-use Rattle.rules.specs.Lowest.{twoLowest}
+use Rattle.rules.specs.Lowest.{two_lowest}
 use Rattle.reduction.specs.declared.candidates.Three.{Three}
 use Rattle.reduction.specs.Candidates.{FoundThree, seen, settled, recalled, Recallable, Roomy, Keeps, Told}
-use Rattle.reduction.proofs.FirstThree.{three-two}
-use Rattle.reduction.proofs.Recalled.{first-two-settles}
+use Rattle.reduction.proofs.FirstThree.{three_two}
+use Rattle.reduction.proofs.Recalled.{first_two_settles}
 
 -- The same candidates in a room that holds the same at row k.
 keeps_same : (g : ℕ → ℤ) (n k : ℕ) (kept kept' : List ℕ) (limits limits' : List ℤ) → at kept' (3 * k) ≡ at kept (3 * k) → at kept' (3 * k + 1) ≡ at kept (3 * k + 1)
-    → at kept' (3 * k + 2) ≡ at kept (3 * k + 2) → signedAt limits' k ≡ signedAt limits k → Keeps g n k kept limits → Keeps g n k kept' limits'
+    → at kept' (3 * k + 2) ≡ at kept (3 * k + 2) → signed_at limits' k ≡ signed_at limits k → Keeps g n k kept limits → Keeps g n k kept' limits'
 keeps_same g n k kept kept' limits limits' p q r w keeps = rw (p, q, r, w) keeps
 
 -- ---- nothing is stored
 
 module _ {f : ℕ → ℤ} {n i : ℕ} {kept : List ℕ} {limits : List ℤ} {two : TwoLowest} where
-  pub told-left : two ≡ twoLowest n f → Keeps f n i kept limits → Told f n i kept limits kept limits two
-  told-left e keeps = record { two-are = e; own = keeps; others = λ g k d h. h }
+  pub told-left : two ≡ two_lowest n f → Keeps f n i kept limits → Told f n i kept limits kept limits two
+  told-left e keeps = record { two_are = e; own = keeps; others = λ g k d h. h }
 
   -- The three columns settle it.
-  pub told-settled : Keeps f n i kept limits → lt_z (signedAt limits i) seen ≡ true → two ≡ recalled f i kept → settled two (signedAt limits i) ≡ true
+  pub told-settled : Keeps f n i kept limits → lt_z (signed_at limits i) seen ≡ true → two ≡ recalled f i kept → settled two (signed_at limits i) ≡ true
       → Told f n i kept limits kept limits two
   told-settled keeps is-limit e below =
       told-left
-      (e ∙ first-two-settles n f (signedAt limits i) (at kept (3 * i)) (at kept (3 * i + 1)) (at kept (3 * i + 2)) (keeps is-limit)
-      (ap (λ (t : TwoLowest). settled t (signedAt limits i)) (sym e) ∙ below))
+      (e ∙ first_two_settles n f (signed_at limits i) (at kept (3 * i)) (at kept (3 * i + 1)) (at kept (3 * i + 2)) (keeps is-limit)
+      (ap (λ (t : TwoLowest). settled t (signed_at limits i)) (sym e) ∙ below))
       keeps
 
   -- A first look leaves a mark.
-  pub told-seen : two ≡ twoLowest n f → i < length limits → Told f n i kept limits kept (set limits i seen) two
+  pub told-seen : two ≡ two_lowest n f → i < length limits → Told f n i kept limits kept (set limits i seen) two
   told-seen e l = record {
-    two-are = e;
+    two_are = e;
     own = λ h. absurd (true≢false (sym h ∙ ap (λ (w : ℤ). lt_z w seen) (get_or-set_same limits i seen (pos 0) l)));
     others = λ g k d h. keeps_same g n k kept kept limits (set limits i seen) refl refl refl (get_or-set_other limits i k seen (pos 0) d) h;
   }
 
-pub recallable : {f : ℕ → ℤ} {n i : ℕ} {kept : List ℕ} {limits : List ℤ} → Roomy n kept limits → i < n → Keeps f n i kept limits → lt_z (signedAt limits i) seen ≡ true
+pub recallable : {f : ℕ → ℤ} {n i : ℕ} {kept : List ℕ} {limits : List ℤ} → Roomy n kept limits → i < n → Keeps f n i kept limits → lt_z (signed_at limits i) seen ≡ true
     → Recallable n i kept
 recallable r l keeps is-limit =
     let c = keeps is-limit in
-    record { fits = omega (arith, r.kept-size); p-inside = c.p-inside; q-inside = c.q-inside; r-inside = c.r-inside }
+    record { fits = omega (arith, r.kept-size); p_inside = c.p_inside; q_inside = c.q_inside; r_inside = c.r_inside }
 
 -- ---- a row is read
 
@@ -77,8 +77,8 @@ module _ (kept : List ℕ) (i p q r : ℕ) where
         get_or-set_other (set (set kept (3 * i) p) (3 * i + 1) q) (3 * i + 2) (3 * i + 1) r 0 (λ e. omega arith)
         ∙ get_or-set_same (set kept (3 * i) p) (3 * i + 1) q 0 (omega (arith, length-set kept (3 * i) p))
 
-    third-stored : at stored (3 * i + 2) ≡ r
-    third-stored =
+    third_stored : at stored (3 * i + 2) ≡ r
+    third_stored =
         get_or-set_same (set (set kept (3 * i) p) (3 * i + 1) q) (3 * i + 2) r 0
         (omega (arith, length-set (set kept (3 * i) p) (3 * i + 1) q, length-set kept (3 * i) p))
 
@@ -89,10 +89,10 @@ told-read f n i kept limits t w room l found e =
     let q = t.second.place in
     let r = t.third.place in
     let fits : 3 * i + 2 < length kept = omega (arith, room.kept-size) in
-    let limit_is : signedAt (set limits i w) i ≡ t.limit = get_or-set_same limits i w (pos 0) (omega (arith, room.limits-size)) ∙ e in
+    let limit_is : signed_at (set limits i w) i ≡ t.limit = get_or-set_same limits i w (pos 0) (omega (arith, room.limits-size)) ∙ e in
     record {
-      two-are = three-two f n t found;
-      own = λ h. rw (first-stored kept i p q r fits, second-stored kept i p q r fits, third-stored kept i p q r fits, limit_is) found.places.kept;
+      two_are = three_two f n t found;
+      own = λ h. rw (first-stored kept i p q r fits, second-stored kept i p q r fits, third_stored kept i p q r fits, limit_is) found.places.kept;
       others = λ g k d. keeps_same g n k kept (stored kept i p q r) limits (set limits i w)
           (elsewhere kept i p q r (3 * k) (λ z. omega arith) (λ z. omega arith) (λ z. omega arith))
           (elsewhere kept i p q r (3 * k + 1) (λ z. omega arith) (λ z. omega arith) (λ z. omega arith))

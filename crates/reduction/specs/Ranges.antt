@@ -2,12 +2,12 @@
 use Rattle.std.specs.Prelude.{◌≡◌, List, true, false, ℕ, ◌*◌, ◌≤◌, ◌<◌, ℤ, length}
 use Rattle.std.specs.Int.Signed.{lt_z}
 use Rattle.ints.specs.Parts.{Within}
-use Rattle.assignment.specs.Pairings.{square, signedAt}
+use Rattle.assignment.specs.Pairings.{square, signed_at}
 use Rattle.matrix.specs.Limits.{side, near}
 
 -- The first n prices of a list are near.
 abbrev pub Near : ℕ → List ℤ → Type 0
-Near n v = (j : ℕ) → j < n → Within near (signedAt v j)
+Near n v = (j : ℕ) → j < n → Within near (signed_at v j)
 
 -- The costs of a square night: its side is within the limit, and its costs are near.
 pub record Square (n : ℕ) (costs : List ℤ) : Type 0 where

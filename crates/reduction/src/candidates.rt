@@ -6,10 +6,10 @@
 // can arise. Otherwise the row is read again. What is kept of one row does not depend on what is kept of another.
 ghost use Rattle.std.specs.Prelude.{◌≡◌, ◌^◌, ◌≤◌, ◌<◌, ◌-ℤ◌, length};
 ghost use Rattle.lists.specs.Permutations.{table};
-ghost use Rattle.assignment.specs.Pairings.{signedAt};
+ghost use Rattle.assignment.specs.Pairings.{signed_at};
 ghost use Rattle.rules.specs.Lowest.{low};
 ghost use Rattle.reduction.specs.Ranges.{Near, Priced};
-ghost use Rattle.reduction.specs.Candidates.{FoundThree, startThree, insert, comesBefore, besideTwo, firstTwo, settled, Recallable, recalled, unseen, Roomy, Keeps, Told};
+ghost use Rattle.reduction.specs.Candidates.{FoundThree, start_three, insert, comes_before, beside_two, first_two, settled, Recallable, recalled, unseen, Roomy, Keeps, Told};
 
 use rules::{Low, TwoLowest};
 
@@ -34,7 +34,7 @@ const UNSEEN: i64 = 4611686018427387905;
 // The reduced cost of column j at its place.
 fn low_at(row: &[i32], v: &[i64], j: usize) -> Low
     requires { (length v.now ≡ length row.now) × Near (length row.now) v.now × (j < length row.now) }
-    ensures { result ≡ low (signedAt row.now j -ℤ signedAt v.now j) j }
+    ensures { result ≡ low (signed_at row.now j -ℤ signed_at v.now j) j }
 {
     Low {
         value: matrix::rows::reduced_cost(row[j], v[j]),
@@ -44,7 +44,7 @@ fn low_at(row: &[i32], v: &[i64], j: usize) -> Low
 
 // Column 2, z, beside columns 0 and 1, of which x comes first.
 fn start(x: Low, y: Low, z: Low) -> Three
-    ensures { result ≡ startThree x y z }
+    ensures { result ≡ start_three x y z }
 {
     if z.value < y.value {
         if z.value < x.value {
@@ -125,7 +125,7 @@ fn limit(three: Three) -> i64
 // The three lowest of a row that has three, and their limit. The columns that are not below the limit are passed over.
 fn find_three(row: &[i32], v: &[i64]) -> Three
     requires { Priced row.now v.now × (3 ≤ length row.now) }
-    ensures { FoundThree (λ j. signedAt row.now j -ℤ signedAt v.now j) (length row.now) result }
+    ensures { FoundThree (λ j. signed_at row.now j -ℤ signed_at v.now j) (length row.now) result }
 {
     let two = super::lowest::beside(low_at(row, v, 0), low_at(row, v, 1));
     let lowest = two.lowest;
@@ -141,7 +141,7 @@ fn find_three(row: &[i32], v: &[i64]) -> Three
 
 // Whether x comes before y: by value, then place.
 fn comes_before(x: Low, y: Low) -> bool
-    ensures { result ≡ comesBefore x y }
+    ensures { result ≡ comes_before x y }
 {
     if x.value < y.value {
         true
@@ -154,7 +154,7 @@ fn comes_before(x: Low, y: Low) -> bool
 
 // The first two of x, y and z, where x comes before y.
 fn beside_two(x: Low, y: Low, z: Low) -> TwoLowest
-    ensures { result ≡ besideTwo x y z }
+    ensures { result ≡ beside_two x y z }
 {
     if comes_before(z, y) {
         if comes_before(z, x) {
@@ -169,7 +169,7 @@ fn beside_two(x: Low, y: Low, z: Low) -> TwoLowest
 
 // The first two of three.
 fn first_two(x: Low, y: Low, z: Low) -> TwoLowest
-    ensures { result ≡ firstTwo x y z }
+    ensures { result ≡ first_two x y z }
 {
     if comes_before(y, x) {
         beside_two(y, x, z)
@@ -191,7 +191,7 @@ fn settled(two: TwoLowest, limit: i64) -> bool
 // The first two, at these prices, of the columns kept of row i.
 fn recall(row: &[i32], v: &[i64], i: usize, kept: &[u32]) -> TwoLowest
     requires { Priced row.now v.now × Recallable (length row.now) i kept.now }
-    ensures { result ≡ recalled (λ j. signedAt row.now j -ℤ signedAt v.now j) i kept.now }
+    ensures { result ≡ recalled (λ j. signed_at row.now j -ℤ signed_at v.now j) i kept.now }
 {
     let p = kept[3 * i] as usize;
     let q = kept[3 * i + 1] as usize;
@@ -202,7 +202,7 @@ fn recall(row: &[i32], v: &[i64], i: usize, kept: &[u32]) -> TwoLowest
 // Row i is read, and what is found is kept.
 fn read(row: &[i32], v: &[i64], i: usize, kept: &mut [u32], limits: &mut [i64]) -> TwoLowest
     requires { Priced row.now v.now × (3 ≤ length row.now) × Roomy (length row.now) kept.old limits.old × (i < length row.now) × (length row.now ≤ 2 ^ 32) }
-    ensures { Told (λ j. signedAt row.now j -ℤ signedAt v.now j) (length row.now) i kept.old limits.old kept.new limits.new result }
+    ensures { Told (λ j. signed_at row.now j -ℤ signed_at v.now j) (length row.now) i kept.old limits.old kept.new limits.new result }
 {
     let three = find_three(row, v);
     let first = three.first;
@@ -234,8 +234,8 @@ pub fn two_lowest(
     kept: &mut [u32],
     limits: &mut [i64],
 ) -> TwoLowest
-    requires { Priced row.now v.now × Roomy (length row.now) kept.old limits.old × (i < length row.now) × (length row.now ≤ 2 ^ 32) × Keeps (λ j. signedAt row.now j -ℤ signedAt v.now j) (length row.now) i kept.old limits.old }
-    ensures { Told (λ j. signedAt row.now j -ℤ signedAt v.now j) (length row.now) i kept.old limits.old kept.new limits.new result }
+    requires { Priced row.now v.now × Roomy (length row.now) kept.old limits.old × (i < length row.now) × (length row.now ≤ 2 ^ 32) × Keeps (λ j. signed_at row.now j -ℤ signed_at v.now j) (length row.now) i kept.old limits.old }
+    ensures { Told (λ j. signed_at row.now j -ℤ signed_at v.now j) (length row.now) i kept.old limits.old kept.new limits.new result }
 {
     if row.len() < 4 {
         return super::lowest::find_umins_plain(row, v);

@@ -3,13 +3,13 @@ ghost use Rattle.std.specs.Prelude.{◌≡◌, suc, ◌+◌, ◌<◌, ◌≤◌,
 ghost use Rattle.lists.specs.Runs.{downward};
 ghost use Rattle.lists.specs.Permutations.{at, table};
 ghost use Rattle.lists.specs.Parts.{part, replaced};
-ghost use Rattle.assignment.specs.Pairings.{signedAt, square};
-ghost use Rattle.rules.specs.Lowest.{least, leastBut};
-ghost use Rattle.rules.specs.Columns.{Claims, minimum, claim, claims, lessLeast, lowerColumn, transfer, columnReduction};
+ghost use Rattle.assignment.specs.Pairings.{signed_at, square};
+ghost use Rattle.rules.specs.Lowest.{least, least_but};
+ghost use Rattle.rules.specs.Columns.{Claims, minimum, claim, claims, less_least, lower_column, transfer, column_reduction};
 ghost use Rattle.ints.specs.Parts.{Within};
 ghost use Rattle.matrix.specs.Limits.{side, near};
 ghost use Rattle.reduction.specs.Ranges.{Near, Square};
-ghost use Rattle.reduction.specs.Columns.{lowAt, claims_of, Claimable, NextLeast, NearLeast, transferOf, Transferable, Transferred, transferring, stageAt, Reducible};
+ghost use Rattle.reduction.specs.Columns.{low_at, claims_of, Claimable, NextLeast, NearLeast, transfer_of, Transferable, Transferred, transferring, stage_at, Reducible};
 
 use rules::LeastSoFar;
 
@@ -28,7 +28,7 @@ fn widen(row: &[i32], v: &mut [i64])
 // Row i beside the minima of the rows before it, in every column.
 fn lower_minima(i: usize, row: &[i32], rows: &mut [u32], v: &mut [i64])
     requires { (i < side) × (length rows.old ≡ length row.now) × (length v.old ≡ length row.now) }
-    ensures { (rows.new ≡ table (length row.now) (λ j. (lowAt i row.now v.old rows.old j).place)) × (v.new ≡ table (length row.now) (λ j. (lowAt i row.now v.old rows.old j).value)) }
+    ensures { (rows.new ≡ table (length row.now) (λ j. (low_at i row.now v.old rows.old j).place)) × (v.new ≡ table (length row.now) (λ j. (low_at i row.now v.old rows.old j).value)) }
 {
     let mut j = 0;
     while j < row.len() {
@@ -98,7 +98,7 @@ fn least(found: LeastSoFar, h: i64) -> LeastSoFar
 // The first column from `from` on whose reduced cost may change the least so far.
 fn next_least(row: &[i32], v: &[i64], from: usize, found: LeastSoFar) -> usize
     requires { (length v.now ≡ length row.now) × Near (length row.now) v.now × (from ≤ length row.now) }
-    ensures { NextLeast (λ k. signedAt row.now k -ℤ signedAt v.now k) found from (length row.now) result }
+    ensures { NextLeast (λ k. signed_at row.now k -ℤ signed_at v.now k) found from (length row.now) result }
 {
     match found {
         LeastSoFar::NoneYet => from,
@@ -109,7 +109,7 @@ fn next_least(row: &[i32], v: &[i64], from: usize, found: LeastSoFar) -> usize
 // The least reduced cost of a row over the columns but j.
 fn least_other(row: &[i32], v: &[i64], j: usize) -> LeastSoFar
     requires { (length v.now ≡ length row.now) × Near (length row.now) v.now }
-    ensures { result ≡ leastBut (length row.now) (λ k. signedAt row.now k -ℤ signedAt v.now k) j }
+    ensures { result ≡ least_but (length row.now) (λ k. signed_at row.now k -ℤ signed_at v.now k) j }
 {
     let mut found = LeastSoFar::NoneYet;
     let mut k = 0;
@@ -125,7 +125,7 @@ fn least_other(row: &[i32], v: &[i64], j: usize) -> LeastSoFar
 // A price, lowered by a least value where there is one.
 fn less_least(price: i64, least: LeastSoFar) -> i64
     requires { Within near price × NearLeast least }
-    ensures { result ≡ lessLeast price least }
+    ensures { result ≡ less_least price least }
 {
     match least {
         LeastSoFar::NoneYet => price,
@@ -136,7 +136,7 @@ fn less_least(price: i64, least: LeastSoFar) -> i64
 // A unique row i lowers the price of its column j.
 fn lower_column(n: usize, costs: &[i32], i: usize, j: usize, v: &mut [i64])
     requires { Square n costs.now × (i < n) × (j < n) × (length v.old ≡ n) × Near n v.old }
-    ensures { v.new ≡ lowerColumn n (square n costs.now).cost i j v.old }
+    ensures { v.new ≡ lower_column n (square n costs.now).cost i j v.old }
 {
     let found = least_other(matrix::rows::row(costs, n, i), v, j);
     v[j] = less_least(v[j], found);
@@ -154,7 +154,7 @@ fn transfer(
     count: usize,
 ) -> usize
     requires { Square n costs.now × (i < n) × (j < n) × (length v.old ≡ n) × Near n v.old × (length frees.old ≡ n) × (count < n) }
-    ensures { (s : Claims) → at s.marks i ≡ mark → at s.cols i ≡ j → transferOf v.new frees.new result ≡ transfer n (square n costs.now).cost s i (transferOf v.old frees.old count) }
+    ensures { (s : Claims) → at s.marks i ≡ mark → at s.cols i ≡ j → transfer_of v.new frees.new result ≡ transfer n (square n costs.now).cost s i (transfer_of v.old frees.old count) }
 {
     if mark == 0 {
         frees[count] = i as u32;
@@ -193,7 +193,7 @@ pub fn ccrrt_dense(
     room: &mut [u32],
 ) -> usize
     requires { Reducible n costs.now cols.old rows.old v.old room.old }
-    ensures { (stageAt cols.new rows.new v.new (part 0 n room.new) result ≡ columnReduction n (square n costs.now).cost) × (room.new ≡ replaced 0 (columnReduction n (square n costs.now).cost).frees (replaced (n + n + n) (claims n (square n costs.now).cost).marks room.old)) }
+    ensures { (stage_at cols.new rows.new v.new (part 0 n room.new) result ≡ column_reduction n (square n costs.now).cost) × (room.new ≡ replaced 0 (column_reduction n (square n costs.now).cost).frees (replaced (n + n + n) (claims n (square n costs.now).cost).marks room.old)) }
 {
     let n3 = n + n + n;
     let n4 = n3 + n;

@@ -1,9 +1,9 @@
 // Rule 1, the two lowest.
 ghost use Rattle.std.specs.Prelude.{◌≡◌, ◌-ℤ◌, length, ◌≤◌, ◌<◌};
 ghost use Rattle.std.specs.Int.Signed.{lt_z};
-ghost use Rattle.assignment.specs.Pairings.{signedAt};
+ghost use Rattle.assignment.specs.Pairings.{signed_at};
 ghost use Rattle.rules.specs.declared.TwoLowest.TheVariants.{Two};
-ghost use Rattle.rules.specs.Lowest.{beside, twoLowest};
+ghost use Rattle.rules.specs.Lowest.{beside, two_lowest};
 ghost use Rattle.reduction.specs.Ranges.{Near, Priced, NextBelow};
 
 use rules::{Low, TwoLowest};
@@ -18,7 +18,7 @@ pub struct Pair {
 // Whether the reduced cost of column j is below a bound.
 fn below(row: &[i32], v: &[i64], j: usize, bound: i64) -> bool
     requires { (length v.now ≡ length row.now) × Near (length row.now) v.now × (j < length row.now) }
-    ensures { result ≡ lt_z (signedAt row.now j -ℤ signedAt v.now j) bound }
+    ensures { result ≡ lt_z (signed_at row.now j -ℤ signed_at v.now j) bound }
 {
     matrix::rows::reduced_cost(row[j], v[j]) < bound
 }
@@ -26,7 +26,7 @@ fn below(row: &[i32], v: &[i64], j: usize, bound: i64) -> bool
 // The first column from `from` on whose reduced cost is below a bound; the length where there is none. Four columns a turn while there are four.
 pub fn next_below(row: &[i32], v: &[i64], from: usize, bound: i64) -> usize
     requires { (length v.now ≡ length row.now) × Near (length row.now) v.now × (from ≤ length row.now) }
-    ensures { NextBelow (λ j. signedAt row.now j -ℤ signedAt v.now j) bound from (length row.now) result }
+    ensures { NextBelow (λ j. signed_at row.now j -ℤ signed_at v.now j) bound from (length row.now) result }
 {
     let mut j = from;
     while 4 <= row.len() - j {
@@ -81,7 +81,7 @@ fn bound(two: Pair) -> i64
 // Rule 1: the two lowest reduced costs of a row. From column 2 on a value counts only if below the second; the columns between are passed over.
 pub fn find_umins_plain(row: &[i32], v: &[i64]) -> TwoLowest
     requires { Priced row.now v.now }
-    ensures { result ≡ twoLowest (length row.now) (λ j. signedAt row.now j -ℤ signedAt v.now j) }
+    ensures { result ≡ two_lowest (length row.now) (λ j. signed_at row.now j -ℤ signed_at v.now j) }
 {
     let first = Low {
         value: matrix::rows::reduced_cost(row[0], v[0]),

@@ -2,19 +2,19 @@
 ghost use Rattle.std.specs.Prelude.{◌≡◌, ◌+◌, ◌<◌, ◌≤◌, length};
 ghost use Rattle.ints.specs.Parts.{Within};
 ghost use Rattle.lists.specs.Parts.{part};
-ghost use Rattle.assignment.specs.Pairings.{signedAt, square};
-ghost use Rattle.rules.specs.Rows.{keepPrice, lowerPrice, choose, displace, isEarly, look, rowReduction};
+ghost use Rattle.assignment.specs.Pairings.{signed_at, square};
+ghost use Rattle.rules.specs.Rows.{keep_price, lower_price, choose, displace, is_early, look, row_reduction};
 ghost use Rattle.matrix.specs.Limits.{side, near};
 ghost use Rattle.reduction.specs.Ranges.{Near};
-ghost use Rattle.reduction.specs.Columns.{stageAt};
-ghost use Rattle.reduction.specs.Rows.{Inside, looksMost, placed_at, passingAt, Ready, Keeping, Passable};
+ghost use Rattle.reduction.specs.Columns.{stage_at};
+ghost use Rattle.reduction.specs.Rows.{Inside, looks_most, placed_at, passing_at, Ready, Keeping, Passable};
 
 use rules::{Choice, Pass, TwoLowest};
 
 // Column j at the price that it has.
 fn keep_price(v: &[i64], j: usize) -> Choice
     requires { j < length v.now }
-    ensures { result ≡ keepPrice v.now j }
+    ensures { result ≡ keep_price v.now j }
 {
     Choice {
         column: j,
@@ -25,8 +25,8 @@ fn keep_price(v: &[i64], j: usize) -> Choice
 
 // Column j1 at a price lowered by second minus lowest, v2 minus v1.
 fn lower_price(v: &[i64], j1: usize, v1: i64, v2: i64) -> Choice
-    requires { (j1 < length v.now) × Within near (signedAt v.now j1) × Within (near + near) v1 × Within (near + near) v2 }
-    ensures { result ≡ lowerPrice v.now j1 v1 v2 }
+    requires { (j1 < length v.now) × Within near (signed_at v.now j1) × Within (near + near) v1 × Within (near + near) v2 }
+    ensures { result ≡ lower_price v.now j1 v1 v2 }
 {
     let v1_new = v[j1] - (v2 - v1);
     Choice {
@@ -71,7 +71,7 @@ fn choose(n: usize, early: bool, v: &[i64], rows: &[u32], two: TwoLowest) -> Cho
 
 // Row i0 held the column; where i0 is n or more, none did.
 fn displace(n: usize, frees: &mut [u32], pass: Pass, back: bool, i0: u32) -> Pass
-    requires { (n ≤ side) × (length frees.old ≡ n) × (pass.current < n) × (pass.left ≤ pass.current) × (pass.looks < looksMost) }
+    requires { (n ≤ side) × (length frees.old ≡ n) × (pass.current < n) × (pass.left ≤ pass.current) × (pass.looks < looks_most) }
     ensures { placed_at frees.new result ≡ displace n frees.old pass back i0 }
 {
     let current = pass.current;
@@ -105,8 +105,8 @@ fn displace(n: usize, frees: &mut [u32], pass: Pass, back: bool, i0: u32) -> Pas
 
 // Whether the counter, raised by a look, is below `current`, raised by it too, times n.
 fn is_early(n: usize, pass: Pass) -> bool
-    requires { (n ≤ side) × (pass.current < n) × (pass.looks < looksMost) }
-    ensures { result ≡ isEarly n pass }
+    requires { (n ≤ side) × (pass.current < n) × (pass.looks < looks_most) }
+    ensures { result ≡ is_early n pass }
 {
     let looks = pass.looks + 1;
     let current = pass.current + 1;
@@ -124,8 +124,8 @@ fn look(
     limits: &mut [i64],
     pass: Pass,
 ) -> Pass
-    requires { Ready n costs.now (passingAt cols.old rows.old v.old (part 0 n room.old) pass) × Keeping n costs.now v.old room.old limits.old }
-    ensures { (passingAt cols.new rows.new v.new (part 0 n room.new) result ≡ look n (square n costs.now).cost (passingAt cols.old rows.old v.old (part 0 n room.old) pass)) × Keeping n costs.now v.new room.new limits.new }
+    requires { Ready n costs.now (passing_at cols.old rows.old v.old (part 0 n room.old) pass) × Keeping n costs.now v.old room.old limits.old }
+    ensures { (passing_at cols.new rows.new v.new (part 0 n room.new) result ≡ look n (square n costs.now).cost (passing_at cols.old rows.old v.old (part 0 n room.old) pass)) × Keeping n costs.now v.new room.new limits.new }
 {
     let n4 = 4 * n;
     let current = pass.current;
@@ -157,7 +157,7 @@ pub fn carr_dense(
     count: usize,
 ) -> Pass
     requires { Passable n costs.now cols.old rows.old v.old (part 0 n room.old) count × (length room.old ≡ n + n + n + n) × (length limits.old ≡ n) }
-    ensures { passingAt cols.new rows.new v.new (part 0 n room.new) result ≡ rowReduction n (square n costs.now).cost (stageAt cols.old rows.old v.old (part 0 n room.old) count) }
+    ensures { passing_at cols.new rows.new v.new (part 0 n room.new) result ≡ row_reduction n (square n costs.now).cost (stage_at cols.old rows.old v.old (part 0 n room.old) count) }
 {
     super::candidates::forget(limits);
     let mut pass = Pass {

@@ -14,19 +14,19 @@ use Rattle.ints.specs.Parts.{Within}
 use Rattle.ints.proofs.Sums.{dif}
 use Rattle.ints.proofs.Shapes.{zlin}
 use Rattle.lists.specs.Permutations.{at}
-use Rattle.lists.proofs.Tables.{getD-table}
-use Rattle.assignment.specs.Pairings.{Named, square, signedAt}
+use Rattle.lists.proofs.Tables.{get_d_table}
+use Rattle.assignment.specs.Pairings.{Named, square, signed_at}
 use Rattle.assignment.specs.Prices.{priced, Feasible, Tight}
-use Rattle.assignment.proofs.Square.{square-named-back}
+use Rattle.assignment.proofs.Square.{square_named_back}
 use Rattle.rules.specs.Lowest.{reduced}
 use Rattle.rules.specs.Columns.{free, Pairs}
 use Rattle.rules.specs.Augmentation.{Progress, augment}
-use Rattle.rules.specs.Run.{rowPrices}
+use Rattle.rules.specs.Run.{prices_of_rows}
 use Rattle.rules.specs.Right.{Between}
 use Rattle.rules.specs.Asked.{AtMinimum, Fair, Paired, Agree, Can}
-use Rattle.rules.proofs.Prices.{NotBelow, fair-near, minimum-pays}
-use Rattle.rules.proofs.Augment.{Gain, augment-gain}
-use Rattle.rules.proofs.Run.{paired-minimum, all_named, all-feasible, all-tight}
+use Rattle.rules.proofs.Prices.{NotBelow, fair-near, minimum_pays}
+use Rattle.rules.proofs.Augment.{Gain, augment_gain}
+use Rattle.rules.proofs.Run.{paired-minimum, all_named, all_feasible, all_tight}
 use Rattle.repair.specs.Repair.{unpaired}
 use Rattle.repair.specs.Asked.{FairBut}
 
@@ -48,7 +48,7 @@ module _ (n : ℕ) (costs : List ℤ) (s : ℕ) (p : Pairs) (us vs : List ℤ) (
   given_below = H.named.inside s H.row-Below
 
   back : Named (square n costs) p.rows p.cols
-  back = square-named-back n costs p.cols p.rows H.named
+  back = square_named_back n costs p.cols p.rows H.named
 
   row_here : rows given ≡ free
   row_here = get_or-set_same p.rows given free 0 (omega (arith, given_below, H.rows-size))
@@ -76,28 +76,28 @@ module _ (n : ℕ) (costs : List ℤ) (s : ℕ) (p : Pairs) (us vs : List ℤ) (
   }
 
   -- Row i, another row, sits at its minimum on its column k.
-  minimum : (i k : ℕ) → i < n → i ≢ s → at p.cols i ≡ k → AtMinimum n cost (signedAt vs) i k
+  minimum : (i k : ℕ) → i < n → i ≢ s → at p.cols i ≡ k → AtMinimum n cost (signed_at vs) i k
   minimum i k l d e =
       let met : priced us vs i k ≡ cost i k = subst (λ (j : ℕ). priced us vs i j ≡ cost i j) e (H.tight.met i l d) in
       record { no_less = λ z h. omega (zlin, met, H.feasible.under i z l d h refl) }
 
-  fair : Fair n cost (signedAt vs) rows
+  fair : Fair n cost (signed_at vs) rows
   fair = record {
-    paired-at-minimum = λ k l h. elim (ℕ_discrete k given) [
+    paired_at_minimum = λ k l h. elim (ℕ_discrete k given) [
       | yes e ↦ absurd (omega (arith, ap rows e, row_here))
-      | no d ↦ subst (λ (i : ℕ). AtMinimum n cost (signedAt vs) i k) (sym (row_other k d))
+      | no d ↦ subst (λ (i : ℕ). AtMinimum n cost (signed_at vs) i k) (sym (row_other k d))
           (minimum (at p.rows k) k (back.inside k l) (other_row k l d) (back.back k l))
     ];
   }
 
   -- Row s can get a column again.
-  pub mend-can : Can n cost x s
-  mend-can = record {
+  pub mend_can : Can n cost x s
+  mend_can = record {
     agree = agree;
     prices-size = H.prices-size;
     fair = fair;
-    start-below = H.row-Below;
-    start-unpaired = λ k l e. elim (ℕ_discrete k given) [
+    start_below = H.row-Below;
+    start_unpaired = λ k l e. elim (ℕ_discrete k given) [
       | yes f ↦ absurd (omega (arith, ap rows f, row_here, H.row-Below))
       | no d ↦ other_row k l d (sym (row_other k d) ∙ e)
     ];
@@ -106,63 +106,63 @@ module _ (n : ℕ) (costs : List ℤ) (s : ℕ) (p : Pairs) (us vs : List ℤ) (
   abbrev y : Progress
   y = augment n cost x s
 
-  pub mend-gain : Gain n cost x s y
-  mend-gain = augment-gain n cost x s mend-can
+  pub mend_gain : Gain n cost x s y
+  mend_gain = augment_gain n cost x s mend_can
 
   -- Every row is paired.
-  pub mend-paired : (i : ℕ) → i < n → Paired y.pairs i
-  mend-paired i l = elim (ℕ_discrete i s) [
-    | yes e ↦ subst (Paired y.pairs) (sym e) mend-gain.start-paired
-    | no d ↦ mend-gain.still-paired i l
+  pub mend_paired : (i : ℕ) → i < n → Paired y.pairs i
+  mend_paired i l = elim (ℕ_discrete i s) [
+    | yes e ↦ subst (Paired y.pairs) (sym e) mend_gain.start_paired
+    | no d ↦ mend_gain.still_paired i l
         (row_other (at p.cols i) (λ e. d (sym (H.named.back i l) ∙ ap (at p.rows) e ∙ H.named.back s H.row-Below)) ∙ H.named.back i l)
   ]
 
-  -- The search reaches the column that was given up, whose signedAt stays.
-  pub given-price : signedAt y.prices given ≡ signedAt vs given
-  given-price =
-      let r = mend-gain.reached-free in
-      subst (λ (j : ℕ). signedAt y.prices j ≡ signedAt vs j) (only-free r.0 r.1 r.2) r.3
+  -- The search reaches the column that was given up, whose signed_at stays.
+  pub given_price : signed_at y.prices given ≡ signed_at vs given
+  given_price =
+      let r = mend_gain.reached_free in
+      subst (λ (j : ℕ). signed_at y.prices j ≡ signed_at vs j) (only-free r.0 r.1 r.2) r.3
 
   -- Each column has a row.
-  pub mend-rows : (k : ℕ) → k < n → at y.pairs.rows k < n
-  mend-rows =
-      (square-named-back n costs y.pairs.cols y.pairs.rows
-      (all_named n costs y.pairs y.prices mend-gain.agree mend-gain.fair mend-paired)).inside
+  pub mend_rows : (k : ℕ) → k < n → at y.pairs.rows k < n
+  mend_rows =
+      (square_named_back n costs y.pairs.cols y.pairs.rows
+      (all_named n costs y.pairs y.prices mend_gain.agree mend_gain.fair mend_paired)).inside
 
   -- ---- what the checker asks
 
-  abbrev pub newRowPrices : List ℤ
-  newRowPrices = rowPrices n cost y.pairs.cols y.prices
+  abbrev pub new_row_prices : List ℤ
+  new_row_prices = prices_of_rows n cost y.pairs.cols y.prices
 
-  pub mend-feasible : Feasible (square n costs) newRowPrices y.prices
-  mend-feasible = all-feasible n costs y.pairs y.prices mend-gain.agree mend-gain.fair mend-paired
+  pub mend_feasible : Feasible (square n costs) new_row_prices y.prices
+  mend_feasible = all_feasible n costs y.pairs y.prices mend_gain.agree mend_gain.fair mend_paired
 
-  pub mend-tight : Tight (square n costs) newRowPrices y.prices y.pairs.cols
-  mend-tight = all-tight n costs y.pairs y.prices mend-gain.agree mend-gain.fair mend-paired
+  pub mend_tight : Tight (square n costs) new_row_prices y.prices y.pairs.cols
+  mend_tight = all_tight n costs y.pairs y.prices mend_gain.agree mend_gain.fair mend_paired
 
   -- ---- bounds, for costs within K and column prices within B
 
-  module _ (K B : ℕ) (small : (k : ℕ) → Within K (signedAt costs k)) (near : (k : ℕ) → k < n → Within B (signedAt vs k)) where
+  module _ (K B : ℕ) (small : (k : ℕ) → Within K (signed_at costs k)) (near : (k : ℕ) → k < n → Within B (signed_at vs k)) where
     cost-small : (i j : ℕ) → Within K (cost i j)
     cost-small i j = small (i * n + j)
 
-    given-low : NotBelow B (signedAt y.prices given)
-    given-low = record { low = omega (zlin, given-price, (near given given_below).low) }
+    given_low : NotBelow B (signed_at y.prices given)
+    given_low = record { low = omega (zlin, given_price, (near given given_below).low) }
 
-    pub mend-column-between : (k : ℕ) → k < n → Between (B + 2 * K) B (signedAt y.prices k)
-    mend-column-between k l = record {
-      low = (fair-near n cost K cost-small (signedAt y.prices) (at y.pairs.rows) given B given_below given-low mend-gain.fair k l (mend-rows k l)).low;
-      high = omega (zlin, mend-gain.not-risen k l, (near k l).high);
+    pub mend_column_between : (k : ℕ) → k < n → Between (B + 2 * K) B (signed_at y.prices k)
+    mend_column_between k l = record {
+      low = (fair-near n cost K cost-small (signed_at y.prices) (at y.pairs.rows) given B given_below given_low mend_gain.fair k l (mend_rows k l)).low;
+      high = omega (zlin, mend_gain.not_risen k l, (near k l).high);
     }
 
-    pub mend-row-within : (i : ℕ) → i < n → Within (K + B) (signedAt newRowPrices i)
-    mend-row-within i l =
+    pub mend_row_within : (i : ℕ) → i < n → Within (K + B) (signed_at new_row_prices i)
+    mend_row_within i l =
         let j = at y.pairs.cols i in
-        let lj = mend-gain.agree.cols-below i l in
-        let M = paired-minimum n costs y.pairs y.prices mend-gain.agree mend-gain.fair mend-paired i l in
-        let pays = minimum-pays n cost K cost-small (signedAt y.prices) i j given B given_below given-low M in
-        subst (Within (K + B)) (sym (getD-table n (λ i. reduced cost (signedAt y.prices) i (at y.pairs.cols i)) (pos 0) i l))
-        (within (cost i j) (signedAt y.prices j) (signedAt vs j) pays (cost-small i j) (near j lj) (mend-gain.not-risen j lj))
+        let lj = mend_gain.agree.cols-below i l in
+        let M = paired-minimum n costs y.pairs y.prices mend_gain.agree mend_gain.fair mend_paired i l in
+        let pays = minimum_pays n cost K cost-small (signed_at y.prices) i j given B given_below given_low M in
+        subst (Within (K + B)) (sym (get_d_table n (λ i. reduced cost (signed_at y.prices) i (at y.pairs.cols i)) (pos 0) i l))
+        (within (cost i j) (signed_at y.prices j) (signed_at vs j) pays (cost-small i j) (near j lj) (mend_gain.not_risen j lj))
       where
         within : (c v w : ℤ) → (c -ℤ v) ≤ℤ pos (K + B) → Within K c → Within B w → v ≤ℤ w → Within (K + B) (c -ℤ v)
         within c v w h g f e = omega (zlin, dif c v, h)

@@ -5,16 +5,16 @@ use Rattle.lists.specs.Runs.{turns, upward, downward, until, first}
 use Rattle.lists.specs.Permutations.{table}
 use Rattle.lists.specs.Sums.{sum}
 use Rattle.matrix.specs.Limits.{side, K}
-use Rattle.matrix.specs.Verdicts.{◌then◌, failsBy, failsAtBy}
+use Rattle.matrix.specs.Verdicts.{◌then◌, fails_by, fails_at_by}
 use Rattle.rules.specs.Block.{block}
 use Rattle.rules.specs.Columns.{free}
-use Rattle.rules.specs.Search.{scan, lastFree, searchBlocks, search, newPrices}
+use Rattle.rules.specs.Search.{scan, last_free, search_blocks, search, new_prices}
 use Rattle.rules.specs.Augmentation.{flips}
 use Rattle.lapjv.specs.Solve.{tested}
-use Rattle.repair.specs.Tests.{repairTests}
+use Rattle.repair.specs.Tests.{repair_tests}
 use Rattle.repair.specs.Repair.{mended, outcome, repair}
 use Rattle.repair.specs.Nights.{made, nights}
 
 pub all_made : map made nights ≡ nights
-unfolding repair outcome repairTests tested mended ◌then◌ failsBy failsAtBy first turns upward downward until table sum side K free block scan lastFree searchBlocks search newPrices flips
+unfolding repair outcome repair_tests tested mended ◌then◌ fails_by fails_at_by first turns upward downward until table sum side K free block scan last_free search_blocks search new_prices flips
 all_made = refl

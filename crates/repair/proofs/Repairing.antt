@@ -8,20 +8,20 @@ use lib.IntN.{ℤ, pos, ◌+ℤ◌}
 use lib.ListN.{length, take}
 use lib.Seq.{get_or-take, length-take-le}
 use Rattle.lists.specs.Permutations.{at}
-use Rattle.lists.proofs.Parts.{front-lent, front-back}
-use Rattle.assignment.specs.Pairings.{signedAt, square}
+use Rattle.lists.proofs.Parts.{front_lent_lem, front_back}
+use Rattle.assignment.specs.Pairings.{signed_at, square}
 use Rattle.assignment.proofs.Longer.{at_first}
 use Rattle.matrix.specs.Limits.{K}
 use Rattle.matrix.specs.declared.Answer.TheVariants.{Total}
 use Rattle.rules.specs.Columns.{Pairs}
-use Rattle.rules.proofs.Sizes.{within-everywhere}
-use Rattle.augmentation.specs.Augmentation.{pairsOf}
+use Rattle.rules.proofs.Sizes.{within_everywhere}
+use Rattle.augmentation.specs.Augmentation.{pairs_of}
 use Rattle.lapjv.specs.Solve.{lent_of}
 use Rattle.lapjv.proofs.Solving.{front, back, front_length}
-use Rattle.repair.specs.Repair.{outcomeOf, repairedBy, mended, settled, repair}
+use Rattle.repair.specs.Repair.{outcome_of, repaired_by, mended, settled, repair}
 use Rattle.repair.specs.Repairable.{Repairable}
 use Rattle.repair.specs.Asked.{FairBut, CanMend, RepairedBy}
-use Rattle.repair.proofs.Tests.{passes-repaired}
+use Rattle.repair.proofs.Tests.{passes_repaired}
 
 module _ (n : ℕ) (costs : List ℤ) (row : ℕ) (cols rows : List ℕ) (us vs : List ℤ) (indices : List ℕ) (numbers : List ℤ)
     (r : Repairable n costs row (lent_of cols rows us vs indices numbers)) where
@@ -32,15 +32,15 @@ module _ (n : ℕ) (costs : List ℤ) (row : ℕ) (cols rows : List ℕ) (us vs 
   row_of : (j : ℕ) → j < n → at (take n rows) j ≡ at rows j
   row_of = at_first (square n costs) rows
 
-  price : (j : ℕ) → j < n → signedAt (take n vs) j ≡ signedAt vs j
+  price : (j : ℕ) → j < n → signed_at (take n vs) j ≡ signed_at vs j
   price j l = get_or-take n vs j (pos 0) l
 
-  pub fair : FairBut n costs row (pairsOf (take n cols) (take n rows)) us (take n vs)
+  pub fair : FairBut n costs row (pairs_of (take n cols) (take n rows)) us (take n vs)
   fair = record {
     row_below = r.row_below;
     cols-size = length-take-le n cols r.limits.cols-enough;
     rows-size = length-take-le n rows r.limits.rows-enough;
-    prices-size = length-take-le n vs r.limits.column-prices-enough;
+    prices-size = length-take-le n vs r.limits.column_prices_enough;
     named = record {
       inside = λ i l. rw (column i l) (r.named.inside i l);
       back = λ i l. ap (at (take n rows)) (column i l) ∙ row_of (at cols i) (r.named.inside i l) ∙ r.named.back i l;
@@ -48,49 +48,49 @@ module _ (n : ℕ) (costs : List ℤ) (row : ℕ) (cols rows : List ℕ) (us vs 
     feasible = record { under = λ i j l d m e. rw (price j m) (r.feasible.under i j l d m e) };
     tight = record {
       met = λ i l d.
-          ap (λ (j : ℕ). signedAt us i +ℤ signedAt (take n vs) j) (column i l)
-          ∙ ap (λ (z : ℤ). signedAt us i +ℤ z) (price (at cols i) (r.named.inside i l))
+          ap (λ (j : ℕ). signed_at us i +ℤ signed_at (take n vs) j) (column i l)
+          ∙ ap (λ (z : ℤ). signed_at us i +ℤ z) (price (at cols i) (r.named.inside i l))
           ∙ r.tight.met i l d ∙ ap ((square n costs).cost i) (sym (column i l));
     };
   }
 
-  pub can-mend : CanMend n costs row (pairsOf (front n cols) (front n rows)) (front n vs) (front (4 * n) indices) (front n numbers)
-  can-mend = record {
+  pub can_mend : CanMend n costs row (pairs_of (front n cols) (front n rows)) (front n vs) (front (4 * n) indices) (front n numbers)
+  can_mend = record {
     small = r.limits.small;
     squared = r.limits.squared;
-    costs-within = within-everywhere K costs r.limits.costs-within;
-    prices-near = λ j l. rw (front-lent n vs, price j l) (r.column-prices-near j l);
+    costs-within = within_everywhere K costs r.limits.costs-within;
+    prices-near = λ j l. rw (front_lent_lem n vs, price j l) (r.column_prices_near j l);
     room-size = omega (arith, front_length (4 * n) indices r.limits.indices-enough);
     distances-size = front_length n numbers r.limits.numbers-enough;
     us = us;
-    fair = rw (front-lent n cols, front-lent n rows, front-lent n vs) fair;
+    fair = rw (front_lent_lem n cols, front_lent_lem n rows, front_lent_lem n vs) fair;
   }
 
-  pub row-prices-sized : length (front n us) ≡ n
-  row-prices-sized = front_length n us r.limits.row-prices-enough
+  pub row_prices_sized : length (front n us) ≡ n
+  row_prices_sized = front_length n us r.limits.row_prices_enough
 
-  pub repaired-by : (cols' rows' : List ℕ) (us' vs' : List ℤ) (room' : List ℕ) (d' : List ℤ) (t told : ℤ) → told ≡ t
-      → RepairedBy n costs row (pairsOf (front n cols) (front n rows)) (front n vs) cols' rows' us' vs' room' d' t
-      → outcomeOf (Total told)
+  pub repaired_by_lem : (cols' rows' : List ℕ) (us' vs' : List ℤ) (room' : List ℕ) (d' : List ℤ) (t told : ℤ) → told ≡ t
+      → RepairedBy n costs row (pairs_of (front n cols) (front n rows)) (front n vs) cols' rows' us' vs' room' d' t
+      → outcome_of (Total told)
       (lent_of (back n cols' cols) (back n rows' rows) (back n us' us) (back n vs' vs) (back (4 * n) room' indices) (back n d' numbers))
       ≡ repair n costs row (lent_of cols rows us vs indices numbers)
-  repaired-by cols' rows' us' vs' room' d' t told e q =
+  repaired_by_lem cols' rows' us' vs' room' d' t told e q =
       cc (
         e,
-        front-back n cols' cols,
-        front-back n rows' rows,
-        front-back n us' us,
-        front-back n vs' vs,
-        front-back (4 * n) room' indices,
-        front-back n d' numbers,
-        q.room-cleared,
-        q.distances-cleared,
+        front_back n cols' cols,
+        front_back n rows' rows,
+        front_back n us' us,
+        front_back n vs' vs,
+        front_back (4 * n) room' indices,
+        front_back n d' numbers,
+        q.room_cleared,
+        q.distances_cleared,
       )
       ∙ ap (settled n (lent_of cols rows us vs indices numbers)) (q.repaired ∙ same)
-      ∙ sym (passes-repaired n costs row (lent_of cols rows us vs indices numbers) r)
+      ∙ sym (passes_repaired n costs row (lent_of cols rows us vs indices numbers) r)
     where
-      same : repairedBy n costs (mended n (square n costs).cost (pairsOf (front n cols) (front n rows)) (front n vs) row)
-          ≡ repairedBy n costs (mended n (square n costs).cost (pairsOf (take n cols) (take n rows)) (take n vs) row)
+      same : repaired_by n costs (mended n (square n costs).cost (pairs_of (front n cols) (front n rows)) (front n vs) row)
+          ≡ repaired_by n costs (mended n (square n costs).cost (pairs_of (take n cols) (take n rows)) (take n vs) row)
       same =
-          ap₂ (λ (p : Pairs) (v : List ℤ). repairedBy n costs (mended n (square n costs).cost p v row))
-          (ap₂ pairsOf (front-lent n cols) (front-lent n rows)) (front-lent n vs)
+          ap₂ (λ (p : Pairs) (v : List ℤ). repaired_by n costs (mended n (square n costs).cost p v row))
+          (ap₂ pairs_of (front_lent_lem n cols) (front_lent_lem n rows)) (front_lent_lem n vs)

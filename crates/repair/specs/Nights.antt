@@ -4,7 +4,7 @@ use Rattle.matrix.specs.Limits.{K}
 use Rattle.matrix.specs.Refusals.{ColumnOutside, PriceOutside, PricesOverCost, PricesNotCost, PriceFar}
 use Rattle.matrix.specs.declared.Answer.TheVariants.{Total, Refused}
 use Rattle.lapjv.specs.Solve.{Lent, lent_of}
-use Rattle.repair.specs.Repair.{outcomeOf, Outcome, repair}
+use Rattle.repair.specs.Repair.{outcome_of, Outcome, repair}
 
 -- A night of side 2 with the changed row, what is lent, and what is got and found. The rooms have 8 indices and 2 numbers.
 pub record Line : Type 0 where
@@ -29,7 +29,7 @@ abbrev pub pairs : List ℕ → List ℕ → List ℤ → List ℤ → ℕ → �
 pairs cols rows us vs index number = lent_of cols rows us vs (replicate 8 index) (replicate 2 number)
 
 abbrev pub mending : List ℤ → ℕ → Lent → ℤ → Lent → Line
-mending costs row before total after = record { costs = costs; row = row; before = before; after = outcomeOf (Total total) after }
+mending costs row before total after = record { costs = costs; row = row; before = before; after = outcome_of (Total total) after }
 
 -- A refused repair changes nothing.
 abbrev pub refusing : List ℤ → ℕ → Lent → ℕ → ℕ → ℤ → Line
@@ -37,7 +37,7 @@ refusing costs row before number place slack = record {
   costs = costs;
   row = row;
   before = before;
-  after = outcomeOf (Refused (record { number = number; place = place; slack = slack })) before;
+  after = outcome_of (Refused (record { number = number; place = place; slack = slack })) before;
 }
 
 -- [K -K / -K -K], whose row 1 becomes K -K.

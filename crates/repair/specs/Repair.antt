@@ -10,9 +10,9 @@ use Rattle.matrix.specs.declared.Answer.{Answer}
 use Rattle.matrix.specs.declared.Answer.TheVariants.{Total, Refused}
 use Rattle.rules.specs.Columns.{free, Pairs}
 use Rattle.rules.specs.Augmentation.{Progress, augment}
-use Rattle.rules.specs.Run.{rowPrices}
+use Rattle.rules.specs.Run.{prices_of_rows}
 use Rattle.lapjv.specs.Solve.{Lent}
-use Rattle.repair.specs.Tests.{repairTests}
+use Rattle.repair.specs.Tests.{repair_tests}
 
 -- The row and its column are freed. (The row still lists it, as every free row lists one.)
 abbrev pub freed : Pairs → ℕ → Pairs
@@ -30,36 +30,36 @@ mended n cost p vs row = augment n cost (unpaired p vs row) row
 pub record Repaired : Type 0 where
   pub cols : List ℕ
   pub rows : List ℕ
-  pub rowPrices : List ℤ
-  pub columnPrices : List ℤ
+  pub prices_of_rows : List ℤ
+  pub prices_of_columns : List ℤ
   pub total : ℤ
 
 -- Pairs and column prices, with the row prices anew and the total.
-abbrev pub repairedBy : ℕ → List ℤ → Progress → Repaired
-repairedBy n costs x = record {
+abbrev pub repaired_by : ℕ → List ℤ → Progress → Repaired
+repaired_by n costs x = record {
   cols = x.pairs.cols;
   rows = x.pairs.rows;
-  rowPrices = rowPrices n (square n costs).cost x.pairs.cols x.prices;
-  columnPrices = x.prices;
+  prices_of_rows = prices_of_rows n (square n costs).cost x.pairs.cols x.prices;
+  prices_of_columns = x.prices;
   total = total (square n costs) x.pairs.cols;
 }
 
 -- The first n entries of the lists, mended.
-abbrev pub mendedIn : ℕ → List ℤ → ℕ → Lent → Progress
-mendedIn n costs row lent =
-    mended n (square n costs).cost (record { cols = take n lent.cols; rows = take n lent.rows }) (take n lent.columnPrices) row
+abbrev pub mended_in : ℕ → List ℤ → ℕ → Lent → Progress
+mended_in n costs row lent =
+    mended n (square n costs).cost (record { cols = take n lent.cols; rows = take n lent.rows }) (take n lent.prices_of_columns) row
 
 -- What a caller gets and finds.
 pub record Outcome : Type 0 where
   pub answer : Answer
   pub lent : Lent
 
-abbrev pub outcomeOf : Answer → Lent → Outcome
-outcomeOf answer lent = record { answer = answer; lent = lent }
+abbrev pub outcome_of : Answer → Lent → Outcome
+outcome_of answer lent = record { answer = answer; lent = lent }
 
 -- "A refused repair changes nothing."
 abbrev pub refused : Lent → Refusal → Outcome
-refused lent refusal = outcomeOf (Refused refusal) lent
+refused lent refusal = outcome_of (Refused refusal) lent
 
 -- The first n entries of each output hold the repaired pairing, the rooms are left "as the solver's", and later entries are untouched.
 abbrev pub settled : ℕ → Lent → Repaired → Outcome
@@ -68,8 +68,8 @@ settled n lent r = record {
   lent = record {
     cols = r.cols ++ drop n lent.cols;
     rows = r.rows ++ drop n lent.rows;
-    rowPrices = r.rowPrices ++ drop n lent.rowPrices;
-    columnPrices = r.columnPrices ++ drop n lent.columnPrices;
+    prices_of_rows = r.prices_of_rows ++ drop n lent.prices_of_rows;
+    prices_of_columns = r.prices_of_columns ++ drop n lent.prices_of_columns;
     indices = replicate (4 * n) 0 ++ drop (4 * n) lent.indices;
     numbers = replicate n (pos 0) ++ drop n lent.numbers;
   };
@@ -77,9 +77,9 @@ settled n lent r = record {
 
 -- What a caller gets and finds, from the verdict on the input.
 unfoldable pub outcome : ℕ → List ℤ → ℕ → Lent → Verdict → Outcome
-outcome n costs row lent Passed = settled n lent (repairedBy n costs (mendedIn n costs row lent))
+outcome n costs row lent Passed = settled n lent (repaired_by n costs (mended_in n costs row lent))
 outcome n costs row lent (Fails refusal) = refused lent refusal
 
 -- The repair.
 unfoldable pub repair : ℕ → List ℤ → ℕ → Lent → Outcome
-repair n costs row lent = outcome n costs row lent (repairTests n costs row lent)
+repair n costs row lent = outcome n costs row lent (repair_tests n costs row lent)

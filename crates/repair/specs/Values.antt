@@ -8,5 +8,5 @@ pub record Told : Type 0 where
   pub values : Values
   pub lent : Lent
 
-abbrev pub toldOf : Outcome → Told
-toldOf o = record { values = values_of o.answer; lent = o.lent }
+abbrev pub told_of : Outcome → Told
+told_of o = record { values = values_of o.answer; lent = o.lent }

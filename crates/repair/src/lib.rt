@@ -4,11 +4,11 @@ ghost use Rattle.std.specs.Prelude.{◌≡◌, ◌*◌, ◌≤◌, pos, length};
 ghost use Rattle.assignment.specs.Pairings.{square};
 ghost use Rattle.matrix.specs.Limits.{side, K};
 ghost use Rattle.matrix.specs.Verdicts.{Passes, ◌then◌};
-ghost use Rattle.augmentation.specs.Augmentation.{pairsOf, state_of};
+ghost use Rattle.augmentation.specs.Augmentation.{pairs_of, state_of};
 ghost use Rattle.lapjv.specs.Solve.{lent_of};
-ghost use Rattle.repair.specs.Tests.{rowInside, pricesNear, repairTests};
-ghost use Rattle.repair.specs.Repair.{mended, outcomeOf, repair};
-ghost use Rattle.repair.specs.Values.{toldOf};
+ghost use Rattle.repair.specs.Tests.{row_inside, prices_near, repair_tests};
+ghost use Rattle.repair.specs.Repair.{mended, outcome_of, repair};
+ghost use Rattle.repair.specs.Values.{told_of};
 ghost use Rattle.repair.specs.Asked.{CanMend, RepairedBy};
 
 use checker::prices::{tight_on, under_costs};
@@ -16,7 +16,7 @@ use matrix::{Answer, Verdict, refusals, tests};
 
 // Test 6 of the row number.
 fn row_inside(before: Verdict, n: usize, row: usize) -> Verdict
-    ensures { result ≡ (before then rowInside n row) }
+    ensures { result ≡ (before then row_inside n row) }
 {
     match before {
         Verdict::Fails(refusal) => {
@@ -37,7 +37,7 @@ fn near_bound() -> i64
 // Test 24.
 fn prices_near(before: Verdict, n: usize, us: &[i64], vs: &[i64]) -> Verdict
     requires { Passes before → (n ≤ side) × (n ≤ length us.now) × (n ≤ length vs.now) }
-    ensures { result ≡ (before then pricesNear n us.now vs.now) }
+    ensures { result ≡ (before then prices_near n us.now vs.now) }
 {
     tests::prices_in(before, refusals::PRICE_FAR, near_bound(), n, n, us, vs)
 }
@@ -54,7 +54,7 @@ fn tested(
     indices: &[u32],
     numbers: &[i64],
 ) -> Verdict
-    ensures { result ≡ repairTests n costs.now row (lent_of cols.now rows.now row_prices.now col_prices.now indices.now numbers.now) }
+    ensures { result ≡ repair_tests n costs.now row (lent_of cols.now rows.now row_prices.now col_prices.now indices.now numbers.now) }
 {
     let limits = lapjv::tested(
         n, costs, cols, rows, row_prices, col_prices, indices, numbers,
@@ -82,8 +82,8 @@ fn mend(
     room: &mut [u32],
     d: &mut [i64],
 ) -> usize
-    requires { CanMend n costs.now row (pairsOf cols.old rows.old) v.old room.old d.old }
-    ensures { state_of cols.new rows.new v.new result ≡ mended n (square n costs.now).cost (pairsOf cols.old rows.old) v.old row }
+    requires { CanMend n costs.now row (pairs_of cols.old rows.old) v.old room.old d.old }
+    ensures { state_of cols.new rows.new v.new result ≡ mended n (square n costs.now).cost (pairs_of cols.old rows.old) v.old row }
 {
     let given = cols[row] as usize;
     rows[given] = FREE;
@@ -103,8 +103,8 @@ fn pair_again(
     room: &mut [u32],
     d: &mut [i64],
 ) -> i64
-    requires { CanMend n costs.now row (pairsOf cols.old rows.old) v.old room.old d.old × (length row_prices.old ≡ n) }
-    ensures { RepairedBy n costs.now row (pairsOf cols.old rows.old) v.old cols.new rows.new row_prices.new v.new room.new d.new result }
+    requires { CanMend n costs.now row (pairs_of cols.old rows.old) v.old room.old d.old × (length row_prices.old ≡ n) }
+    ensures { RepairedBy n costs.now row (pairs_of cols.old rows.old) v.old cols.new rows.new row_prices.new v.new room.new d.new result }
 {
     mend(n, costs, row, cols, rows, v, room, d);
     lapjv::write_row_prices(n, costs, cols, v, row_prices);
@@ -127,7 +127,7 @@ pub fn repair(
     indices: &mut [u32],
     numbers: &mut [i64],
 ) -> Answer
-    ensures { toldOf (outcomeOf result (lent_of cols.new rows.new row_prices.new col_prices.new indices.new numbers.new)) ≡ toldOf (repair n costs.now row (lent_of cols.old rows.old row_prices.old col_prices.old indices.old numbers.old)) }
+    ensures { told_of (outcome_of result (lent_of cols.new rows.new row_prices.new col_prices.new indices.new numbers.new)) ≡ told_of (repair n costs.now row (lent_of cols.old rows.old row_prices.old col_prices.old indices.old numbers.old)) }
 {
     match tested(
         n, costs, row, cols, rows, row_prices, col_prices, indices, numbers,

@@ -4,16 +4,16 @@ use mathlib.Core.List.{map}
 use Rattle.lists.specs.Runs.{turns, upward, downward, until}
 use Rattle.lists.specs.Permutations.{table}
 use Rattle.lists.specs.Sums.{sum}
-use Rattle.rules.specs.Lowest.{twoLowest, lowest, leastBut}
+use Rattle.rules.specs.Lowest.{two_lowest, lowest, least_but}
 use Rattle.rules.specs.Block.{block}
-use Rattle.rules.specs.Columns.{free, claims, transfers, columnReduction}
-use Rattle.rules.specs.Rows.{looks, rowReduction}
-use Rattle.rules.specs.Search.{scan, lastFree, searchBlocks, search, newPrices}
+use Rattle.rules.specs.Columns.{free, claims, transfers, column_reduction}
+use Rattle.rules.specs.Rows.{looks, row_reduction}
+use Rattle.rules.specs.Search.{scan, last_free, search_blocks, search, new_prices}
 use Rattle.rules.specs.Augmentation.{flips, augments, augmentation}
 use Rattle.rules.specs.Run.{stages, run}
 use Rattle.rules.specs.Nights.{computed, nights}
 
 -- Each line is what the run on its costs comes to.
-pub all-computed : map computed nights ≡ nights
-unfolding turns upward downward until table sum twoLowest lowest leastBut block free claims transfers columnReduction looks rowReduction scan lastFree searchBlocks search newPrices flips augments augmentation stages run
-all-computed = refl
+pub all_computed : map computed nights ≡ nights
+unfolding turns upward downward until table sum two_lowest lowest least_but block free claims transfers column_reduction looks row_reduction scan last_free search_blocks search new_prices flips augments augmentation stages run
+all_computed = refl

@@ -12,35 +12,35 @@ use Rattle.ints.proofs.Ranges.{zarith}
 use Rattle.ints.proofs.Shapes.{zlin}
 use Rattle.lists.specs.Permutations.{at}
 use Rattle.lists.proofs.Injections.{source, source_of, reached}
-use Rattle.assignment.specs.Pairings.{signedAt}
+use Rattle.assignment.specs.Pairings.{signed_at}
 use Rattle.rules.specs.Lowest.{reduced, lowest}
 use Rattle.rules.specs.Columns.{Pairs}
-use Rattle.rules.specs.Search.{Work, Found, search, newPrices}
+use Rattle.rules.specs.Search.{Work, Found, search, new_prices}
 use Rattle.rules.specs.Augmentation.{Progress, augment}
 use Rattle.rules.specs.Asked.{AtMinimum, Fair, Paired, Unpaired, Agree, Can}
-use Rattle.rules.proofs.Lowest.{lowest-is}
+use Rattle.rules.proofs.Lowest.{lowest_is}
 use Rattle.rules.proofs.Pairs.{free-column}
 use Rattle.rules.proofs.Scan.{place, far, FromColumn, Sound}
-use Rattle.rules.proofs.Search.{Ended, Good, search-good}
-use Rattle.rules.proofs.PriceChange.{new-size, new-fair, new-falls, free-same, leads-minimum}
+use Rattle.rules.proofs.Search.{Ended, Good, search_good}
+use Rattle.rules.proofs.PriceChange.{new_size, new_fair, new_falls, free-same, leads_minimum}
 use Rattle.rules.proofs.Flips.{Before, Rooted, Flipping, Whole, flips-whole, free_open}
 
 -- ---- the floor of a search: the least reduced cost of its row
 
 module _ (n : ℕ) (cost : ℕ → ℕ → ℤ) (v : ℕ → ℤ) (s : ℕ) (one : 1 ≤ n) where
-  abbrev pub floorOf : ℤ
-  floorOf = (lowest n (reduced cost v s)).value
+  abbrev pub floor_of : ℤ
+  floor_of = (lowest n (reduced cost v s)).value
 
-  pub floor-under : (k : ℕ) → k < n → floorOf ≤ℤ reduced cost v s k
-  floor-under k l = (lowest-is n (reduced cost v s) one).no_lower k l
+  pub floor_under : (k : ℕ) → k < n → floor_of ≤ℤ reduced cost v s k
+  floor_under k l = (lowest_is n (reduced cost v s) one).no_lower k l
 
   -- Distances lie within K + B where costs lie within K and prices within B.
   pub distances-within : (row : ℕ → ℕ) (K B : ℕ) → ((i j : ℕ) → Within K (cost i j)) → ((k : ℕ) → Within B (v k))
-      → (w : Work) → Sound n cost v row s floorOf w → (k : ℕ) → k < n → Within (K + B) (far w k)
+      → (w : Work) → Sound n cost v row s floor_of w → (k : ℕ) → k < n → Within (K + B) (far w k)
   distances-within row K B costs prices w S k l =
-      let r = lowest-is n (reduced cost v s) one in
+      let r = lowest_is n (reduced cost v s) one in
       let j = (lowest n (reduced cost v s)).place in
-      omega (zlin, r.value-is, S.from-floor k l, S.from_start k l, costs s j, prices j, costs s k, prices k)
+      omega (zlin, r.value_is, S.from_floor k l, S.from_start k l, costs s j, prices j, costs s k, prices k)
 
 -- ---- the way back, for a search that has ended
 
@@ -56,8 +56,8 @@ module _ (n : ℕ) (cost : ℕ → ℕ → ℤ) (v : ℕ → ℤ) (p : Pairs) (s
   abbrev pub rank : ℕ → ℕ
   rank k = source (at w.list) n k
 
-  rank-place : (t : ℕ) → t < n → rank (place w t) ≡ t
-  rank-place t l = source_of E.sound.permutation.injective t l
+  rank_place : (t : ℕ) → t < n → rank (place w t) ≡ t
+  rank_place t l = source_of E.sound.permutation.injective t l
 
   pub rooted : Rooted n s ls w.predecessors p Tree rank
   rooted k T =
@@ -74,7 +74,7 @@ module _ (n : ℕ) (cost : ℕ → ℕ → ℤ) (v : ℕ → ℤ) (p : Pairs) (s
             record {
               in_tree = (b, a.2.1);
               column-below = b;
-              ranked = omega (arith, a.1, rank-place t l, rank-place a.0 m);
+              ranked = omega (arith, a.1, rank_place t l, rank_place a.0 m);
               row_below = a.2.0;
               leads = a.3.leads;
             },
@@ -87,7 +87,7 @@ module _ (n : ℕ) (cost : ℕ → ℕ → ℤ) (v : ℕ → ℤ) (p : Pairs) (s
   pub flipping : Agree n p → Unpaired n p s → Flipping n s ls w.predecessors p Tree rank 0 (record { column = f.column; pairs = p })
   flipping A alone = record {
     holed = free_open n s ls w.predecessors p Tree rank A alone f.column column-below (column-below, omega (zarith, E.distance)) E.is_free;
-    rank_falls = omega (arith, E.stands.1, ap rank (sym E.stands.2), rank-place E.stands.0 E.stands.1);
+    rank_falls = omega (arith, E.stands.1, ap rank (sym E.stands.2), rank_place E.stands.0 E.stands.1);
   }
 
 -- ---- one row more
@@ -96,66 +96,66 @@ module _ (n : ℕ) (cost : ℕ → ℕ → ℤ) (v : ℕ → ℤ) (p : Pairs) (s
 pub record Gain (n : ℕ) (cost : ℕ → ℕ → ℤ) (x : Progress) (s : ℕ) (y : Progress) : Type 0 where
   pub agree : Agree n y.pairs
   pub prices-size : length y.prices ≡ n
-  pub fair : Fair n cost (signedAt y.prices) (at y.pairs.rows)
-  pub start-paired : Paired y.pairs s
-  pub still-paired : (i : ℕ) → i < n → Paired x.pairs i → Paired y.pairs i
-  pub still-unpaired : (i : ℕ) → i ≢ s → Unpaired n x.pairs i → Unpaired n y.pairs i
-  pub not-risen : (k : ℕ) → k < n → signedAt y.prices k ≤ℤ signedAt x.prices k
-  pub reached-free : (j : ℕ) × (j < n) × (n ≤ at x.pairs.rows j) × (signedAt y.prices j ≡ signedAt x.prices j)
-  pub free-untouched : (k : ℕ) → k < n → n ≤ at y.pairs.rows k → (n ≤ at x.pairs.rows k) × (signedAt y.prices k ≡ signedAt x.prices k)
+  pub fair : Fair n cost (signed_at y.prices) (at y.pairs.rows)
+  pub start_paired : Paired y.pairs s
+  pub still_paired : (i : ℕ) → i < n → Paired x.pairs i → Paired y.pairs i
+  pub still_unpaired : (i : ℕ) → i ≢ s → Unpaired n x.pairs i → Unpaired n y.pairs i
+  pub not_risen : (k : ℕ) → k < n → signed_at y.prices k ≤ℤ signed_at x.prices k
+  pub reached_free : (j : ℕ) × (j < n) × (n ≤ at x.pairs.rows j) × (signed_at y.prices j ≡ signed_at x.prices j)
+  pub free_untouched : (k : ℕ) → k < n → n ≤ at y.pairs.rows k → (n ≤ at x.pairs.rows k) × (signed_at y.prices k ≡ signed_at x.prices k)
   pub scanned-few : y.scanned ≤ x.scanned + (n - 1)
 
 module _ (n : ℕ) (cost : ℕ → ℕ → ℤ) (x : Progress) (s : ℕ) (C : Can n cost x s) where
   abbrev v : ℕ → ℤ
-  v = signedAt x.prices
+  v = signed_at x.prices
 
   abbrev row : ℕ → ℕ
   row = at x.pairs.rows
 
   pub one : 1 ≤ n
-  one = omega (arith, C.start-below)
+  one = omega (arith, C.start_below)
 
   -- The search ends as it must.
-  pub found-good : Good n cost v row s (floorOf n cost v s one) (search n cost v row s)
-  found-good =
-      let y = free-column n x.pairs C.agree s C.start-below C.start-unpaired in
-      search-good n cost v row s (floorOf n cost v s one) C.fair y.0 y.1 y.2 (floor-under n cost v s one)
+  pub found_good : Good n cost v row s (floor_of n cost v s one) (search n cost v row s)
+  found_good =
+      let y = free-column n x.pairs C.agree s C.start_below C.start_unpaired in
+      search_good n cost v row s (floor_of n cost v s one) C.fair y.0 y.1 y.2 (floor_under n cost v s one)
 
-  pub augment-gain : Gain n cost x s (augment n cost x s)
-  augment-gain =
-      let ls = C.start-below in
+  pub augment_gain : Gain n cost x s (augment n cost x s)
+  augment_gain =
+      let ls = C.start_below in
       let f = search n cost v row s in
-      let fl = floorOf n cost v s one in
-      let μ = found-good.0 in
-      let E = found-good.1 in
+      let fl = floor_of n cost v s one in
+      let μ = found_good.0 in
+      let E = found_good.1 in
       let T = Tree n cost v x.pairs s fl ls f μ E in
       let rk = rank n cost v x.pairs s fl ls f μ E in
       let R = rooted n cost v x.pairs s fl ls f μ E in
       let W : Whole n s ls f.work.predecessors x.pairs T rk (augment n cost x s).pairs =
       flips-whole n s ls f.work.predecessors x.pairs T rk R (record { column = f.column; pairs = x.pairs })
-      (flipping n cost v x.pairs s fl ls f μ E C.agree C.start-unpaired) in
+      (flipping n cost v x.pairs s fl ls f μ E C.agree C.start_unpaired) in
       let q = (augment n cost x s).pairs in
       let lj = column-below n cost v x.pairs s fl ls f μ E in
-      let minimum = leads-minimum n cost x.prices row s fl C.prices-size C.fair f μ E in
+      let minimum = leads_minimum n cost x.prices row s fl C.prices-size C.fair f μ E in
       let same = free-same n cost x.prices row s fl C.prices-size C.fair f μ E in
       record {
         agree = W.agree;
-        prices-size = new-size n cost x.prices row s fl C.prices-size C.fair f μ E;
+        prices-size = new_size n cost x.prices row s fl C.prices-size C.fair f μ E;
         fair = record {
-          paired-at-minimum = λ k l h. ⊎_elim
-              (λ a. subst (λ (i : ℕ). AtMinimum n cost (signedAt (newPrices f x.prices)) i k) (sym a)
-              ((new-fair n cost x.prices row s fl C.prices-size C.fair f μ E).paired-at-minimum k l (omega (arith, a))))
-              (λ a. subst (λ (i : ℕ). AtMinimum n cost (signedAt (newPrices f x.prices)) i k) (sym a.1) (minimum k l a.0.1))
+          paired_at_minimum = λ k l h. ⊎_elim
+              (λ a. subst (λ (i : ℕ). AtMinimum n cost (signed_at (new_prices f x.prices)) i k) (sym a)
+              ((new_fair n cost x.prices row s fl C.prices-size C.fair f μ E).paired_at_minimum k l (omega (arith, a))))
+              (λ a. subst (λ (i : ℕ). AtMinimum n cost (signed_at (new_prices f x.prices)) i k) (sym a.1) (minimum k l a.0.1))
               (W.row_from k l);
         };
-        start-paired = W.start-paired;
-        still-paired = W.still-paired;
-        still-unpaired = λ i d alone k l z. ⊎_elim (λ a. alone k l (sym a ∙ z))
+        start_paired = W.start_paired;
+        still_paired = W.still_paired;
+        still_unpaired = λ i d alone k l z. ⊎_elim (λ a. alone k l (sym a ∙ z))
             (λ a. ⊎_elim (λ b. d (sym z ∙ a.1 ∙ b)) (λ b. alone b.0 b.1.column-below (sym b.1.leads ∙ sym a.1 ∙ z)) (R k a.0))
             (W.row_from k l);
-        not-risen = new-falls n cost x.prices row s fl C.prices-size C.fair f μ E;
-        reached-free = (f.column, lj, E.is_free, same f.column lj E.is_free);
-        free-untouched = λ k l h.
+        not_risen = new_falls n cost x.prices row s fl C.prices-size C.fair f μ E;
+        reached_free = (f.column, lj, E.is_free, same f.column lj E.is_free);
+        free_untouched = λ k l h.
             let g : n ≤ row k = ⊎_elim (λ a. omega arith)
             (λ a. ⊎_elim (λ b. absurd (omega (arith, a.1, ls))) (λ b. absurd (omega (arith, a.1, b.1.row_below, b.1.leads))) (R k a.0)) (W.row_from k l) in
             (g, same k l g);

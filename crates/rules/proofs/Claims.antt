@@ -13,11 +13,11 @@ use lib.Seq.{get_or-set_same, get_or-set_other}
 use Rattle.ints.specs.Parts.{Within}
 use Rattle.ints.proofs.Shapes.{zlin}
 use Rattle.lists.specs.Permutations.{at}
-use Rattle.lists.proofs.Runs.{downward-keeps}
-use Rattle.lists.proofs.Tables.{length-table, getD-table}
-use Rattle.lists.proofs.Cases.{cond_cases, here-or-elsewhere}
+use Rattle.lists.proofs.Runs.{downward_keeps}
+use Rattle.lists.proofs.Tables.{length-table, get_d_table}
+use Rattle.lists.proofs.Cases.{cond_cases, here_or_elsewhere}
 use Rattle.rules.specs.Columns.{free, Claims, claim, unclaimed, claims, minimum}
-use Rattle.rules.proofs.Lowest.{IsLowest, lowest-is}
+use Rattle.rules.proofs.Lowest.{IsLowest, lowest_is}
 use Rattle.rules.proofs.Prices.{NotBelow}
 
 module _ (n : ℕ) (cost : ℕ → ℕ → ℤ) (one : 1 ≤ n) where
@@ -29,13 +29,13 @@ module _ (n : ℕ) (cost : ℕ → ℕ → ℤ) (one : 1 ≤ n) where
   first j = (minimum n cost j).value
 
   is : (j : ℕ) → IsLowest (λ i. cost i j) n (minimum n cost j)
-  is j = lowest-is n (λ i. cost i j) one
+  is j = lowest_is n (λ i. cost i j) one
 
-  pub best-below : (j : ℕ) → best j < n
-  best-below j = (is j).inside
+  pub best_below : (j : ℕ) → best j < n
+  best_below j = (is j).inside
 
   pub first-cost : (j : ℕ) → first j ≡ cost (best j) j
-  first-cost j = (is j).value-is
+  first-cost j = (is j).value_is
 
   pub first-least : (i j : ℕ) → i < n → first j ≤ℤ cost i j
   first-least i j l = (is j).no_lower i l
@@ -48,7 +48,7 @@ module _ (n : ℕ) (cost : ℕ → ℕ → ℤ) (one : 1 ≤ n) where
 
   -- Column k holds a row.
   pub record Holds (s : Claims) (k : ℕ) : Type 0 where
-    pub is-best : at s.rows k ≡ best k
+    pub is_best : at s.rows k ≡ best k
     pub named_back : at s.cols (at s.rows k) ≡ k
     pub marked : 1 ≤ at s.marks (at s.rows k)
 
@@ -67,7 +67,7 @@ module _ (n : ℕ) (cost : ℕ → ℕ → ℤ) (one : 1 ≤ n) where
     i = at s.rows j
 
     li : i < n
-    li = omega (arith, h.waiting j (omega arith), best-below j)
+    li = omega (arith, h.waiting j (omega arith), best_below j)
 
     -- The row is unclaimed.
     wins : at s.marks i ≡ 0 → Claimed j (record { cols = set s.cols i j; rows = s.rows; marks = set s.marks i 1 })
@@ -81,19 +81,19 @@ module _ (n : ℕ) (cost : ℕ → ℕ → ℤ) (one : 1 ≤ n) where
           cols-size = length-set s.cols i j ∙ h.cols-size;
           rows-size = h.rows-size;
           marks-size = length-set s.marks i 1 ∙ h.marks-size;
-          cols-below = here-or-elsewhere (λ x. x < n → at q.cols x < n) i (λ m. omega (arith, tc)) (λ x d m. omega (arith, kc x d, h.cols-below x m));
+          cols-below = here_or_elsewhere (λ x. x < n → at q.cols x < n) i (λ m. omega (arith, tc)) (λ x d m. omega (arith, kc x d, h.cols-below x m));
           waiting = λ k m. h.waiting k (omega arith);
-          holding = here-or-elsewhere (λ k. j ≤ k → k < n → at s.rows k < n → Holds q k) j
-              (λ a b m. record { is-best = h.waiting j (omega arith); named_back = tc; marked = omega (arith, tm) })
+          holding = here_or_elsewhere (λ k. j ≤ k → k < n → at s.rows k < n → Holds q k) j
+              (λ a b m. record { is_best = h.waiting j (omega arith); named_back = tc; marked = omega (arith, tm) })
               (λ k d a b m.
               let H = h.holding k (omega arith) b m in
               let e : at s.rows k ≢ i = λ y. omega (arith, H.marked, ap (at s.marks) y) in
               record {
-                is-best = H.is-best;
+                is_best = H.is_best;
                 named_back = kc (at s.rows k) e ∙ H.named_back;
                 marked = omega (arith, km (at s.rows k) e, H.marked);
               });
-          marked-held = here-or-elsewhere (λ x. x < n → 1 ≤ at q.marks x → (j ≤ at q.cols x) × (at s.rows (at q.cols x) ≡ x)) i
+          marked-held = here_or_elsewhere (λ x. x < n → 1 ≤ at q.marks x → (j ≤ at q.cols x) × (at s.rows (at q.cols x) ≡ x)) i
               (λ a b. (omega (arith, tc), ap (at s.rows) tc))
               (λ x d a b. let C = h.marked-held x a (omega (arith, km x d)) in (omega (arith, kc x d, C.0), ap (at s.rows) (kc x d) ∙ C.1));
         }
@@ -107,9 +107,9 @@ module _ (n : ℕ) (cost : ℕ → ℕ → ℤ) (one : 1 ≤ n) where
         let kr : (x : ℕ) → x ≢ j → at q.rows x ≡ at s.rows x = λ x d. get_or-set_other s.rows j x free 0 d in
         let km : (x : ℕ) → x ≢ i → at q.marks x ≡ at s.marks x = λ x d. get_or-set_other s.marks i x 2 0 d in
         let still : (x : ℕ) → 1 ≤ at s.marks x → 1 ≤ at q.marks x =
-        here-or-elsewhere (λ x. 1 ≤ at s.marks x → 1 ≤ at q.marks x) i (λ a. omega (arith, tm)) (λ x d a. omega (arith, km x d)) in
+        here_or_elsewhere (λ x. 1 ≤ at s.marks x → 1 ≤ at q.marks x) i (λ a. omega (arith, tm)) (λ x d a. omega (arith, km x d)) in
         let before : (x : ℕ) → 1 ≤ at q.marks x → 1 ≤ at s.marks x =
-        here-or-elsewhere (λ x. 1 ≤ at q.marks x → 1 ≤ at s.marks x) i (λ a. z) (λ x d a. omega (arith, km x d)) in
+        here_or_elsewhere (λ x. 1 ≤ at q.marks x → 1 ≤ at s.marks x) i (λ a. z) (λ x d a. omega (arith, km x d)) in
         record {
           cols-size = h.cols-size;
           rows-size = length-set s.rows j free ∙ h.rows-size;
@@ -120,7 +120,7 @@ module _ (n : ℕ) (cost : ℕ → ℕ → ℤ) (one : 1 ≤ n) where
               let d : k ≢ j = λ e. omega (arith, tr, ap (at q.rows) e) in
               let H = h.holding k (omega arith) b (omega (arith, kr k d)) in
               record {
-                is-best = kr k d ∙ H.is-best;
+                is_best = kr k d ∙ H.is_best;
                 named_back = ap (at s.cols) (kr k d) ∙ H.named_back;
                 marked = still (at q.rows k) (subst (λ (x : ℕ). 1 ≤ at s.marks x) (sym (kr k d)) H.marked);
               };
@@ -128,24 +128,24 @@ module _ (n : ℕ) (cost : ℕ → ℕ → ℤ) (one : 1 ≤ n) where
               let C = h.marked-held x a (before x b) in (omega (arith, C.0), kr (at s.cols x) (λ e. omega (arith, C.0)) ∙ C.1);
         }
 
-    pub claimed-more : Claimed j (claim j s)
-    claimed-more =
+    pub claimed_more : Claimed j (claim j s)
+    claimed_more =
         cond_cases (eqb (at s.marks i) 0) (Claimed j)
         (record { cols = set s.cols i j; rows = s.rows; marks = set s.marks i 1 })
         (record { cols = s.cols; rows = set s.rows j free; marks = set s.marks i 2 })
         (λ t. wins (eqb-true (at s.marks i) 0 t)) (λ t. loses (omega (arith, eqb-false (at s.marks i) 0 t)))
 
-  pub claimed-none : Claimed n (unclaimed n cost)
-  claimed-none = record {
+  pub claimed_none : Claimed n (unclaimed n cost)
+  claimed_none = record {
     cols-size = length-table {A = ℕ} n (λ i. 0);
     rows-size = length-table n best;
     marks-size = length-table {A = ℕ} n (λ i. 0);
-    cols-below = λ i h. omega (arith, getD-table {A = ℕ} n (λ i. 0) 0 i h);
-    waiting = λ k h. getD-table n best 0 k h;
+    cols-below = λ i h. omega (arith, get_d_table {A = ℕ} n (λ i. 0) 0 i h);
+    waiting = λ k h. get_d_table n best 0 k h;
     holding = λ k a b m. absurd (omega arith);
-    marked-held = λ i h m. absurd (omega (arith, getD-table {A = ℕ} n (λ i. 0) 0 i h));
+    marked-held = λ i h m. absurd (omega (arith, get_d_table {A = ℕ} n (λ i. 0) 0 i h));
   }
 
-  pub claimed-all : n ≤ free → Claimed 0 (claims n cost)
+  pub claimed_all : n ≤ free → Claimed 0 (claims n cost)
   unfolding claims
-  claimed-all room = downward-keeps Claimed n claim (unclaimed n cost) claimed-none (λ k s l h. claimed-more room s k l h)
+  claimed_all room = downward_keeps Claimed n claim (unclaimed n cost) claimed_none (λ k s l h. claimed_more room s k l h)

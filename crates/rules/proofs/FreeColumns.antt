@@ -7,11 +7,11 @@ use native.Mathlib.Omega.{arith}
 use borrow.Author.Tests.{ltb-true, ltb-false}
 use lib.Dec.{ltb}
 use Rattle.lists.specs.Permutations.{at}
-use Rattle.lists.proofs.Runs.{upward-keeps}
+use Rattle.lists.proofs.Runs.{upward_keeps}
 use Rattle.lists.proofs.Cases.{cond_cases, below_suc}
 use Rattle.rules.specs.declared.LastFree.{LastFree}
 use Rattle.rules.specs.declared.LastFree.TheVariants.{NoneYet, At}
-use Rattle.rules.specs.Search.{lastFree}
+use Rattle.rules.specs.Search.{last_free}
 
 module _ (n : ℕ) (row : ℕ → ℕ) (list : List ℕ) (lo : ℕ) where
   -- Among the places from lo up to k: none is free, or a free one.
@@ -19,14 +19,14 @@ module _ (n : ℕ) (row : ℕ → ℕ) (list : List ℕ) (lo : ℕ) where
   Sought k NoneYet = (t : ℕ) → lo ≤ t → t < k → row (at list t) < n
   Sought k (At j) = (t : ℕ) × (lo ≤ t) × (t < k) × (at list t ≡ j) × (n ≤ row j)
 
-  more-sought : (k : ℕ) (o : LastFree) → row (at list k) < n → Sought k o → Sought (suc k) o
-  more-sought k NoneYet h S = λ t a m. below_suc (λ t. lo ≤ t → row (at list t) < n) (λ t l b. S t b l) (λ b. h) t m a
-  more-sought k (At j) h S = (S.0, S.1, omega (arith, S.2), S.3, S.4)
+  more_sought : (k : ℕ) (o : LastFree) → row (at list k) < n → Sought k o → Sought (suc k) o
+  more_sought k NoneYet h S = λ t a m. below_suc (λ t. lo ≤ t → row (at list t) < n) (λ t l b. S t b l) (λ b. h) t m a
+  more_sought k (At j) h S = (S.0, S.1, omega (arith, S.2), S.3, S.4)
 
-  pub lastFree-sought : (hi : ℕ) → lo ≤ hi → Sought hi (lastFree n row list lo hi)
-  unfolding lastFree
-  lastFree-sought hi h =
-      upward-keeps Sought lo hi (λ k found. cond (ltb (row (at list k)) n) found (At (at list k))) NoneYet h (λ t a m. absurd (omega arith))
+  pub last_free_sought : (hi : ℕ) → lo ≤ hi → Sought hi (last_free n row list lo hi)
+  unfolding last_free
+  last_free_sought hi h =
+      upward_keeps Sought lo hi (λ k found. cond (ltb (row (at list k)) n) found (At (at list k))) NoneYet h (λ t a m. absurd (omega arith))
       (λ k o a m S. cond_cases (ltb (row (at list k)) n) (Sought (suc k)) o (At (at list k))
-      (λ e. more-sought k o (ltb-true (row (at list k)) n e) S)
+      (λ e. more_sought k o (ltb-true (row (at list k)) n e) S)
       (λ e. (k, a, omega arith, refl, ltb-false (row (at list k)) n e)))

@@ -8,57 +8,57 @@ use lib.ListN.{length, length-set}
 use lib.Seq.{get_or-set_same, get_or-set_other}
 use Rattle.lists.specs.Permutations.{at, Injective}
 use Rattle.lists.proofs.Injections.{reached}
-use Rattle.lists.proofs.Cases.{lt-or-le, here-or-elsewhere, below_suc}
+use Rattle.lists.proofs.Cases.{lt_or_le, here_or_elsewhere, below_suc}
 use Rattle.rules.specs.Columns.{Pairs}
-use Rattle.rules.specs.Rows.{takeColumn}
+use Rattle.rules.specs.Rows.{take_column}
 use Rattle.rules.specs.Asked.{Paired, Unpaired, Agree}
 
 -- ---- row i takes column j
 
 module _ (n : ℕ) (p : Pairs) (cols-size : length p.cols ≡ n) (rows-size : length p.rows ≡ n) (i j : ℕ) (li : i < n) (lj : j < n) where
-  pub took-col : at (takeColumn p i j).cols i ≡ j
-  took-col = get_or-set_same p.cols i j 0 (omega arith)
+  pub took_col : at (take_column p i j).cols i ≡ j
+  took_col = get_or-set_same p.cols i j 0 (omega arith)
 
-  pub kept-col : (x : ℕ) → x ≢ i → at (takeColumn p i j).cols x ≡ at p.cols x
-  kept-col x d = get_or-set_other p.cols i x j 0 d
+  pub kept_col : (x : ℕ) → x ≢ i → at (take_column p i j).cols x ≡ at p.cols x
+  kept_col x d = get_or-set_other p.cols i x j 0 d
 
-  pub took-row : at (takeColumn p i j).rows j ≡ i
-  took-row = get_or-set_same p.rows j i 0 (omega arith)
+  pub took_row : at (take_column p i j).rows j ≡ i
+  took_row = get_or-set_same p.rows j i 0 (omega arith)
 
-  pub kept_row : (k : ℕ) → k ≢ j → at (takeColumn p i j).rows k ≡ at p.rows k
+  pub kept_row : (k : ℕ) → k ≢ j → at (take_column p i j).rows k ≡ at p.rows k
   kept_row k d = get_or-set_other p.rows j k i 0 d
 
-  pub taken-paired : Paired (takeColumn p i j) i
-  taken-paired = ap (at (takeColumn p i j).rows) took-col ∙ took-row
+  pub taken-paired : Paired (take_column p i j) i
+  taken-paired = ap (at (take_column p i j).rows) took_col ∙ took_row
 
-  pub taken-below : ((x : ℕ) → x < n → at p.cols x < n) → (x : ℕ) → x < n → at (takeColumn p i j).cols x < n
+  pub taken-below : ((x : ℕ) → x < n → at p.cols x < n) → (x : ℕ) → x < n → at (take_column p i j).cols x < n
   taken-below h =
-      here-or-elsewhere (λ x. x < n → at (takeColumn p i j).cols x < n) i (λ l. omega (arith, took-col))
-      (λ x d l. omega (arith, kept-col x d, h x l))
+      here_or_elsewhere (λ x. x < n → at (take_column p i j).cols x < n) i (λ l. omega (arith, took_col))
+      (λ x d l. omega (arith, kept_col x d, h x l))
 
 -- A row that had no column takes one: the pairs agree.
-pub take-agree : (n : ℕ) (p : Pairs) → Agree n p → (i j : ℕ) → i < n → j < n → Unpaired n p i → Agree n (takeColumn p i j)
+pub take-agree : (n : ℕ) (p : Pairs) → Agree n p → (i j : ℕ) → i < n → j < n → Unpaired n p i → Agree n (take_column p i j)
 take-agree n p A i j li lj alone =
-    let q = takeColumn p i j in
-    let tc = took-col n p A.cols-size A.rows-size i j li lj in
-    let kc = kept-col n p A.cols-size A.rows-size i j li lj in
-    let tr = took-row n p A.cols-size A.rows-size i j li lj in
+    let q = take_column p i j in
+    let tc = took_col n p A.cols-size A.rows-size i j li lj in
+    let kc = kept_col n p A.cols-size A.rows-size i j li lj in
+    let tr = took_row n p A.cols-size A.rows-size i j li lj in
     let kr = kept_row n p A.cols-size A.rows-size i j li lj in
     record {
       cols-size = length-set p.cols i j ∙ A.cols-size;
       rows-size = length-set p.rows j i ∙ A.rows-size;
       cols-below = taken-below n p A.cols-size A.rows-size i j li lj A.cols-below;
-      named_back = here-or-elsewhere (λ k. k < n → at q.rows k < n → at q.cols (at q.rows k) ≡ k) j
+      named_back = here_or_elsewhere (λ k. k < n → at q.rows k < n → at q.cols (at q.rows k) ≡ k) j
           (λ l h. ap (at q.cols) tr ∙ tc)
           (λ k d l h. ap (at q.cols) (kr k d) ∙ kc (at p.rows k) (alone k l) ∙ A.named_back k l (omega (arith, kr k d)));
     }
 
 -- ---- a free column
 
-all-or-one : (n m : ℕ) (row : ℕ → ℕ) → ((k : ℕ) → k < m → row k < n) ⊎ ((y : ℕ) × (y < m) × (n ≤ row y))
-all-or-one n zero row = inl (λ k l. absurd (omega arith))
-all-or-one n (suc m) row = elim (lt-or-le (row m) n) [
-  | inl a ↦ ⊎_elim (λ f. inl (below_suc (λ k. row k < n) f a)) (λ y. inr (y.0, omega (arith, y.1), y.2)) (all-or-one n m row)
+all_or_one : (n m : ℕ) (row : ℕ → ℕ) → ((k : ℕ) → k < m → row k < n) ⊎ ((y : ℕ) × (y < m) × (n ≤ row y))
+all_or_one n zero row = inl (λ k l. absurd (omega arith))
+all_or_one n (suc m) row = elim (lt_or_le (row m) n) [
+  | inl a ↦ ⊎_elim (λ f. inl (below_suc (λ k. row k < n) f a)) (λ y. inr (y.0, omega (arith, y.1), y.2)) (all_or_one n m row)
   | inr a ↦ inr (m, omega arith, a)
 ]
 
@@ -74,4 +74,4 @@ free-column n p A s l alone =
     let r = reached I s l in
     absurd (alone r.0 r.1 r.2))
     (λ y. y)
-    (all-or-one n n (at p.rows))
+    (all_or_one n n (at p.rows))

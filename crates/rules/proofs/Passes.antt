@@ -13,34 +13,34 @@ use lib.IntN.{ℤ}
 use lib.ListN.{length, set, length-set}
 use Rattle.ints.specs.Parts.{Within}
 use Rattle.lists.specs.Permutations.{at}
-use Rattle.lists.proofs.Runs.{upward-none, upward-last, upward-stays}
+use Rattle.lists.proofs.Runs.{upward_none, upward-last, upward_stays}
 use Rattle.lists.proofs.Cases.{cond_cases}
-use Rattle.assignment.specs.Pairings.{signedAt}
+use Rattle.assignment.specs.Pairings.{signed_at}
 use Rattle.rules.specs.declared.Choice.{Choice}
 use Rattle.rules.specs.declared.Pass.{Pass}
-use Rattle.rules.specs.Lowest.{reduced, twoLowest}
+use Rattle.rules.specs.Lowest.{reduced, two_lowest}
 use Rattle.rules.specs.Columns.{Pairs}
-use Rattle.rules.specs.Rows.{takeColumn, Passing, choose, Placed, passAt, displace, settle, isEarly, look, looks}
-use Rattle.rules.proofs.Lowest.{twoLowest-is}
-use Rattle.rules.proofs.Pairs.{took-row, kept_row, take-agree, free-column}
+use Rattle.rules.specs.Rows.{take_column, Passing, choose, Placed, pass_at, displace, settle, is_early, look, looks}
+use Rattle.rules.proofs.Lowest.{two_lowest_is}
+use Rattle.rules.proofs.Pairs.{took_row, kept_row, take-agree, free-column}
 use Rattle.rules.proofs.Lowering.{Lowers}
 use Rattle.rules.proofs.Kept.{Listed, Kept, step, free-low}
 use Rattle.rules.proofs.Claims.{first, first-low}
-use Rattle.rules.proofs.Looks.{choose-fits, listed_free, listed-displaced}
+use Rattle.rules.proofs.Looks.{choose-fits, listed_free, listed_displaced}
 
 -- ---- one turn: the state after m turns is `looks n cost F m x`
 
 module _ (n : ℕ) (cost : ℕ → ℕ → ℤ) (F : ℕ) (x : Passing) where
-  pub looks-none : looks n cost F 0 x ≡ x
+  pub looks_none : looks n cost F 0 x ≡ x
   unfolding looks
-  looks-none = upward-none 0 0 (λ k y. cond (ltb y.pass.current F) (look n cost y) y) x (omega arith)
+  looks_none = upward_none 0 0 (λ k y. cond (ltb y.pass.current F) (look n cost y) y) x (omega arith)
 
   looks-last : (m : ℕ) → looks n cost F (suc m) x ≡ cond (ltb (looks n cost F m x).pass.current F) (look n cost (looks n cost F m x)) (looks n cost F m x)
   unfolding looks
   looks-last m = upward-last 0 m (λ k y. cond (ltb y.pass.current F) (look n cost y) y) x (omega arith)
 
-  pub looks-more : (m : ℕ) → (looks n cost F m x).pass.current < F → looks n cost F (suc m) x ≡ look n cost (looks n cost F m x)
-  looks-more m h =
+  pub looks_more : (m : ℕ) → (looks n cost F m x).pass.current < F → looks n cost F (suc m) x ≡ look n cost (looks n cost F m x)
+  looks_more m h =
       let y = looks n cost F m x in
       looks-last m ∙ ap (λ (t : Bool). cond t (look n cost y) y) (lt-ltb y.pass.current F h)
 
@@ -49,7 +49,7 @@ module _ (n : ℕ) (cost : ℕ → ℕ → ℤ) (F : ℕ) (x : Passing) where
   unfolding looks
   looks-rest m h d =
       let y = looks n cost F m x in
-      sym (upward-stays 0 m (m + d) (λ k z. cond (ltb z.pass.current F) (look n cost z) z) x y (omega arith) (omega arith) refl
+      sym (upward_stays 0 m (m + d) (λ k z. cond (ltb z.pass.current F) (look n cost z) z) x y (omega arith) (omega arith) refl
       (λ k l q. ap (λ (t : Bool). cond t (look n cost y) y) (le-ltb y.pass.current F h)))
 
 module _ (n : ℕ) (cost : ℕ → ℕ → ℤ) (one : 1 ≤ n) (K : ℕ) (costs : (i j : ℕ) → Within K (cost i j)) where
@@ -66,12 +66,12 @@ module _ (n : ℕ) (cost : ℕ → ℕ → ℤ) (one : 1 ≤ n) (K : ℕ) (costs
       pub kept : Kept n cost K costs v₀ x.pairs x.prices
       pub frees-size : length x.frees ≡ n
       pub left-few : x.pass.left ≤ x.pass.current
-      pub current-few : x.pass.current ≤ F
+      pub current_few : x.pass.current ≤ F
       pub listed : Listed n x.pairs x.frees (In x.pass)
       pub looks-least : x.pass.current ≤ x.pass.looks
       pub looks-most : x.pass.looks ≤ F * n
-      pub looks-now : x.pass.current < F → x.pass.looks < (x.pass.current + 1) * n
-      pub each-looks : (x.pass.looks ≡ m) ⊎ (F ≤ x.pass.current)
+      pub looks_now : x.pass.current < F → x.pass.looks < (x.pass.current + 1) * n
+      pub each_looks : (x.pass.looks ≡ m) ⊎ (F ≤ x.pass.current)
 
     module _ (x : Passing) (m : ℕ) (X : Passed m x) (l : x.pass.current < F) where
       is : In x.pass x.pass.current
@@ -84,74 +84,74 @@ module _ (n : ℕ) (cost : ℕ → ℕ → ℤ) (one : 1 ≤ n) (K : ℕ) (costs
       record Goes (p : Pairs) (q : Placed) : Type 0 where
         size : length q.frees ≡ n
         left-few : q.pass.left ≤ q.pass.current
-        current-few : q.pass.current ≤ F
+        current_few : q.pass.current ≤ F
         listed : Listed n p q.frees (In q.pass)
         counted : q.pass.looks ≡ x.pass.looks + 1
         by_one : q.pass.current ≤ x.pass.current + 1
-        looks-now : q.pass.current < F → q.pass.looks < (q.pass.current + 1) * n
+        looks_now : q.pass.current < F → q.pass.looks < (q.pass.current + 1) * n
 
       module _ (j : ℕ) (lj : j < n) where
         abbrev h : ℕ
         h = at x.pairs.rows j
 
         abbrev p' : Pairs
-        p' = takeColumn x.pairs i j
+        p' = take_column x.pairs i j
 
         -- The next row's looks: n more than this one's at most.
-        next-looks : x.pass.looks + 1 < (x.pass.current + 1 + 1) * n
-        next-looks = omega (arith, X.looks-now l)
+        next_looks : x.pass.looks + 1 < (x.pass.current + 1 + 1) * n
+        next_looks = omega (arith, X.looks_now l)
 
-        nobody : n ≤ h → Goes p' (record { frees = x.frees; pass = passAt (x.pass.current + 1) x.pass.left (x.pass.looks + 1) })
+        nobody : n ≤ h → Goes p' (record { frees = x.frees; pass = pass_at (x.pass.current + 1) x.pass.left (x.pass.looks + 1) })
         nobody f = record {
           size = X.frees-size;
           left-few = omega (arith, X.left-few);
-          current-few = omega arith;
+          current_few = omega arith;
           listed = listed_free n x.pairs X.kept.agree x.frees (In x.pass) X.listed x.pass.current is j lj f
-              (In (passAt (x.pass.current + 1) x.pass.left (x.pass.looks + 1)))
+              (In (pass_at (x.pass.current + 1) x.pass.left (x.pass.looks + 1)))
               (λ t a. ⊎_elim (λ b. (inl b, λ e. omega (arith, X.left-few))) (λ b. (inr (omega (arith, b.0), b.1), λ e. omega (arith, b.0))) a)
               (λ t a d. ⊎_elim (λ b. inl b) (λ b. inr (omega (arith, b.0), b.1)) a);
           counted = refl;
           by_one = omega arith;
-          looks-now = λ g. next-looks;
+          looks_now = λ g. next_looks;
         }
 
         goes_back : h < n → x.pass.looks + 1 < (x.pass.current + 1) * n
-            → Goes p' (record { frees = set x.frees x.pass.current h; pass = passAt x.pass.current x.pass.left (x.pass.looks + 1) })
+            → Goes p' (record { frees = set x.frees x.pass.current h; pass = pass_at x.pass.current x.pass.left (x.pass.looks + 1) })
         goes_back f early = record {
           size = length-set x.frees x.pass.current h ∙ X.frees-size;
           left-few = X.left-few;
-          current-few = X.current-few;
-          listed = listed-displaced n x.pairs X.kept.agree x.frees (In x.pass) X.listed x.pass.current is j lj f
-              x.pass.current (omega (arith, X.frees-size)) (In (passAt x.pass.current x.pass.left (x.pass.looks + 1))) is
+          current_few = X.current_few;
+          listed = listed_displaced n x.pairs X.kept.agree x.frees (In x.pass) X.listed x.pass.current is j lj f
+              x.pass.current (omega (arith, X.frees-size)) (In (pass_at x.pass.current x.pass.left (x.pass.looks + 1))) is
               (λ t a d. (a, d)) (λ t a d. (a, d));
           counted = refl;
           by_one = omega arith;
-          looks-now = λ g. early;
+          looks_now = λ g. early;
         }
 
-        goes_on : h < n → Goes p' (record { frees = set x.frees x.pass.left h; pass = passAt (x.pass.current + 1) (x.pass.left + 1) (x.pass.looks + 1) })
+        goes_on : h < n → Goes p' (record { frees = set x.frees x.pass.left h; pass = pass_at (x.pass.current + 1) (x.pass.left + 1) (x.pass.looks + 1) })
         goes_on f = record {
           size = length-set x.frees x.pass.left h ∙ X.frees-size;
           left-few = omega (arith, X.left-few);
-          current-few = omega arith;
-          listed = listed-displaced n x.pairs X.kept.agree x.frees (In x.pass) X.listed x.pass.current is j lj f
-              x.pass.left (omega (arith, X.left-few, X.frees-size)) (In (passAt (x.pass.current + 1) (x.pass.left + 1) (x.pass.looks + 1))) (inl (omega arith))
+          current_few = omega arith;
+          listed = listed_displaced n x.pairs X.kept.agree x.frees (In x.pass) X.listed x.pass.current is j lj f
+              x.pass.left (omega (arith, X.left-few, X.frees-size)) (In (pass_at (x.pass.current + 1) (x.pass.left + 1) (x.pass.looks + 1))) (inl (omega arith))
               (λ t a d. ⊎_elim (λ b. (inl (omega arith), λ e. omega (arith, X.left-few))) (λ b. (inr (omega (arith, b.0), b.1), λ e. omega (arith, b.0))) a)
               (λ t a d. ⊎_elim (λ b. (inl (omega arith), λ e. omega arith)) (λ b. (inr (omega (arith, b.0), b.1), λ e. omega (arith, b.0, X.left-few))) a);
           counted = refl;
           by_one = omega arith;
-          looks-now = λ g. next-looks;
+          looks_now = λ g. next_looks;
         }
 
-        displace-goes : (back : Bool) → (back ≡ true → x.pass.looks + 1 < (x.pass.current + 1) * n) → Goes p' (displace n x.frees x.pass back h)
-        displace-goes back early =
-            let a : Placed = record { frees = set x.frees x.pass.current h; pass = passAt x.pass.current x.pass.left (x.pass.looks + 1) } in
-            let b : Placed = record { frees = set x.frees x.pass.left h; pass = passAt (x.pass.current + 1) (x.pass.left + 1) (x.pass.looks + 1) } in
-            cond_cases (ltb h n) (Goes p') (cond back a b) (record { frees = x.frees; pass = passAt (x.pass.current + 1) x.pass.left (x.pass.looks + 1) })
+        displace_goes : (back : Bool) → (back ≡ true → x.pass.looks + 1 < (x.pass.current + 1) * n) → Goes p' (displace n x.frees x.pass back h)
+        displace_goes back early =
+            let a : Placed = record { frees = set x.frees x.pass.current h; pass = pass_at x.pass.current x.pass.left (x.pass.looks + 1) } in
+            let b : Placed = record { frees = set x.frees x.pass.left h; pass = pass_at (x.pass.current + 1) (x.pass.left + 1) (x.pass.looks + 1) } in
+            cond_cases (ltb h n) (Goes p') (cond back a b) (record { frees = x.frees; pass = pass_at (x.pass.current + 1) x.pass.left (x.pass.looks + 1) })
             (λ t. cond_cases back (Goes p') a b (λ u. goes_back (ltb-true h n t) (early u)) (λ u. goes_on (ltb-true h n t)))
             (λ t. nobody (ltb-false h n t))
 
-      settle-passed : (w : Choice) → Lowers n cost (signedAt x.prices) i w.column w.price
+      settle-passed : (w : Choice) → Lowers n cost (signed_at x.prices) i w.column w.price
           → (w.back ≡ true → x.pass.looks + 1 < (x.pass.current + 1) * n) → x.pass.looks ≡ m → Passed (suc m) (settle n x i w)
       settle-passed w low early z =
           let j = w.column in
@@ -160,26 +160,26 @@ module _ (n : ℕ) (cost : ℕ → ℕ → ℤ) (one : 1 ≤ n) (K : ℕ) (costs
           let li : i < n = X.listed.row_below x.pass.current is in
           let alone = X.listed.unpaired x.pass.current is in
           let y = free-column n x.pairs A i li alone in
-          let q = displace-goes j lj w.back early in
+          let q = displace_goes j lj w.back early in
           record {
             kept = step n cost K costs v₀ (first-low n cost one K costs) x.pairs x.prices X.kept j w.price lj
                 y.0 y.1 (free-low n cost K costs v₀ (first-low n cost one K costs) x.pairs x.prices X.kept y.0 y.1 y.2)
-                i low (takeColumn x.pairs i j) (take-agree n x.pairs A i j li lj alone)
-                (took-row n x.pairs A.cols-size A.rows-size i j li lj) li
+                i low (take_column x.pairs i j) (take-agree n x.pairs A i j li lj alone)
+                (took_row n x.pairs A.cols-size A.rows-size i j li lj) li
                 (kept_row n x.pairs A.cols-size A.rows-size i j li lj);
             frees-size = q.size;
             left-few = q.left-few;
-            current-few = q.current-few;
+            current_few = q.current_few;
             listed = q.listed;
             looks-least = omega (arith, q.by_one, q.counted, X.looks-least);
-            looks-most = omega (arith, q.counted, X.looks-now l, mul-le-mul_right n l, add-one x.pass.current);
-            looks-now = q.looks-now;
-            each-looks = inl (omega (arith, q.counted));
+            looks-most = omega (arith, q.counted, X.looks_now l, mul-le-mul_right n l, add-one x.pass.current);
+            looks_now = q.looks_now;
+            each_looks = inl (omega (arith, q.counted));
           }
 
       pub look-passed : x.pass.looks ≡ m → Passed (suc m) (look n cost x)
       look-passed z =
-          let f : ℕ → ℤ = reduced cost (signedAt x.prices) i in
-          let r = choose-fits n cost one x.prices x.pairs.rows i (isEarly n x.pass) (twoLowest n f) (twoLowest-is n f one) in
-          settle-passed (choose n (isEarly n x.pass) x.prices x.pairs.rows (twoLowest n f)) r.lowers
+          let f : ℕ → ℤ = reduced cost (signed_at x.prices) i in
+          let r = choose-fits n cost one x.prices x.pairs.rows i (is_early n x.pass) (two_lowest n f) (two_lowest_is n f one) in
+          settle-passed (choose n (is_early n x.pass) x.prices x.pairs.rows (two_lowest n f)) r.lowers
           (λ b. ltb-true (x.pass.looks + 1) ((x.pass.current + 1) * n) (r.back_early b)) z

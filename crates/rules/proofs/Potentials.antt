@@ -27,9 +27,9 @@ module _ (n : ℕ) (cost : ℕ → ℕ → ℤ) where
     reduced-lowered i k =
         omega (zarith, dif (cost i k) (v k), sum (reduced cost v i k) μ, dif (e k) μ, sum (v k) (e k -ℤ μ), dif (cost i k) (v' k), sum (reduced cost v' i k) (e k))
 
-    pub still-fair : Settled v row s e μ → Fair n cost v' row
-    still-fair S = record {
-      paired-at-minimum = λ j l h. record {
+    pub still_fair : Settled v row s e μ → Fair n cost v' row
+    still_fair S = record {
+      paired_at_minimum = λ j l h. record {
         no_less = λ k m.
             let i = row j in
             omega (
@@ -48,24 +48,24 @@ module _ (n : ℕ) (cost : ℕ → ℕ → ℤ) where
     }
 
     -- μ is the start row's minimum.
-    start-least : Settled v row s e μ → (k : ℕ) → k < n → μ ≤ℤ reduced cost v' s k
-    start-least S k l = omega (zarith, S.from_start k l, reduced-lowered s k, sum (reduced cost v' s k) (e k), sum (reduced cost v s k) μ)
+    start_least : Settled v row s e μ → (k : ℕ) → k < n → μ ≤ℤ reduced cost v' s k
+    start_least S k l = omega (zarith, S.from_start k l, reduced-lowered s k, sum (reduced cost v' s k) (e k), sum (reduced cost v s k) μ)
 
     -- A column that the start row reaches as near as it lies.
-    pub start-minimum : Settled v row s e μ → (j : ℕ) → j < n → e j ≡ reduced cost v s j → AtMinimum n cost v' s j
-    start-minimum S j l q = record {
-      no_less = λ k m. omega (zarith, start-least S k m, reduced-lowered s j, sum (reduced cost v' s j) (e j), sum (reduced cost v s j) μ);
+    pub start_minimum : Settled v row s e μ → (j : ℕ) → j < n → e j ≡ reduced cost v s j → AtMinimum n cost v' s j
+    start_minimum S j l q = record {
+      no_less = λ k m. omega (zarith, start_least S k m, reduced-lowered s j, sum (reduced cost v' s j) (e j), sum (reduced cost v s j) μ);
     }
 
     -- A column that the row of column x reaches as near as it lies.
-    pub step-minimum : Settled v row s e μ → (x j : ℕ) → x < n → j < n → row x < n
+    pub step_minimum : Settled v row s e μ → (x j : ℕ) → x < n → j < n → row x < n
         → e j +ℤ reduced cost v (row x) x ≡ e x +ℤ reduced cost v (row x) j → AtMinimum n cost v' (row x) j
-    step-minimum S x j lx l h q = record {
+    step_minimum S x j lx l h q = record {
       no_less = λ k m.
           let i = row x in
           omega (
             zarith,
-            ((still-fair S).paired-at-minimum x lx h).no_less k m,
+            ((still_fair S).paired_at_minimum x lx h).no_less k m,
             reduced-lowered i x,
             reduced-lowered i j,
             sum (reduced cost v' i j) (e j),

@@ -12,12 +12,12 @@ use lib.IntN.{ℤ}
 use lib.ListN.{length}
 use Rattle.ints.specs.Parts.{Within}
 use Rattle.lists.specs.Permutations.{at}
-use Rattle.lists.proofs.Runs.{upward-keeps}
-use Rattle.lists.proofs.Cases.{cond_cases, lt-or-le}
-use Rattle.assignment.specs.Pairings.{signedAt}
+use Rattle.lists.proofs.Runs.{upward_keeps}
+use Rattle.lists.proofs.Cases.{cond_cases, lt_or_le}
+use Rattle.assignment.specs.Pairings.{signed_at}
 use Rattle.rules.specs.Columns.{Stage}
-use Rattle.rules.specs.Rows.{Passing, look, looks, passStart, passEnd, rowReduction}
-use Rattle.rules.proofs.Kept.{within-five}
+use Rattle.rules.specs.Rows.{Passing, look, looks, pass_start, pass_end, row_reduction}
+use Rattle.rules.proofs.Kept.{within_five}
 use Rattle.rules.proofs.Claims.{first, first-low, first-within}
 use Rattle.rules.proofs.Transfers.{Good}
 use Rattle.rules.proofs.Passes.{looks-rest, Passed, look-passed}
@@ -33,51 +33,51 @@ module _ (n : ℕ) (cost : ℕ → ℕ → ℤ) (one : 1 ≤ n) (K : ℕ) (costs
       kept = X.kept;
       frees-size = X.frees-size;
       left-few = X.left-few;
-      current-few = X.current-few;
+      current_few = X.current_few;
       listed = X.listed;
       looks-least = X.looks-least;
       looks-most = X.looks-most;
-      looks-now = X.looks-now;
-      each-looks = inr h;
+      looks_now = X.looks_now;
+      each_looks = inr h;
     }
 
     pub looks-passed : (x : Passing) → P 0 x → (m : ℕ) → P m (looks n cost F m x)
     unfolding looks
     looks-passed x X m =
-        upward-keeps P 0 m (λ k y. cond (ltb y.pass.current F) (look n cost y) y) x (omega arith) X
+        upward_keeps P 0 m (λ k y. cond (ltb y.pass.current F) (look n cost y) y) x (omega arith) X
         (λ k y a l Y. cond_cases (ltb y.pass.current F) (P (suc k)) (look n cost y) y
         (λ t. let c : y.pass.current < F = ltb-true y.pass.current F t in
-        look-passed n cost one K costs F lF y k Y c (⊎_elim (λ e. e) (λ e. absurd (omega arith)) Y.each-looks))
+        look-passed n cost one K costs F lF y k Y c (⊎_elim (λ e. e) (λ e. absurd (omega arith)) Y.each_looks))
         (λ t. stays k y Y (ltb-false y.pass.current F t)))
 
     -- After F * n turns all rows are done.
-    pub looks-done : (x : Passing) → P (F * n) x → x.pass.current ≡ F
-    looks-done x X = ⊎_elim
-        (λ e. elim (lt-or-le x.pass.current F) [
-          | inl l ↦ absurd (omega (arith, X.looks-now l, mul-le-mul_right n l, add-one x.pass.current))
-          | inr l ↦ omega (arith, X.current-few)
+    pub looks_done : (x : Passing) → P (F * n) x → x.pass.current ≡ F
+    looks_done x X = ⊎_elim
+        (λ e. elim (lt_or_le x.pass.current F) [
+          | inl l ↦ absurd (omega (arith, X.looks_now l, mul-le-mul_right n l, add-one x.pass.current))
+          | inr l ↦ omega (arith, X.current_few)
         ])
-        (λ e. omega (arith, X.current-few)) X.each-looks
+        (λ e. omega (arith, X.current_few)) X.each_looks
 
   -- ---- a pass
 
-  pub start-passed : (s : Stage) (G : Good n cost one K costs s) → Passed n cost one K costs s.count G.count-few 0 (passStart s)
-  start-passed s G = record {
+  pub start_passed : (s : Stage) (G : Good n cost one K costs s) → Passed n cost one K costs s.count G.count-few 0 (pass_start s)
+  start_passed s G = record {
     kept = G.kept;
     frees-size = G.frees-size;
     left-few = omega arith;
-    current-few = omega arith;
+    current_few = omega arith;
     listed = record {
       row_below = λ t a. G.listed.row_below t (was t a);
       unpaired = λ t a. G.listed.unpaired t (was t a);
       once = λ t u a b. G.listed.once t u (was t a) (was u b);
-      paired-or-listed = λ i l. ⊎_elim (λ a. inl a)
-          (λ (a : (t : ℕ) × (t < s.count) × (at s.frees t ≡ i)). inr (a.0, inr (omega arith, a.1), a.2)) (G.listed.paired-or-listed i l);
+      paired_or_listed = λ i l. ⊎_elim (λ a. inl a)
+          (λ (a : (t : ℕ) × (t < s.count) × (at s.frees t ≡ i)). inr (a.0, inr (omega arith, a.1), a.2)) (G.listed.paired_or_listed i l);
     };
     looks-least = omega arith;
     looks-most = omega arith;
-    looks-now = λ l. omega arith;
-    each-looks = inl refl;
+    looks_now = λ l. omega arith;
+    each_looks = inl refl;
   }
     where
       was : (t : ℕ) → (t < 0) ⊎ ((0 ≤ t) × (t < s.count)) → t < s.count
@@ -85,26 +85,26 @@ module _ (n : ℕ) (cost : ℕ → ℕ → ℤ) (one : 1 ≤ n) (K : ℕ) (costs
 
   -- A pass over the free rows of a stage: F to F * n looks, and no more rows left than there were.
   pub record PassOf (s : Stage) (x : Passing) : Type 0 where
-    pub good : Good n cost one K costs (passEnd x)
-    pub all-looked-at : x.pass.current ≡ s.count
+    pub good : Good n cost one K costs (pass_end x)
+    pub all_looked_at : x.pass.current ≡ s.count
     pub looks-least : s.count ≤ x.pass.looks
     pub looks-most : x.pass.looks ≤ s.count * n
     pub left-fewer : x.pass.left ≤ s.count
 
   module _ (s : Stage) (G : Good n cost one K costs s) where
     abbrev after : ℕ → Passing
-    after m = looks n cost s.count m (passStart s)
+    after m = looks n cost s.count m (pass_start s)
 
     after-passed : (m : ℕ) → Passed n cost one K costs s.count G.count-few m (after m)
-    after-passed m = looks-passed s.count G.count-few (passStart s) (start-passed s G) m
+    after-passed m = looks-passed s.count G.count-few (pass_start s) (start_passed s G) m
 
-    pub rowReduction-pass-of : PassOf s (rowReduction n cost s)
-    unfolding rowReduction
-    rowReduction-pass-of =
+    pub row_reduction_pass_of : PassOf s (row_reduction n cost s)
+    unfolding row_reduction
+    row_reduction_pass_of =
         let F = s.count in
         let x = after (F * n) in
         let X = after-passed (F * n) in
-        let e : x.pass.current ≡ F = looks-done F G.count-few x X in
+        let e : x.pass.current ≡ F = looks_done F G.count-few x X in
         record {
           good = record {
             kept = X.kept;
@@ -114,25 +114,25 @@ module _ (n : ℕ) (cost : ℕ → ℕ → ℤ) (one : 1 ≤ n) (K : ℕ) (costs
               row_below = λ t a. X.listed.row_below t (inl a);
               unpaired = λ t a. X.listed.unpaired t (inl a);
               once = λ t u a b. X.listed.once t u (inl a) (inl b);
-              paired-or-listed = λ i l. ⊎_elim (λ a. inl a)
+              paired_or_listed = λ i l. ⊎_elim (λ a. inl a)
                   (λ (a : (t : ℕ) × ((t < x.pass.left) ⊎ ((x.pass.current ≤ t) × (t < F))) × (at x.frees t ≡ i)).
-                  inr (a.0, ⊎_elim (λ b. b) (λ b. absurd (omega (arith, b.0, b.1))) a.1, a.2)) (X.listed.paired-or-listed i l);
+                  inr (a.0, ⊎_elim (λ b. b) (λ b. absurd (omega (arith, b.0, b.1))) a.1, a.2)) (X.listed.paired_or_listed i l);
             };
           };
-          all-looked-at = e;
+          all_looked_at = e;
           looks-least = omega (arith, X.looks-least);
           looks-most = X.looks-most;
           left-fewer = omega (arith, X.left-few);
         }
 
     -- More turns than F * n change nothing.
-    pub rowReduction-enough : (m : ℕ) → s.count * n ≤ m → after m ≡ rowReduction n cost s
-    unfolding rowReduction
-    rowReduction-enough m h =
+    pub row_reduction-enough : (m : ℕ) → s.count * n ≤ m → after m ≡ row_reduction n cost s
+    unfolding row_reduction
+    row_reduction-enough m h =
         let F = s.count in
         let e : F * n + (m - F * n) ≡ m = omega arith in
         ap after (sym e)
-        ∙ looks-rest n cost F (passStart s) (F * n) (omega (arith, looks-done F G.count-few (after (F * n)) (after-passed (F * n)))) (m - F * n)
+        ∙ looks-rest n cost F (pass_start s) (F * n) (omega (arith, looks_done F G.count-few (after (F * n)) (after-passed (F * n)))) (m - F * n)
 
     -- What a look after m turns finds: sizes, indices in range, prices within 5K, and the counter.
     pub record Ready (m : ℕ) (x : Passing) : Type 0 where
@@ -140,10 +140,10 @@ module _ (n : ℕ) (cost : ℕ → ℕ → ℤ) (one : 1 ≤ n) (K : ℕ) (costs
       pub rows-size : length x.pairs.rows ≡ n
       pub prices-size : length x.prices ≡ n
       pub frees-size : length x.frees ≡ n
-      pub current-below : x.pass.current < n
+      pub current_below : x.pass.current < n
       pub left-few : x.pass.left ≤ x.pass.current
       pub row_below : at x.frees x.pass.current < n
-      pub prices-within : (k : ℕ) → Within (5 * K) (signedAt x.prices k)
+      pub prices-within : (k : ℕ) → Within (5 * K) (signed_at x.prices k)
       pub looks-counted : x.pass.looks ≡ m
       pub looks-below : m < s.count * n
 
@@ -151,16 +151,16 @@ module _ (n : ℕ) (cost : ℕ → ℕ → ℤ) (one : 1 ≤ n) (K : ℕ) (costs
     look-ready m l =
         let x = after m in
         let X = after-passed m in
-        let e : x.pass.looks ≡ m = ⊎_elim (λ a. a) (λ a. absurd (omega arith)) X.each-looks in
+        let e : x.pass.looks ≡ m = ⊎_elim (λ a. a) (λ a. absurd (omega arith)) X.each_looks in
         record {
           cols-size = X.kept.agree.cols-size;
           rows-size = X.kept.agree.rows-size;
           prices-size = X.kept.prices-size;
           frees-size = X.frees-size;
-          current-below = omega (arith, G.count-few);
+          current_below = omega (arith, G.count-few);
           left-few = X.left-few;
           row_below = X.listed.row_below x.pass.current (inr (omega arith, l));
-          prices-within = within-five n cost K costs (first n cost one) (first-low n cost one K costs) x.pairs x.prices X.kept (first-within n cost one K costs);
+          prices-within = within_five n cost K costs (first n cost one) (first-low n cost one K costs) x.pairs x.prices X.kept (first-within n cost one K costs);
           looks-counted = e;
-          looks-below = omega (arith, e, X.looks-now l, mul-le-mul_right n l, add-one x.pass.current);
+          looks-below = omega (arith, e, X.looks_now l, mul-le-mul_right n l, add-one x.pass.current);
         }

@@ -14,19 +14,19 @@ use lib.Signed.{lt_z}
 use lib.ListN.{length}
 use Rattle.lists.specs.Runs.{Turn, on, left, until}
 use Rattle.lists.specs.Permutations.{at, table, Permutation}
-use Rattle.lists.proofs.Runs.{upward-none, until_none}
-use Rattle.lists.proofs.Leaving.{Either, goes_on, is-left, either-map}
+use Rattle.lists.proofs.Runs.{upward_none, until_none}
+use Rattle.lists.proofs.Leaving.{Either, goes_on, is_left_lem, either_map}
 use Rattle.lists.proofs.InStep.{until-same}
-use Rattle.lists.proofs.Tables.{length-table, getD-table, table-cong}
-use Rattle.lists.proofs.Permutations.{exchange-second, exchange-other, exchange-permutation}
-use Rattle.lists.proofs.Cases.{cond_cases, lt-or-le}
+use Rattle.lists.proofs.Tables.{length-table, get_d_table, table_cong}
+use Rattle.lists.proofs.Permutations.{exchange-second, exchange_other, exchange_permutation}
+use Rattle.lists.proofs.Cases.{cond_cases, lt_or_le}
 use Rattle.rules.specs.declared.LastFree.{LastFree}
 use Rattle.rules.specs.declared.LastFree.TheVariants.{NoneYet, At}
 use Rattle.rules.specs.Lowest.{reduced}
-use Rattle.rules.specs.Block.{Block, blockStep, blockStart, block}
-use Rattle.rules.specs.Search.{Work, Hit, workOf, same, reachBy, join, countOne, afterLowering, scanColumn, scanRow, scan, lastFree, freshBlock, afterScan, after_block, searchBlock, searchBlocks, searchStart, found_at, search}
-use Rattle.rules.proofs.Block.{block-of-minima}
-use Rattle.rules.proofs.FreeColumns.{Sought, lastFree-sought}
+use Rattle.rules.specs.Block.{Block, block_step, block_start, block}
+use Rattle.rules.specs.Search.{Work, Hit, work_of, same, reach_by, join, count_one, after_lowering, scan_column, scan_row, scan, last_free, fresh_block, after_scan, after_block, search_block, search_blocks, search_start, found_at, search}
+use Rattle.rules.proofs.Block.{block_of_minima}
+use Rattle.rules.proofs.FreeColumns.{Sought, last_free_sought}
 use Rattle.rules.proofs.Scan.{place, far}
 
 -- The columns in some order, and those of a block that starts at lo are paired.
@@ -52,12 +52,12 @@ joined n row lo k w S l h =
     let size : length w.list ≡ n = P.size in
     record {
       in_block = record {
-        permutation = exchange-permutation P k b l lb;
+        permutation = exchange_permutation P k b l lb;
         few = omega arith;
         paired = λ t a m. elim (ℕ_discrete t b) [
           | yes z ↦ subst (λ (y : ℕ). row (place (join w k) y) < n) (sym z)
               (subst (λ (y : ℕ). row y < n) (sym (exchange-second w.list k b (omega arith))) h)
-          | no d ↦ subst (λ (y : ℕ). row y < n) (sym (exchange-other w.list k b t (λ z. omega (arith, S.to)) d)) (S.in_block.paired t a (omega arith))
+          | no d ↦ subst (λ (y : ℕ). row y < n) (sym (exchange_other w.list k b t (λ z. omega (arith, S.to)) d)) (S.in_block.paired t a (omega arith))
         ];
       };
       to = omega (arith, S.to);
@@ -65,13 +65,13 @@ joined n row lo k w S l h =
 
 -- Whatever costs and prices are, a scan keeps what is said above.
 module _ (n : ℕ) (cost : ℕ → ℕ → ℤ) (v : ℕ → ℤ) (row : ℕ → ℕ) (lo : ℕ) where
-  column-keeps : (minimum h : ℤ) (i k : ℕ) (w : Work) → Seen n row lo k w → k < n → Either (Seen n row lo (suc k)) Any (scanColumn n cost v row minimum h i k w)
-  column-keeps minimum h i k w S l =
-      cond_cases (lt_z x (far w j)) G (afterLowering n row minimum k j x q) (on w)
+  column_keeps : (minimum h : ℤ) (i k : ℕ) (w : Work) → Seen n row lo k w → k < n → Either (Seen n row lo (suc k)) Any (scan_column n cost v row minimum h i k w)
+  column_keeps minimum h i k w S l =
+      cond_cases (lt_z x (far w j)) G (after_lowering n row minimum k j x q) (on w)
       (λ a. cond_cases (same x minimum) G (cond (ltb (row j) n) (on (join q k)) (left (record { column = j; work = q }))) (on q)
       (λ b. cond_cases (ltb (row j) n) G (on (join q k)) (left (record { column = j; work = q }))
       (λ d. goes_on (joined n row lo k q reached l (ltb-true (row j) n d)))
-      (λ d. is-left tt))
+      (λ d. is_left_lem tt))
       (λ b. goes_on (more q reached)))
       (λ a. goes_on (more w S))
     where
@@ -85,7 +85,7 @@ module _ (n : ℕ) (cost : ℕ → ℕ → ℤ) (v : ℕ → ℤ) (row : ℕ →
       x = reduced cost v i j -ℤ h
 
       q : Work
-      q = reachBy w i j x
+      q = reach_by w i j x
 
       reached : Seen n row lo k q
       reached = record {
@@ -99,46 +99,46 @@ module _ (n : ℕ) (cost : ℕ → ℕ → ℤ) (v : ℕ → ℤ) (row : ℕ →
 -- From place n on there is no block and no scan.
 block-past : (n : ℕ) (d : List ℤ) (lo : ℕ) (list : List ℕ) → n ≤ lo → (block n d lo list).list ≡ list
 unfolding block
-block-past n d lo list h = ap (λ (b : Block). b.list) (upward-none (lo + 1) n (blockStep d lo) (blockStart d lo list) (omega arith))
+block-past n d lo list h = ap (λ (b : Block). b.list) (upward_none (lo + 1) n (block_step d lo) (block_start d lo list) (omega arith))
 
 scan-past : (n : ℕ) (cost : ℕ → ℕ → ℤ) (v : ℕ → ℤ) (row : ℕ → ℕ) (lo : ℕ) (w : Work) → n ≤ lo → scan n cost v row lo w ≡ on w
 unfolding scan
-scan-past n cost v row lo w h = until_none lo n (λ k x. cond (ltb k x.hi) (scanRow n cost v row k x) (on x)) w h
+scan-past n cost v row lo w h = until_none lo n (λ k x. cond (ltb k x.hi) (scan_row n cost v row k x) (on x)) w h
 
 module _ (n : ℕ) (cost cost' : ℕ → ℕ → ℤ) (v v' : ℕ → ℤ) (row : ℕ → ℕ)
     (E : (i j : ℕ) → i < n → j < n → reduced cost v i j ≡ reduced cost' v' i j) where
   column-same : (minimum h : ℤ) (i k : ℕ) (w : Work) → i < n → Permutation n w.list → k < n
-      → scanColumn n cost v row minimum h i k w ≡ scanColumn n cost' v' row minimum h i k w
+      → scan_column n cost v row minimum h i k w ≡ scan_column n cost' v' row minimum h i k w
   column-same minimum h i k w li P l =
       let j = place w k in
-      ap (λ (y : ℤ). cond (lt_z (y -ℤ h) (far w j)) (afterLowering n row minimum k j (y -ℤ h) (reachBy w i j (y -ℤ h))) (on w)) (E i j li (P.injective.below k l))
+      ap (λ (y : ℤ). cond (lt_z (y -ℤ h) (far w j)) (after_lowering n row minimum k j (y -ℤ h) (reach_by w i j (y -ℤ h))) (on w)) (E i j li (P.injective.below k l))
 
   row_same : (lo k : ℕ) (w : Work) → InBlock n row lo w → lo ≤ k → k < w.hi
-      → Either (InBlock n row lo) Any (scanRow n cost v row k w) × (scanRow n cost v row k w ≡ scanRow n cost' v' row k w)
+      → Either (InBlock n row lo) Any (scan_row n cost v row k w) × (scan_row n cost v row k w ≡ scan_row n cost' v' row k w)
   row_same lo k w B a l =
       let j = place w k in
       let m = far w j in
       let lj : j < n = B.permutation.injective.below k (omega (arith, B.few)) in
       let li : row j < n = B.paired k a l in
       let h = reduced cost v (row j) j -ℤ m in
-      let r = until-same (Seen n row lo) Any w.hi n (scanColumn n cost v row m h (row j)) (scanColumn n cost' v' row m h (row j)) (countOne w) B.few
+      let r = until-same (Seen n row lo) Any w.hi n (scan_column n cost v row m h (row j)) (scan_column n cost' v' row m h (row j)) (count_one w) B.few
       (record { in_block = record { permutation = B.permutation; few = B.few; paired = B.paired }; to = omega arith })
-      (λ t x b c S. (column-keeps n cost v row lo m h (row j) t x S c, column-same m h (row j) t x li S.in_block.permutation c)) in (
-        either-map r.0 (λ x S. S.in_block) (λ y q. q),
-        r.1 ∙ ap (λ (y : ℤ). until w.hi n (scanColumn n cost' v' row m (y -ℤ m) (row j)) (countOne w)) (E (row j) j li lj),
+      (λ t x b c S. (column_keeps n cost v row lo m h (row j) t x S c, column-same m h (row j) t x li S.in_block.permutation c)) in (
+        either_map r.0 (λ x S. S.in_block) (λ y q. q),
+        r.1 ∙ ap (λ (y : ℤ). until w.hi n (scan_column n cost' v' row m (y -ℤ m) (row j)) (count_one w)) (E (row j) j li lj),
       )
 
   scan-same : (lo : ℕ) (w : Work) → InBlock n row lo w → lo ≤ n
       → Either (InBlock n row lo) Any (scan n cost v row lo w) × (scan n cost v row lo w ≡ scan n cost' v' row lo w)
   unfolding scan
   scan-same lo w B l =
-      until-same (λ k. InBlock n row lo) Any lo n (λ k x. cond (ltb k x.hi) (scanRow n cost v row k x) (on x))
-      (λ k x. cond (ltb k x.hi) (scanRow n cost' v' row k x) (on x)) w l B
-      (λ k x a m D. turn k x a D (lt-or-le k x.hi))
+      until-same (λ k. InBlock n row lo) Any lo n (λ k x. cond (ltb k x.hi) (scan_row n cost v row k x) (on x))
+      (λ k x. cond (ltb k x.hi) (scan_row n cost' v' row k x) (on x)) w l B
+      (λ k x a m D. turn k x a D (lt_or_le k x.hi))
     where
       turn : (k : ℕ) (x : Work) → lo ≤ k → InBlock n row lo x → (k < x.hi) ⊎ (x.hi ≤ k)
-          → Either (InBlock n row lo) Any (cond (ltb k x.hi) (scanRow n cost v row k x) (on x))
-          × (cond (ltb k x.hi) (scanRow n cost v row k x) (on x) ≡ cond (ltb k x.hi) (scanRow n cost' v' row k x) (on x))
+          → Either (InBlock n row lo) Any (cond (ltb k x.hi) (scan_row n cost v row k x) (on x))
+          × (cond (ltb k x.hi) (scan_row n cost v row k x) (on x) ≡ cond (ltb k x.hi) (scan_row n cost' v' row k x) (on x))
       turn k x a D (inl h) = rw (lt-ltb k x.hi h) (row_same lo k x D a h)
       turn k x a D (inr h) = rw (le-ltb k x.hi h) (goes_on D, refl)
 
@@ -148,56 +148,56 @@ module _ (n : ℕ) (cost cost' : ℕ → ℕ → ℤ) (v v' : ℕ → ℤ) (row 
   abbrev Listed : Work → Type 0
   Listed w = Permutation n w.list
 
-  after : (lo hi : ℕ) (t : Turn Work Hit) → Either (InBlock n row lo) Any t → Either Listed Any (afterScan lo hi t)
+  after : (lo hi : ℕ) (t : Turn Work Hit) → Either (InBlock n row lo) Any t → Either Listed Any (after_scan lo hi t)
   after lo hi (on x) (goes_on B) = goes_on B.permutation
-  after lo hi (left h) (is-left q) = is-left q
+  after lo hi (left h) (is_left_lem q) = is_left_lem q
 
-  block_same : (w : Work) → Listed w → Either Listed Any (searchBlock n cost v row w) × (searchBlock n cost v row w ≡ searchBlock n cost' v' row w)
-  block_same w P = elim (lt-or-le w.hi n) [ inl l ↦ within l | inr l ↦ past l ]
+  block_same : (w : Work) → Listed w → Either Listed Any (search_block n cost v row w) × (search_block n cost v row w ≡ search_block n cost' v' row w)
+  block_same w P = elim (lt_or_le w.hi n) [ inl l ↦ within l | inr l ↦ past l ]
     where
       q : Work
-      q = freshBlock n w.hi w
+      q = fresh_block n w.hi w
 
       Goal : LastFree → Type 0
       Goal o = Either Listed Any (after_block n cost v row w.hi q o) × (after_block n cost v row w.hi q o ≡ after_block n cost' v' row w.hi q o)
 
-      within : w.hi < n → Goal (lastFree n row q.list w.hi q.hi)
+      within : w.hi < n → Goal (last_free n row q.list w.hi q.hi)
       within l =
-          let B = block-of-minima n w.distances w.hi w.list P l in
-          by (lastFree n row q.list w.hi q.hi) (lastFree-sought n row q.list w.hi q.hi (omega (arith, B.order)))
+          let B = block_of_minima n w.distances w.hi w.list P l in
+          by (last_free n row q.list w.hi q.hi) (last_free_sought n row q.list w.hi q.hi (omega (arith, B.order)))
         where
           by : (o : LastFree) → Sought n row q.list w.hi q.hi o → Goal o
-          by (At j) S = (is-left tt, refl)
+          by (At j) S = (is_left_lem tt, refl)
           by NoneYet S =
-              let B = block-of-minima n w.distances w.hi w.list P l in
+              let B = block_of_minima n w.distances w.hi w.list P l in
               let r = scan-same w.hi q (record { permutation = B.permutation; few = omega (arith, B.order); paired = S }) (omega arith) in
-              (after w.hi q.hi (scan n cost v row w.hi q) r.0, ap (afterScan w.hi q.hi) r.1)
+              (after w.hi q.hi (scan n cost v row w.hi q) r.0, ap (after_scan w.hi q.hi) r.1)
 
       -- No place is left, and nothing is scanned.
-      past : n ≤ w.hi → Goal (lastFree n row q.list w.hi q.hi)
-      past l = by (lastFree n row q.list w.hi q.hi)
+      past : n ≤ w.hi → Goal (last_free n row q.list w.hi q.hi)
+      past l = by (last_free n row q.list w.hi q.hi)
         where
           by : (o : LastFree) → Goal o
-          by (At j) = (is-left tt, refl)
+          by (At j) = (is_left_lem tt, refl)
           by NoneYet = (
-            subst (λ (t : Turn Work Hit). Either Listed Any (afterScan w.hi q.hi t)) (sym (scan-past n cost v row w.hi q l))
+            subst (λ (t : Turn Work Hit). Either Listed Any (after_scan w.hi q.hi t)) (sym (scan-past n cost v row w.hi q l))
                 (goes_on (subst (Permutation n) (sym (block-past n w.distances w.hi w.list l)) P)),
-            ap (afterScan w.hi q.hi) (scan-past n cost v row w.hi q l ∙ sym (scan-past n cost' v' row w.hi q l)),
+            ap (after_scan w.hi q.hi) (scan-past n cost v row w.hi q l ∙ sym (scan-past n cost' v' row w.hi q l)),
           )
 
   -- ---- the search
 
   pub search-same : (s : ℕ) → s < n → search n cost v row s ≡ search n cost' v' row s
-  unfolding search searchBlocks
+  unfolding search search_blocks
   search-same s l =
       ap found_at
-      (until-same (λ k. Listed) Any 0 n (λ k x. searchBlock n cost v row x) (λ k x. searchBlock n cost' v' row x) (searchStart n cost v row s) (omega arith) start
+      (until-same (λ k. Listed) Any 0 n (λ k x. search_block n cost v row x) (λ k x. search_block n cost' v' row x) (search_start n cost v row s) (omega arith) start
       (λ k x a m P. block_same x P)).1
-      ∙ ap (λ (d : List ℤ). found_at (until 0 n (λ k x. searchBlock n cost' v' row x) (workOf 0 (table n (λ j. j)) d (table n (λ j. s)) 0)))
-      (table-cong n (reduced cost v s) (reduced cost' v' s) (λ j m. E s j l m))
+      ∙ ap (λ (d : List ℤ). found_at (until 0 n (λ k x. search_block n cost' v' row x) (work_of 0 (table n (λ j. j)) d (table n (λ j. s)) 0)))
+      (table_cong n (reduced cost v s) (reduced cost' v' s) (λ j m. E s j l m))
     where
       own : (i : ℕ) → i < n → at (table n (λ j. j)) i ≡ i
-      own i m = getD-table n (λ j. j) 0 i m
+      own i m = get_d_table n (λ j. j) 0 i m
 
       start : Permutation n (table n (λ j. j))
       start = record {

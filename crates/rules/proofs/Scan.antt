@@ -17,12 +17,12 @@ use Rattle.ints.proofs.Ranges.{zarith}
 use Rattle.ints.proofs.Shapes.{zlin}
 use Rattle.lists.specs.Runs.{Turn, on, left}
 use Rattle.lists.specs.Permutations.{at, Permutation}
-use Rattle.lists.proofs.Permutations.{exchange-second, exchange-first, exchange-other, exchange-permutation}
-use Rattle.lists.proofs.Leaving.{Either, goes_on, is-left}
-use Rattle.lists.proofs.Cases.{cond_cases, lt-or-le, here-or-elsewhere}
-use Rattle.assignment.specs.Pairings.{signedAt}
+use Rattle.lists.proofs.Permutations.{exchange-second, exchange-first, exchange_other, exchange_permutation}
+use Rattle.lists.proofs.Leaving.{Either, goes_on, is_left_lem}
+use Rattle.lists.proofs.Cases.{cond_cases, lt_or_le, here_or_elsewhere}
+use Rattle.assignment.specs.Pairings.{signed_at}
 use Rattle.rules.specs.Lowest.{reduced}
-use Rattle.rules.specs.Search.{Work, Hit, same, reachBy, join, afterLowering, scanColumn}
+use Rattle.rules.specs.Search.{Work, Hit, same, reach_by, join, after_lowering, scan_column}
 use Rattle.rules.specs.Asked.{Fair}
 
 -- Two distances that the test finds equal are equal.
@@ -39,7 +39,7 @@ abbrev pub place : Work → ℕ → ℕ
 place w t = at w.list t
 
 abbrev pub far : Work → ℕ → ℤ
-far w j = signedAt w.distances j
+far w j = signed_at w.distances j
 
 -- A search from row s; `floor` is at most each reduced cost of row s.
 module _ (n : ℕ) (cost : ℕ → ℕ → ℤ) (v : ℕ → ℤ) (row : ℕ → ℕ) (s : ℕ) (floor : ℤ) where
@@ -70,7 +70,7 @@ module _ (n : ℕ) (cost : ℕ → ℕ → ℤ) (v : ℕ → ℤ) (row : ℕ →
     pub distances-size : length w.distances ≡ n
     pub predecessors-size : length w.predecessors ≡ n
     pub from_start : (k : ℕ) → k < n → far w k ≤ℤ R s k
-    pub from-floor : (k : ℕ) → k < n → floor ≤ℤ far w k
+    pub from_floor : (k : ℕ) → k < n → floor ≤ℤ far w k
 
   -- In a scan: the first `ready` columns are settled; those up to hi lie at μ, of which those before k have been scanned; the others at μ or more.
   pub record Scanning (ready k : ℕ) (μ : ℤ) (w : Work) : Type 0 where
@@ -106,17 +106,17 @@ module _ (n : ℕ) (cost : ℕ → ℕ → ℤ) (v : ℕ → ℤ) (row : ℕ →
     i₀ = row j₀
 
     -- A lowered distance makes the step from j₀ exact.
-    lowered-exact : (j : ℕ) → R i₀ j -ℤ (R i₀ j₀ -ℤ μ) +ℤ R i₀ j₀ ≡ μ +ℤ R i₀ j
-    lowered-exact j = let a = R i₀ j in let b = R i₀ j₀ in omega (zlin, dif b μ, dif a (b -ℤ μ))
+    lowered_exact : (j : ℕ) → R i₀ j -ℤ (R i₀ j₀ -ℤ μ) +ℤ R i₀ j₀ ≡ μ +ℤ R i₀ j
+    lowered_exact j = let a = R i₀ j in let b = R i₀ j₀ in omega (zlin, dif b μ, dif a (b -ℤ μ))
 
     -- The column at place k is lowered to x.
     lowers : (k : ℕ) (w : Work) (x : ℤ) → Seeing ready k₀ μ j₀ c k w → k < n → x <ℤ far w (place w k) → μ ≤ℤ x
-        → x +ℤ R i₀ j₀ ≡ μ +ℤ R i₀ (place w k) → Seeing ready k₀ μ j₀ c (suc k) (reachBy w i₀ (place w k) x)
+        → x +ℤ R i₀ j₀ ≡ μ +ℤ R i₀ (place w k) → Seeing ready k₀ μ j₀ c (suc k) (reach_by w i₀ (place w k) x)
     lowers k w x M l h g e =
         let I = M.scanning in
         let S = I.sound in
         let j = place w k in
-        let q = reachBy w i₀ j x in
+        let q = reach_by w i₀ j x in
         let lj : j < n = S.permutation.injective.below k l in
         let fs : far q j ≡ x = get_or-set_same w.distances j x (pos 0) (omega (arith, S.distances-size)) in
         let fo : (y : ℕ) → y ≢ j → far q y ≡ far w y = λ y d. get_or-set_other w.distances j y x (pos 0) d in
@@ -126,8 +126,8 @@ module _ (n : ℕ) (cost : ℕ → ℕ → ℤ) (v : ℕ → ℤ) (row : ℕ →
         let ft : (t : ℕ) → t < n → t ≢ k → far q (place w t) ≡ far w (place w t) = λ t m d. fo (place w t) (apart t m d) in
         let fh : (t : ℕ) → t < w.hi → far q (place w t) ≡ far w (place w t) = λ t m. ft t (omega (arith, I.order)) (λ z. omega (arith, M.to)) in
         let μ₀ : far w (place w k₀) ≡ μ = I.level k₀ I.order.0 M.in_block in
-        let less : (y : ℕ) → far q y ≤ℤ far w y = here-or-elsewhere (λ y. far q y ≤ℤ far w y) j (omega zarith) (λ y d. omega (zarith, fo y d)) in
-        let under : floor ≤ℤ x = omega (zarith, μ₀, S.from-floor (place w k₀) (S.permutation.injective.below k₀ (omega (arith, I.order, M.in_block)))) in
+        let less : (y : ℕ) → far q y ≤ℤ far w y = here_or_elsewhere (λ y. far q y ≤ℤ far w y) j (omega zarith) (λ y d. omega (zarith, fo y d)) in
+        let under : floor ≤ℤ x = omega (zarith, μ₀, S.from_floor (place w k₀) (S.permutation.injective.below k₀ (omega (arith, I.order, M.in_block)))) in
         record {
           scanning = record {
             sound = record {
@@ -135,19 +135,19 @@ module _ (n : ℕ) (cost : ℕ → ℕ → ℤ) (v : ℕ → ℤ) (row : ℕ →
               distances-size = length-set w.distances j x ∙ S.distances-size;
               predecessors-size = length-set w.predecessors j i₀ ∙ S.predecessors-size;
               from_start = λ y m. omega (zarith, less y, S.from_start y m);
-              from-floor = here-or-elsewhere (λ y. y < n → floor ≤ℤ far q y) j (λ m. omega (zarith, fs)) (λ y d m. omega (zarith, fo y d, S.from-floor y m));
+              from_floor = here_or_elsewhere (λ y. y < n → floor ≤ℤ far q y) j (λ m. omega (zarith, fs)) (λ y d m. omega (zarith, fo y d, S.from_floor y m));
             };
             order = I.order;
             paired = I.paired;
             low = λ t m. omega (zarith, fh t m, I.low t m);
             level = λ t a m. fh t m ∙ I.level t a m;
-            high = here-or-elsewhere (λ t. w.hi ≤ t → t < n → μ ≤ℤ far q (place w t)) k (λ a m. omega (zarith, fs))
+            high = here_or_elsewhere (λ t. w.hi ≤ t → t < n → μ ≤ℤ far q (place w t)) k (λ a m. omega (zarith, fs))
                 (λ t d a m. omega (zarith, ft t m d, I.high t a m));
             relaxed = λ t a b y m.
                 let A = R (row (place w t)) (place w t) in
                 let B = R (row (place w t)) y in
                 omega (zarith, fh t b, less y, I.relaxed t a b y m, sum (far q y) A, sum (far w y) A, sum (far q (place w t)) B, sum (far w (place w t)) B);
-            root = here-or-elsewhere (λ t. t < n → Root q (λ u. u < w.hi) t (place w t)) k
+            root = here_or_elsewhere (λ t. t < n → Root q (λ u. u < w.hi) t (place w t)) k
                 (λ m. inr (
                   k₀,
                   omega (arith, M.to, M.in_block),
@@ -174,7 +174,7 @@ module _ (n : ℕ) (cost : ℕ → ℕ → ℤ) (v : ℕ → ℤ) (row : ℕ →
           here = M.here;
           in_block = M.in_block;
           to = omega (arith, M.to);
-          seen = here-or-elsewhere (λ t. t < suc k → (far q (place w t) +ℤ R i₀ j₀) ≤ℤ (μ +ℤ R i₀ (place w t))) k
+          seen = here_or_elsewhere (λ t. t < suc k → (far q (place w t) +ℤ R i₀ j₀) ≤ℤ (μ +ℤ R i₀ (place w t))) k
               (λ m. omega (zarith, fs, e, sum (far q j) (R i₀ j₀), sum x (R i₀ j₀)))
               (λ t d m. omega (zarith, ft t (omega arith) d, M.seen t (omega arith), sum (far q (place w t)) (R i₀ j₀), sum (far w (place w t)) (R i₀ j₀)));
           counted = M.counted;
@@ -192,7 +192,7 @@ module _ (n : ℕ) (cost : ℕ → ℕ → ℤ) (v : ℕ → ℤ) (row : ℕ →
         let size : length w.list ≡ n = S.permutation.size in
         let sb : place q b ≡ place w k = exchange-second w.list k b (omega arith) in
         let sa : place q k ≡ place w b = exchange-first w.list k b (omega arith) (omega arith) in
-        let so : (t : ℕ) → t ≢ k → t ≢ b → place q t ≡ place w t = exchange-other w.list k b in
+        let so : (t : ℕ) → t ≢ k → t ≢ b → place q t ≡ place w t = exchange_other w.list k b in
         let sl : (t : ℕ) → t < b → place q t ≡ place w t = λ t m. so t (λ z. omega arith) (λ z. omega arith) in
         -- what holds of the columns at k, at b and at t holds of the one that stands at t then
         let move : (P : ℕ → Type 0) (t : ℕ) → P (place w k) → P (place w b) → P (place w t) → P (place q t) = λ P t pk pb pt. elim (ℕ_discrete t b) [
@@ -213,11 +213,11 @@ module _ (n : ℕ) (cost : ℕ → ℕ → ℤ) (v : ℕ → ℤ) (row : ℕ →
         record {
           scanning = record {
             sound = record {
-              permutation = exchange-permutation S.permutation k b l lb;
+              permutation = exchange_permutation S.permutation k b l lb;
               distances-size = S.distances-size;
               predecessors-size = S.predecessors-size;
               from_start = S.from_start;
-              from-floor = S.from-floor;
+              from_floor = S.from_floor;
             };
             order = omega (arith, I.order);
             paired = λ t m. elim (ℕ_discrete t b) [
@@ -234,7 +234,7 @@ module _ (n : ℕ) (cost : ℕ → ℕ → ℤ) (v : ℕ → ℤ) (row : ℕ →
             ];
             high = λ t a m. move (λ y. μ ≤ℤ far w y) t (omega zarith) (I.high b (omega arith) lb) (I.high t (omega arith) m);
             relaxed = λ t a m. subst (Relaxed q) (sym (sl t (omega (arith, M.in_block, I.order)))) (I.relaxed t a (omega (arith, M.in_block)));
-            root = λ t m. elim (lt-or-le t b) [
+            root = λ t m. elim (lt_or_le t b) [
               | inl a ↦ subst (Root q (λ x. x < b + 1) t) (sym (sl t a)) (roots t t (place w t) (λ x y z. y) (I.root t m))
               | inr a ↦ move (Root q (λ x. x < b + 1) t) t (roots k t (place w k) (λ x y z. omega arith) (I.root k l))
                   (roots b t (place w b) (λ x y z. omega arith) (I.root b lb)) (roots t t (place w t) (λ x y z. y) (I.root t m))
@@ -243,21 +243,21 @@ module _ (n : ℕ) (cost : ℕ → ℕ → ℤ) (v : ℕ → ℤ) (row : ℕ →
           here = sl k₀ M.in_block ∙ M.here;
           in_block = omega (arith, M.in_block);
           to = omega arith;
-          seen = λ t m. elim (lt-or-le t b) [
+          seen = λ t m. elim (lt_or_le t b) [
             | inl a ↦ subst (λ (y : ℕ). (far w y +ℤ R i₀ j₀) ≤ℤ (μ +ℤ R i₀ y)) (sym (sl t a)) (M.seen t m)
             | inr a ↦ move (λ y. (far w y +ℤ R i₀ j₀) ≤ℤ (μ +ℤ R i₀ y)) t (M.seen k (omega arith)) (M.seen b (omega arith)) (M.seen t m)
           ];
           counted = M.counted;
         }
 
-    pub scanColumn-sees-or-reaches : (k : ℕ) (w : Work) → Seeing ready k₀ μ j₀ c k w → k < n
-        → Either (Seeing ready k₀ μ j₀ c (suc k)) (Reaches ready k₀ μ c) (scanColumn n cost v row μ (R i₀ j₀ -ℤ μ) i₀ k w)
-    scanColumn-sees-or-reaches k w M l =
-        cond_cases (lt_z x (far w j)) G (afterLowering n row μ k j x q) (on w)
+    pub scan_column_sees_or_reaches : (k : ℕ) (w : Work) → Seeing ready k₀ μ j₀ c k w → k < n
+        → Either (Seeing ready k₀ μ j₀ c (suc k)) (Reaches ready k₀ μ c) (scan_column n cost v row μ (R i₀ j₀ -ℤ μ) i₀ k w)
+    scan_column_sees_or_reaches k w M l =
+        cond_cases (lt_z x (far w j)) G (after_lowering n row μ k j x q) (on w)
         (λ a. cond_cases (same x μ) G (cond (ltb (row j) n) (on (join q k)) (left (record { column = j; work = q }))) (on q)
         (λ b. cond_cases (ltb (row j) n) G (on (join q k)) (left (record { column = j; work = q }))
         (λ d. goes_on (joins k q (low a) M.to.0 l (ltb-true (row j) n d) (fs ∙ same_true x μ b)))
-        (λ d. is-left (record {
+        (λ d. is_left_lem (record {
           scanning = (low a).scanning;
           in_block = M.in_block;
           stands = (k, l, M.to.0, refl);
@@ -271,8 +271,8 @@ module _ (n : ℕ) (cost : ℕ → ℕ → ℤ) (v : ℕ → ℤ) (row : ℕ →
           here = M.here;
           in_block = M.in_block;
           to = omega (arith, M.to);
-          seen = here-or-elsewhere (λ t. t < suc k → (far w (place w t) +ℤ R i₀ j₀) ≤ℤ (μ +ℤ R i₀ (place w t))) k
-              (λ m. omega (zarith, lowered-exact j, sum x (R i₀ j₀), sum (far w j) (R i₀ j₀)))
+          seen = here_or_elsewhere (λ t. t < suc k → (far w (place w t) +ℤ R i₀ j₀) ≤ℤ (μ +ℤ R i₀ (place w t))) k
+              (λ m. omega (zarith, lowered_exact j, sum x (R i₀ j₀), sum (far w j) (R i₀ j₀)))
               (λ t d m. M.seen t (omega arith));
           counted = M.counted;
         }))
@@ -287,7 +287,7 @@ module _ (n : ℕ) (cost : ℕ → ℕ → ℤ) (v : ℕ → ℤ) (row : ℕ →
         x = R i₀ j -ℤ (R i₀ j₀ -ℤ μ)
 
         q : Work
-        q = reachBy w i₀ j x
+        q = reach_by w i₀ j x
 
         lj : j < n
         lj = M.scanning.sound.permutation.injective.below k l
@@ -300,10 +300,10 @@ module _ (n : ℕ) (cost : ℕ → ℕ → ℤ) (v : ℕ → ℤ) (row : ℕ →
             let e = M.here in
             let l₀ : j₀ < n = subst (λ (y : ℕ). y < n) e (M.scanning.sound.permutation.injective.below k₀ (omega (arith, M.to, M.in_block))) in
             let h₀ : row j₀ < n = subst (λ (y : ℕ). row y < n) e (M.scanning.paired k₀ M.in_block) in
-            (F.paired-at-minimum j₀ l₀ h₀).no_less j lj
+            (F.paired_at_minimum j₀ l₀ h₀).no_less j lj
 
         low : lt_z x (far w j) ≡ true → Seeing ready k₀ μ j₀ c (suc k) q
         low a =
             lowers k w x M l (omega zarith)
-            (omega (zarith, no_less, lowered-exact j, sum x (R i₀ j₀), sum μ (R i₀ j)))
-            (lowered-exact j)
+            (omega (zarith, no_less, lowered_exact j, sum x (R i₀ j₀), sum μ (R i₀ j)))
+            (lowered_exact j)

@@ -13,19 +13,19 @@ use Rattle.ints.proofs.Sums.{sum}
 use Rattle.ints.proofs.Ranges.{zarith}
 use Rattle.lists.specs.Runs.{on, until}
 use Rattle.lists.proofs.Injections.{reached}
-use Rattle.lists.proofs.Leaving.{Either, goes_on, either-map, until-keeps}
-use Rattle.lists.proofs.Cases.{cond_cases, here-or-elsewhere}
+use Rattle.lists.proofs.Leaving.{Either, goes_on, either_map, until_keeps}
+use Rattle.lists.proofs.Cases.{cond_cases, here_or_elsewhere}
 use Rattle.rules.specs.Lowest.{reduced}
-use Rattle.rules.specs.Search.{Work, Hit, countOne, scanColumn, scanRow, scan}
+use Rattle.rules.specs.Search.{Work, Hit, count_one, scan_column, scan_row, scan}
 use Rattle.rules.specs.Asked.{Fair}
-use Rattle.rules.proofs.Scan.{place, far, FromColumn, Relaxed, Scanning, Seeing, Reaches, scanColumn-sees-or-reaches}
+use Rattle.rules.proofs.Scan.{place, far, FromColumn, Relaxed, Scanning, Seeing, Reaches, scan_column_sees_or_reaches}
 
 module _ (n : ℕ) (cost : ℕ → ℕ → ℤ) (v : ℕ → ℤ) (row : ℕ → ℕ) (s : ℕ) (floor : ℤ) (ready : ℕ) (μ : ℤ) where
   -- The columns before place k have been scanned, and no more than those were counted.
   pub record Counted (k : ℕ) (w : Work) : Type 0 where
     pub scanning : Scanning n cost v row s floor ready k μ w
     pub counted-few : w.scanned ≤ k
-    pub counted-in-block : w.scanned ≤ w.hi
+    pub counted_in_block : w.scanned ≤ w.hi
 
   -- The scan is left at a free column, with fewer columns counted than there are.
   pub record LeftAt (h : Hit) : Type 0 where
@@ -44,8 +44,8 @@ module _ (n : ℕ) (cost : ℕ → ℕ → ℤ) (v : ℕ → ℤ) (row : ℕ →
   L = LeftAt n cost v row s floor ready μ
 
   -- Before the columns after the block are seen.
-  pub see-start : (k : ℕ) (w : Work) → On k w → k < w.hi → Seeing n cost v row s floor ready k μ (place w k) (w.scanned + 1) w.hi (countOne w)
-  see-start k w I l =
+  pub see_start : (k : ℕ) (w : Work) → On k w → k < w.hi → Seeing n cost v row s floor ready k μ (place w k) (w.scanned + 1) w.hi (count_one w)
+  see_start k w I l =
       let S = I.sound in
       let j = place w k in
       record {
@@ -55,7 +55,7 @@ module _ (n : ℕ) (cost : ℕ → ℕ → ℤ) (v : ℕ → ℤ) (row : ℕ →
             distances-size = S.distances-size;
             predecessors-size = S.predecessors-size;
             from_start = S.from_start;
-            from-floor = S.from-floor;
+            from_floor = S.from_floor;
           };
           order = I.order;
           paired = I.paired;
@@ -74,15 +74,15 @@ module _ (n : ℕ) (cost : ℕ → ℕ → ℤ) (v : ℕ → ℤ) (row : ℕ →
             let a = reduced cost v (row j) j in
             let b = reduced cost v (row j) (place w t) in
             let no_less : a ≤ℤ b =
-            (F.paired-at-minimum j (S.permutation.injective.below k (omega (arith, I.order))) (I.paired k l)).no_less (place w t)
+            (F.paired_at_minimum j (S.permutation.injective.below k (omega (arith, I.order))) (I.paired k l)).no_less (place w t)
             (S.permutation.injective.below t (omega (arith, I.order))) in
             omega (zarith, I.low t m, sum (far w (place w t)) a, sum μ b);
         counted = refl;
       }
 
   -- All have been seen: one more column of the block is done.
-  pub see-end : (k j c : ℕ) (w : Work) → Seeing n cost v row s floor ready k μ j c n w → On (suc k) w
-  see-end k j c w M =
+  pub see_end : (k j c : ℕ) (w : Work) → Seeing n cost v row s floor ready k μ j c n w → On (suc k) w
+  see_end k j c w M =
       let I = M.scanning in
       record {
         sound = I.sound;
@@ -91,7 +91,7 @@ module _ (n : ℕ) (cost : ℕ → ℕ → ℤ) (v : ℕ → ℤ) (row : ℕ →
         low = I.low;
         level = I.level;
         high = I.high;
-        relaxed = here-or-elsewhere (λ t. t < suc k → t < w.hi → Relaxed n cost v row s floor w (place w t)) k
+        relaxed = here_or_elsewhere (λ t. t < suc k → t < w.hi → Relaxed n cost v row s floor w (place w t)) k
             (λ a b y m. here y m) (λ t d a b. I.relaxed t (omega arith) b);
         root = I.root;
       }
@@ -106,23 +106,23 @@ module _ (n : ℕ) (cost : ℕ → ℕ → ℤ) (v : ℕ → ℤ) (row : ℕ →
           (subst (λ (x : ℕ). (far w y +ℤ reduced cost v (row x) x) ≤ℤ (μ +ℤ reduced cost v (row x) y)) (sym M.here) p)
 
   -- The row of the column at place k sees the columns after the block.
-  pub scanRow-counted-or-left : (k : ℕ) (w : Work) → C k w → k < w.hi → Either (C (suc k)) L (scanRow n cost v row k w)
-  scanRow-counted-or-left k w D l =
+  pub scan_row_counted_or_left : (k : ℕ) (w : Work) → C k w → k < w.hi → Either (C (suc k)) L (scan_row n cost v row k w)
+  scan_row_counted_or_left k w D l =
       let I = D.scanning in
       let j = place w k in
       let c = w.scanned + 1 in
       let e : far w j ≡ μ = I.level k I.order.0 l in
       let P : ℕ → Work → Type 0 = Seeing n cost v row s floor ready k μ j c in
       let Q : Hit → Type 0 = Reaches n cost v row s floor ready k μ c in
-      let run : Either (P n) Q (until w.hi n (scanColumn n cost v row μ (reduced cost v (row j) j -ℤ μ) (row j)) (countOne w)) =
-      until-keeps P Q w.hi n (scanColumn n cost v row μ (reduced cost v (row j) j -ℤ μ) (row j)) (countOne w) I.order.2 (see-start k w I l)
-      (λ t x a m M. scanColumn-sees-or-reaches n cost v row s floor F ready k μ j c t x M m) in
-      either-map
-      (subst (λ (y : ℤ). Either (P n) Q (until w.hi n (scanColumn n cost v row y (reduced cost v (row j) j -ℤ y) (row j)) (countOne w))) (sym e) run)
+      let run : Either (P n) Q (until w.hi n (scan_column n cost v row μ (reduced cost v (row j) j -ℤ μ) (row j)) (count_one w)) =
+      until_keeps P Q w.hi n (scan_column n cost v row μ (reduced cost v (row j) j -ℤ μ) (row j)) (count_one w) I.order.2 (see_start k w I l)
+      (λ t x a m M. scan_column_sees_or_reaches n cost v row s floor F ready k μ j c t x M m) in
+      either_map
+      (subst (λ (y : ℤ). Either (P n) Q (until w.hi n (scan_column n cost v row y (reduced cost v (row j) j -ℤ y) (row j)) (count_one w))) (sym e) run)
       (λ x M. record {
-        scanning = see-end k j c x M;
+        scanning = see_end k j c x M;
         counted-few = omega (arith, M.counted, D.counted-few);
-        counted-in-block = omega (arith, M.counted, D.counted-few, M.in_block);
+        counted_in_block = omega (arith, M.counted, D.counted-few, M.in_block);
       })
       (λ h X. record {
         at_place = k;
@@ -131,12 +131,12 @@ module _ (n : ℕ) (cost : ℕ → ℕ → ℤ) (v : ℕ → ℤ) (row : ℕ →
       })
 
   -- The block's columns from place lo on.
-  pub scan-counted-or-left : (lo : ℕ) (w : Work) → lo ≤ n → C lo w → Either (C n) L (scan n cost v row lo w)
+  pub scan_counted_or_left : (lo : ℕ) (w : Work) → lo ≤ n → C lo w → Either (C n) L (scan n cost v row lo w)
   unfolding scan
-  scan-counted-or-left lo w l D =
-      until-keeps C L lo n (λ k x. cond (ltb k x.hi) (scanRow n cost v row k x) (on x)) w l D
-      (λ k x a m E. cond_cases (ltb k x.hi) (Either (C (suc k)) L) (scanRow n cost v row k x) (on x)
-      (λ t. scanRow-counted-or-left k x E (ltb-true k x.hi t))
+  scan_counted_or_left lo w l D =
+      until_keeps C L lo n (λ k x. cond (ltb k x.hi) (scan_row n cost v row k x) (on x)) w l D
+      (λ k x a m E. cond_cases (ltb k x.hi) (Either (C (suc k)) L) (scan_row n cost v row k x) (on x)
+      (λ t. scan_row_counted_or_left k x E (ltb-true k x.hi t))
       (λ t. goes_on (past k x E (ltb-false k x.hi t))))
     where
       past : (k : ℕ) (x : Work) → C k x → x.hi ≤ k → C (suc k) x
@@ -152,5 +152,5 @@ module _ (n : ℕ) (cost : ℕ → ℕ → ℤ) (v : ℕ → ℤ) (row : ℕ →
           root = I.root;
         };
         counted-few = omega (arith, D.counted-few);
-        counted-in-block = D.counted-in-block;
+        counted_in_block = D.counted_in_block;
       }

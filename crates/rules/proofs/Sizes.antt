@@ -8,16 +8,16 @@ use lib.ListN.{length, get_or-eq_default}
 use Rattle.ints.specs.Parts.{Within}
 use Rattle.lists.specs.Permutations.{at}
 use Rattle.lists.proofs.Sums.{sum-within}
-use Rattle.lists.proofs.Cases.{lt-or-le}
-use Rattle.assignment.specs.Pairings.{square, signedAt, total}
+use Rattle.lists.proofs.Cases.{lt_or_le}
+use Rattle.assignment.specs.Pairings.{square, signed_at, total}
 
 -- Past the end of a list of costs or prices stands 0, which lies within any bound.
-pub within-everywhere : (K : ℕ) (l : List ℤ) → ((k : ℕ) → k < length l → Within K (signedAt l k)) → (k : ℕ) → Within K (signedAt l k)
-within-everywhere K l h k = elim (lt-or-le k (length l)) [
+pub within_everywhere : (K : ℕ) (l : List ℤ) → ((k : ℕ) → k < length l → Within K (signed_at l k)) → (k : ℕ) → Within K (signed_at l k)
+within_everywhere K l h k = elim (lt_or_le k (length l)) [
   | inl a ↦ h k a
   | inr a ↦ rw (get_or-eq_default l (pos 0) {n = k} a) (record { low = omega arith; high = omega arith })
 ]
 
 -- The total of n costs.
-pub total-within : (n : ℕ) (costs : List ℤ) (K : ℕ) → ((k : ℕ) → Within K (signedAt costs k)) → (cols : List ℕ) → Within (n * K) (total (square n costs) cols)
-total-within n costs K within cols = sum-within n K (λ i. signedAt costs (i * n + at cols i)) (λ i l. within (i * n + at cols i))
+pub total-within : (n : ℕ) (costs : List ℤ) (K : ℕ) → ((k : ℕ) → Within K (signed_at costs k)) → (cols : List ℕ) → Within (n * K) (total (square n costs) cols)
+total-within n costs K within cols = sum-within n K (λ i. signed_at costs (i * n + at cols i)) (λ i l. within (i * n + at cols i))

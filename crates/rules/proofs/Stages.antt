@@ -9,59 +9,59 @@ use lib.IntN.{ℤ}
 use Rattle.ints.specs.Parts.{Within}
 use Rattle.ints.proofs.Shapes.{zlin}
 use Rattle.lists.specs.Permutations.{at}
-use Rattle.lists.proofs.Runs.{upward-none}
-use Rattle.assignment.specs.Pairings.{signedAt}
-use Rattle.rules.specs.Columns.{free, Stage, columnReduction}
-use Rattle.rules.specs.Rows.{looks, passStart, passEnd, rowReduction}
+use Rattle.lists.proofs.Runs.{upward_none}
+use Rattle.assignment.specs.Pairings.{signed_at}
+use Rattle.rules.specs.Columns.{free, Stage, column_reduction}
+use Rattle.rules.specs.Rows.{looks, pass_start, pass_end, row_reduction}
 use Rattle.rules.specs.Augmentation.{Progress, augment, augments, augmentation}
-use Rattle.rules.specs.Run.{Stages, stages, countsOf}
+use Rattle.rules.specs.Run.{Stages, stages, counts_of}
 use Rattle.rules.specs.Right.{CountsRight}
 use Rattle.rules.specs.Asked.{Paired, Can}
 use Rattle.rules.proofs.Prices.{all_near}
-use Rattle.rules.proofs.Kept.{Kept, within-five}
+use Rattle.rules.proofs.Kept.{Kept, within_five}
 use Rattle.rules.proofs.Claims.{first, first-low, first-within}
-use Rattle.rules.proofs.Transfers.{Good, columnReduction-good}
-use Rattle.rules.proofs.Passes.{looks-none}
-use Rattle.rules.proofs.RowReduction.{PassOf, rowReduction-pass-of}
+use Rattle.rules.proofs.Transfers.{Good, column_reduction_good}
+use Rattle.rules.proofs.Passes.{looks_none}
+use Rattle.rules.proofs.RowReduction.{PassOf, row_reduction_pass_of}
 use Rattle.rules.proofs.Augment.{Gain}
-use Rattle.rules.proofs.Augmentation.{Augmented, augmented-can, augmented-and-kept, augmented-paired}
+use Rattle.rules.proofs.Augmentation.{Augmented, augmented_can, augmented_and_kept, augmented_paired}
 
 -- A pass over no rows changes nothing, and makes no look.
-pub no-rows-no-pass : (n : ℕ) (cost : ℕ → ℕ → ℤ) (s : Stage) → s.count ≡ 0 → rowReduction n cost s ≡ passStart s
-unfolding rowReduction
-no-rows-no-pass n cost s e =
+pub no_rows_no_pass : (n : ℕ) (cost : ℕ → ℕ → ℤ) (s : Stage) → s.count ≡ 0 → row_reduction n cost s ≡ pass_start s
+unfolding row_reduction
+no_rows_no_pass n cost s e =
     let z : s.count * n ≡ 0 = ap (λ (k : ℕ). k * n) e ∙ zero-mul n in
-    ap (λ (m : ℕ). looks n cost s.count m (passStart s)) z ∙ looks-none n cost s.count (passStart s)
+    ap (λ (m : ℕ). looks n cost s.count m (pass_start s)) z ∙ looks_none n cost s.count (pass_start s)
 
 -- Without free rows there is no search.
-pub no-rows-no-search : (n : ℕ) (cost : ℕ → ℕ → ℤ) (s : Stage) → s.count ≡ 0
+pub no_rows_no_search : (n : ℕ) (cost : ℕ → ℕ → ℤ) (s : Stage) → s.count ≡ 0
     → augmentation n cost s ≡ record { pairs = s.pairs; prices = s.prices; scanned = 0 }
 unfolding augmentation augments
-no-rows-no-search n cost s e =
-    upward-none 0 s.count (λ k y. augment n cost y (at s.frees k)) (record { pairs = s.pairs; prices = s.prices; scanned = 0 }) (omega arith)
+no_rows_no_search n cost s e =
+    upward_none 0 s.count (λ k y. augment n cost y (at s.frees k)) (record { pairs = s.pairs; prices = s.prices; scanned = 0 }) (omega arith)
 
 module _ (n : ℕ) (cost : ℕ → ℕ → ℤ) (one : 1 ≤ n) (K : ℕ) (costs : (i j : ℕ) → Within K (cost i j)) where
   abbrev v₀ : ℕ → ℤ
   v₀ = first n cost one
 
   -- A search keeps what every stage keeps.
-  pub gain-kept : (x : Progress) (s : ℕ) (y : Progress) → Kept n cost K costs v₀ x.pairs x.prices → Gain n cost x s y → Kept n cost K costs v₀ y.pairs y.prices
-  gain-kept x s y κ g =
-      let f = g.reached-free.0 in
-      let lf = g.reached-free.1 in
-      let ef : signedAt y.prices f ≡ v₀ f = g.reached-free.3 ∙ κ.free-untouched f lf g.reached-free.2 in
-      let untouched : (k : ℕ) → k < n → n ≤ at y.pairs.rows k → signedAt y.prices k ≡ v₀ k =
-      λ k l h. (g.free-untouched k l h).1 ∙ κ.free-untouched k l (g.free-untouched k l h).0 in
-      let all = all_near n cost K costs (signedAt y.prices) (at y.pairs.rows) f lf (record { low = omega (zlin, ef, (first-low n cost one K costs f).low) }) g.fair
+  pub gain_kept : (x : Progress) (s : ℕ) (y : Progress) → Kept n cost K costs v₀ x.pairs x.prices → Gain n cost x s y → Kept n cost K costs v₀ y.pairs y.prices
+  gain_kept x s y κ g =
+      let f = g.reached_free.0 in
+      let lf = g.reached_free.1 in
+      let ef : signed_at y.prices f ≡ v₀ f = g.reached_free.3 ∙ κ.free_untouched f lf g.reached_free.2 in
+      let untouched : (k : ℕ) → k < n → n ≤ at y.pairs.rows k → signed_at y.prices k ≡ v₀ k =
+      λ k l h. (g.free_untouched k l h).1 ∙ κ.free_untouched k l (g.free_untouched k l h).0 in
+      let all = all_near n cost K costs (signed_at y.prices) (at y.pairs.rows) f lf (record { low = omega (zlin, ef, (first-low n cost one K costs f).low) }) g.fair
       (λ k l h. record { low = omega (zlin, untouched k l h, (first-low n cost one K costs k).low) }) in
       record {
         agree = g.agree;
         prices-size = g.prices-size;
         fair = g.fair;
-        free-untouched = untouched;
-        not-risen = λ k l. omega (zlin, g.not-risen k l, κ.not-risen k l);
-        single = λ a k l. subst (λ (z : ℕ). signedAt y.prices z ≡ v₀ z) (let e : f ≡ k = omega arith in e) ef;
-        bounds = record { one = f; one-low = record { low = omega (arith, (all f lf).low) }; others-low = λ k l d. all k l };
+        free_untouched = untouched;
+        not_risen = λ k l. omega (zlin, g.not_risen k l, κ.not_risen k l);
+        single = λ a k l. subst (λ (z : ℕ). signed_at y.prices z ≡ v₀ z) (let e : f ≡ k = omega arith in e) ef;
+        bounds = record { one = f; one_low = record { low = omega (arith, (all f lf).low) }; others-low = λ k l d. all k l };
       }
 
   -- ---- the last stage
@@ -70,8 +70,8 @@ module _ (n : ℕ) (cost : ℕ → ℕ → ℤ) (one : 1 ≤ n) (K : ℕ) (costs
     abbrev x₀ : Progress
     x₀ = record { pairs = s.pairs; prices = s.prices; scanned = 0 }
 
-    start-augmented : Augmented n cost s.frees s.count x₀ 0 x₀
-    start-augmented = record {
+    start_augmented : Augmented n cost s.frees s.count x₀ 0 x₀
+    start_augmented = record {
       agree = G.kept.agree;
       prices-size = G.kept.prices-size;
       fair = G.kept.fair;
@@ -79,8 +79,8 @@ module _ (n : ℕ) (cost : ℕ → ℕ → ℤ) (one : 1 ≤ n) (K : ℕ) (costs
         row_below = λ t a. G.listed.row_below t a.1;
         unpaired = λ t a. G.listed.unpaired t a.1;
         once = λ t u a b. G.listed.once t u a.1 b.1;
-        paired-or-listed = λ i l. ⊎_elim (λ a. inl a)
-            (λ (a : (t : ℕ) × (t < s.count) × (at s.frees t ≡ i)). inr (a.0, (omega arith, a.1), a.2)) (G.listed.paired-or-listed i l);
+        paired_or_listed = λ i l. ⊎_elim (λ a. inl a)
+            (λ (a : (t : ℕ) × (t < s.count) × (at s.frees t ≡ i)). inr (a.0, (omega arith, a.1), a.2)) (G.listed.paired_or_listed i l);
       };
       scanned-few = omega arith;
     }
@@ -90,13 +90,13 @@ module _ (n : ℕ) (cost : ℕ → ℕ → ℤ) (one : 1 ≤ n) (K : ℕ) (costs
         → Augmented n cost s.frees s.count x₀ m (augments n cost s.frees m x₀)
         × Kept n cost K costs v₀ (augments n cost s.frees m x₀).pairs (augments n cost s.frees m x₀).prices
     augments-kept =
-        augmented-and-kept n cost s.frees s.count (λ x. Kept n cost K costs v₀ x.pairs x.prices)
-        (λ x r κ C g. gain-kept x r (augment n cost x r) κ g) x₀ start-augmented G.kept
+        augmented_and_kept n cost s.frees s.count (λ x. Kept n cost K costs v₀ x.pairs x.prices)
+        (λ x r κ C g. gain_kept x r (augment n cost x r) κ g) x₀ start_augmented G.kept
 
     -- What search m finds: a state from which its row can get a column, and prices within 5K.
     pub record SearchReady (m : ℕ) (x : Progress) : Type 0 where
       pub can : Can n cost x (at s.frees m)
-      pub prices-within : (k : ℕ) → Within (5 * K) (signedAt x.prices k)
+      pub prices-within : (k : ℕ) → Within (5 * K) (signed_at x.prices k)
       pub scanned-few : x.scanned ≤ m * (n - 1)
 
     pub search-ready : (m : ℕ) → m < s.count → SearchReady m (augments n cost s.frees m x₀)
@@ -104,14 +104,14 @@ module _ (n : ℕ) (cost : ℕ → ℕ → ℤ) (one : 1 ≤ n) (K : ℕ) (costs
         let x = augments n cost s.frees m x₀ in
         let A = augments-kept m (omega arith) in
         record {
-          can = augmented-can n cost s.frees s.count x₀ m x l A.0;
-          prices-within = within-five n cost K costs v₀ (first-low n cost one K costs) x.pairs x.prices A.1 (first-within n cost one K costs);
+          can = augmented_can n cost s.frees s.count x₀ m x l A.0;
+          prices-within = within_five n cost K costs v₀ (first-low n cost one K costs) x.pairs x.prices A.1 (first-within n cost one K costs);
           scanned-few = omega (arith, A.0.scanned-few);
         }
 
     -- All rows paired, all kept, and at most n - 1 columns scanned for each row left.
     pub record Last (x : Progress) : Type 0 where
-      pub all-paired : (i : ℕ) → i < n → Paired x.pairs i
+      pub all_paired : (i : ℕ) → i < n → Paired x.pairs i
       pub kept : Kept n cost K costs v₀ x.pairs x.prices
       pub scanned-few : x.scanned ≤ s.count * (n - 1)
 
@@ -120,38 +120,38 @@ module _ (n : ℕ) (cost : ℕ → ℕ → ℤ) (one : 1 ≤ n) (K : ℕ) (costs
     augmentation-last =
         let x = augments n cost s.frees s.count x₀ in
         let A = augments-kept s.count (omega arith) in
-        record { all-paired = augmented-paired n cost s.frees s.count x₀ x A.0; kept = A.1; scanned-few = omega (arith, A.0.scanned-few) }
+        record { all_paired = augmented_paired n cost s.frees s.count x₀ x A.0; kept = A.1; scanned-few = omega (arith, A.0.scanned-few) }
 
   -- ---- the run
 
   pub record StagesRight (r : Stages) : Type 0 where
-    pub columns-good : Good n cost one K costs r.columns
-    pub pass-one : PassOf n cost one K costs r.columns r.passOne
-    pub pass-two : PassOf n cost one K costs (passEnd r.passOne) r.passTwo
-    pub last : Last (passEnd r.passTwo) pass-two.good r.last
-    pub counts : CountsRight n (countsOf r)
+    pub columns_good : Good n cost one K costs r.columns
+    pub pass_one_lem : PassOf n cost one K costs r.columns r.pass_one
+    pub pass_two_lem : PassOf n cost one K costs (pass_end r.pass_one) r.pass_two
+    pub last : Last (pass_end r.pass_two) pass_two_lem.good r.last
+    pub counts : CountsRight n (counts_of r)
 
-  pub stages-right : n ≤ free → StagesRight (stages n cost)
+  pub stages_right : n ≤ free → StagesRight (stages n cost)
   unfolding stages
-  stages-right room =
-      let s = columnReduction n cost in
-      let G = columnReduction-good n cost one K costs room in
-      let a = rowReduction n cost s in
-      let Q = rowReduction-pass-of n cost one K costs s G in
-      let R = rowReduction-pass-of n cost one K costs (passEnd a) Q.good in
-      let L = augmentation-last (passEnd (rowReduction n cost (passEnd a))) R.good in
+  stages_right room =
+      let s = column_reduction n cost in
+      let G = column_reduction_good n cost one K costs room in
+      let a = row_reduction n cost s in
+      let Q = row_reduction_pass_of n cost one K costs s G in
+      let R = row_reduction_pass_of n cost one K costs (pass_end a) Q.good in
+      let L = augmentation-last (pass_end (row_reduction n cost (pass_end a))) R.good in
       record {
-        columns-good = G;
-        pass-one = Q;
-        pass-two = R;
+        columns_good = G;
+        pass_one_lem = Q;
+        pass_two_lem = R;
         last = L;
         counts = record {
           free-few = G.count-few;
-          one-least = Q.looks-least;
-          one-most = Q.looks-most;
-          left-one-few = Q.left-fewer;
-          two-least = R.looks-least;
-          two-most = R.looks-most;
+          one_least = Q.looks-least;
+          one_most = Q.looks-most;
+          left_one_few = Q.left-fewer;
+          two_least = R.looks-least;
+          two_most = R.looks-most;
           left-few = R.left-fewer;
           scanned-few = L.scanned-few;
         };

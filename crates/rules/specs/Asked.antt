@@ -1,7 +1,7 @@
 -- What the search and the augmentation ask for: pairs that agree, and prices at which paired rows sit at their minimum. No entry asks for anything.
 use Rattle.std.specs.Prelude.{◌≡◌, ◌≢◌, ℕ, ◌<◌, ℤ, ◌≤ℤ◌, length}
 use Rattle.lists.specs.Permutations.{at}
-use Rattle.assignment.specs.Pairings.{signedAt}
+use Rattle.assignment.specs.Pairings.{signed_at}
 use Rattle.rules.specs.Lowest.{reduced}
 use Rattle.rules.specs.Columns.{Pairs}
 use Rattle.rules.specs.Augmentation.{Progress}
@@ -28,12 +28,12 @@ module _ (n : ℕ) (cost : ℕ → ℕ → ℤ) where
 
   -- Paired rows sit at their minimum. `row j` is the row of column j, n or more where j is free.
   pub record Fair (v : ℕ → ℤ) (row : ℕ → ℕ) : Type 0 where
-    pub paired-at-minimum : (j : ℕ) → j < n → row j < n → AtMinimum v (row j) j
+    pub paired_at_minimum : (j : ℕ) → j < n → row j < n → AtMinimum v (row j) j
 
 -- A state from which row s can get a column.
 pub record Can (n : ℕ) (cost : ℕ → ℕ → ℤ) (x : Progress) (s : ℕ) : Type 0 where
   pub agree : Agree n x.pairs
   pub prices-size : length x.prices ≡ n
-  pub fair : Fair n cost (signedAt x.prices) (at x.pairs.rows)
-  pub start-below : s < n
-  pub start-unpaired : Unpaired n x.pairs s
+  pub fair : Fair n cost (signed_at x.prices) (at x.pairs.rows)
+  pub start_below : s < n
+  pub start_unpaired : Unpaired n x.pairs s

@@ -3,10 +3,10 @@
 use Rattle.std.specs.Prelude.{cond, List, ℕ, ◌+◌, ℤ, eqb}
 use Rattle.lists.specs.Runs.{upward, Turn, on, left, until}
 use Rattle.lists.specs.Permutations.{at}
-use Rattle.assignment.specs.Pairings.{signedAt}
+use Rattle.assignment.specs.Pairings.{signed_at}
 use Rattle.rules.specs.Columns.{Pairs, Stage}
-use Rattle.rules.specs.Rows.{takeColumn}
-use Rattle.rules.specs.Search.{Found, search, newPrices}
+use Rattle.rules.specs.Rows.{take_column}
+use Rattle.rules.specs.Search.{Found, search, new_prices}
 
 -- The pairs while they flip, and the column that stands open.
 pub record Open : Type 0 where
@@ -17,7 +17,7 @@ pub record Open : Type 0 where
 abbrev pub flip : ℕ → List ℕ → Open → Turn Open Pairs
 flip s predecessors o =
     let i = at predecessors o.column in
-    let pairs = takeColumn o.pairs i o.column in
+    let pairs = take_column o.pairs i o.column in
     cond (eqb i s) (left pairs) (on (record { column = at o.pairs.cols i; pairs = pairs }))
 
 -- At most m flips, back to row s.
@@ -36,16 +36,16 @@ pub record Progress : Type 0 where
   pub scanned : ℕ
 
 -- What a search found changes the prices, and the pairs flip back from its column to row s.
-abbrev pub augmentBy : ℕ → Progress → ℕ → Found → Progress
-augmentBy n x s f = record {
+abbrev pub augment_by : ℕ → Progress → ℕ → Found → Progress
+augment_by n x s f = record {
   pairs = flipped (flips n s f.work.predecessors (record { column = f.column; pairs = x.pairs }));
-  prices = newPrices f x.prices;
+  prices = new_prices f x.prices;
   scanned = x.scanned + f.work.scanned;
 }
 
 -- Row s gets a column.
 abbrev pub augment : ℕ → (ℕ → ℕ → ℤ) → Progress → ℕ → Progress
-augment n cost x s = augmentBy n x s (search n cost (signedAt x.prices) (at x.pairs.rows) s)
+augment n cost x s = augment_by n x s (search n cost (signed_at x.prices) (at x.pairs.rows) s)
 
 -- The first m rows of the list, in list order.
 unfoldable pub augments : ℕ → (ℕ → ℕ → ℤ) → List ℕ → ℕ → Progress → Progress

@@ -2,11 +2,11 @@
 use Rattle.std.specs.Prelude.{cond, List, ℕ, ◌+◌, ℤ, ◌-ℤ◌, set, eqb}
 use Rattle.lists.specs.Runs.{upward, downward}
 use Rattle.lists.specs.Permutations.{at, table}
-use Rattle.assignment.specs.Pairings.{signedAt}
+use Rattle.assignment.specs.Pairings.{signed_at}
 use Rattle.rules.specs.declared.Low.{Low}
 use Rattle.rules.specs.declared.LeastSoFar.{LeastSoFar}
 use Rattle.rules.specs.declared.LeastSoFar.TheVariants.{NoneYet, Of}
-use Rattle.rules.specs.Lowest.{reduced, lowest, leastBut}
+use Rattle.rules.specs.Lowest.{reduced, lowest, least_but}
 
 -- The row of a free column: the free mark, which is no row.
 unfoldable pub free : ℕ
@@ -64,20 +64,20 @@ pub record Transfer : Type 0 where
   pub count : ℕ
 
 -- A price, lowered by a least value. Side 1 has no other column, and there the price stays.
-abbrev pub lessLeast : ℤ → LeastSoFar → ℤ
-lessLeast v NoneYet = v
-lessLeast v (Of h) = v -ℤ h
+abbrev pub less_least : ℤ → LeastSoFar → ℤ
+less_least v NoneYet = v
+less_least v (Of h) = v -ℤ h
 
 -- A unique row i lowers the price of its column j.
-abbrev pub lowerColumn : ℕ → (ℕ → ℕ → ℤ) → ℕ → ℕ → List ℤ → List ℤ
-lowerColumn n cost i j v = set v j (lessLeast (signedAt v j) (leastBut n (reduced cost (signedAt v) i) j))
+abbrev pub lower_column : ℕ → (ℕ → ℕ → ℤ) → ℕ → ℕ → List ℤ → List ℤ
+lower_column n cost i j v = set v j (less_least (signed_at v j) (least_but n (reduced cost (signed_at v) i) j))
 
 -- Row i joins the free list, lowers its column's price, or does nothing.
 abbrev pub transfer : ℕ → (ℕ → ℕ → ℤ) → Claims → ℕ → Transfer → Transfer
 transfer n cost s i x =
     cond (eqb (at s.marks i) 0) (record { prices = x.prices; frees = set x.frees x.count i; count = x.count + 1 })
     (cond (eqb (at s.marks i) 1)
-    (record { prices = lowerColumn n cost i (at s.cols i) x.prices; frees = x.frees; count = x.count })
+    (record { prices = lower_column n cost i (at s.cols i) x.prices; frees = x.frees; count = x.count })
     x)
 
 -- Before the transfer: each column's price is its minimum.
@@ -89,9 +89,9 @@ unfoldable pub transfers : ℕ → (ℕ → ℕ → ℤ) → Claims → Transfer
 transfers n cost s = upward 0 n (transfer n cost s) (untransferred n cost)
 
 -- Claims and transfer, put together.
-abbrev pub stageOf : Claims → Transfer → Stage
-stageOf s x = record { pairs = record { cols = s.cols; rows = s.rows }; prices = x.prices; frees = x.frees; count = x.count }
+abbrev pub stage_of : Claims → Transfer → Stage
+stage_of s x = record { pairs = record { cols = s.cols; rows = s.rows }; prices = x.prices; frees = x.frees; count = x.count }
 
 -- Rule 3.
-unfoldable pub columnReduction : ℕ → (ℕ → ℕ → ℤ) → Stage
-columnReduction n cost = let s = claims n cost in stageOf s (transfers n cost s)
+unfoldable pub column_reduction : ℕ → (ℕ → ℕ → ℤ) → Stage
+column_reduction n cost = let s = claims n cost in stage_of s (transfers n cost s)

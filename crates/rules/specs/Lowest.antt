@@ -24,13 +24,13 @@ abbrev pub beside : Low → Low → TwoLowest
 beside lowest h = cond (le_z lowest.value h.value) (Two lowest h) (Two h lowest)
 
 -- A value counts only if below the second, where there is one.
-abbrev pub twoStep : TwoLowest → Low → TwoLowest
-twoStep (One lowest) h = beside lowest h
-twoStep (Two lowest second) h = cond (lt_z h.value second.value) (beside lowest h) (Two lowest second)
+abbrev pub two_step : TwoLowest → Low → TwoLowest
+two_step (One lowest) h = beside lowest h
+two_step (Two lowest second) h = cond (lt_z h.value second.value) (beside lowest h) (Two lowest second)
 
 -- The two lowest of f 0, f 1, .., f (n - 1).
-unfoldable pub twoLowest : ℕ → (ℕ → ℤ) → TwoLowest
-twoLowest n f = upward 1 n (λ j found. twoStep found (low (f j) j)) (One (low (f 0) 0))
+unfoldable pub two_lowest : ℕ → (ℕ → ℤ) → TwoLowest
+two_lowest n f = upward 1 n (λ j found. two_step found (low (f j) j)) (One (low (f 0) 0))
 
 -- For rule 3: a value below the lowest takes its place.
 abbrev pub lower : Low → Low → Low
@@ -46,5 +46,5 @@ least NoneYet h = Of h
 least (Of a) h = Of (cond (lt_z h a) h a)
 
 -- The least of f 0, f 1, .., f (n - 1) but f j.
-unfoldable pub leastBut : ℕ → (ℕ → ℤ) → ℕ → LeastSoFar
-leastBut n f j = upward 0 n (λ k found. cond (eqb k j) found (least found (f k))) NoneYet
+unfoldable pub least_but : ℕ → (ℕ → ℤ) → ℕ → LeastSoFar
+least_but n f j = upward 0 n (λ k found. cond (eqb k j) found (least found (f k))) NoneYet

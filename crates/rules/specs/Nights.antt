@@ -10,7 +10,7 @@ pub record Line : Type 0 where
   pub costs : List ℤ
   pub cols : List ℕ
   pub v : List ℤ
-  pub rowPrices : List ℤ
+  pub prices_of_rows : List ℤ
   pub total : ℤ
   pub counts : Counts
 
@@ -18,7 +18,7 @@ pub record Line : Type 0 where
 abbrev pub computed : Line → Line
 computed l =
     let a = run l.side l.costs in
-    record { side = l.side; costs = l.costs; cols = a.cols; v = a.columnPrices; rowPrices = a.rowPrices; total = a.total; counts = a.counts }
+    record { side = l.side; costs = l.costs; cols = a.cols; v = a.prices_of_columns; prices_of_rows = a.prices_of_rows; total = a.total; counts = a.counts }
 
 -- Numbers that are not negative.
 abbrev pub nats : List ℕ → List ℤ
@@ -38,7 +38,7 @@ six a b c d e f = record { free_rows = a; looks_one = b; left_one = c; looks_two
 
 -- A line.
 abbrev pub line : ℕ → List ℤ → List ℕ → List ℤ → List ℤ → ℤ → Counts → Line
-line n costs cols v rows total counts = record { side = n; costs = costs; cols = cols; v = v; rowPrices = rows; total = total; counts = counts }
+line n costs cols v rows total counts = record { side = n; costs = costs; cols = cols; v = v; prices_of_rows = rows; total = total; counts = counts }
 
 -- N8: [3 1 0 / 0 0 2 / 4 1 0], whose prices N9 and N10 take.
 abbrev pub n8 : Line
@@ -48,8 +48,8 @@ n8 = line 3 (nats (3 ∷ 1 ∷ 0 ∷ 0 ∷ 0 ∷ 2 ∷ 4 ∷ 1 ∷ 0 ∷ [])) (2
 abbrev pub even : Line
 even = line 2 (nats (0 ∷ 0 ∷ 0 ∷ 0 ∷ [])) (1 ∷ 0 ∷ []) (nats (0 ∷ 0 ∷ [])) (nats (0 ∷ 0 ∷ [])) (pos 0) (six 1 1 0 0 0 0)
 
-abbrev pub rowDearer : Line
-rowDearer = line 2 (nats (1 ∷ 1 ∷ 0 ∷ 0 ∷ [])) (0 ∷ 1 ∷ []) (nats (0 ∷ 0 ∷ [])) (nats (1 ∷ 0 ∷ [])) (pos 1) (six 1 1 0 0 0 0)
+abbrev pub row_dearer : Line
+row_dearer = line 2 (nats (1 ∷ 1 ∷ 0 ∷ 0 ∷ [])) (0 ∷ 1 ∷ []) (nats (0 ∷ 0 ∷ [])) (nats (1 ∷ 0 ∷ [])) (pos 1) (six 1 1 0 0 0 0)
 
 -- N0 to N8, then eight nights that between them tell every slip that can be told, then the surcharge on a row.
 abbrev pub nights : List Line
@@ -89,5 +89,5 @@ nights =
     -- A column that a scan lowers to the minimum joins the block.
     ∷ line 5 (nats (0 ∷ 1 ∷ 2 ∷ 2 ∷ 1 ∷ 0 ∷ 0 ∷ 0 ∷ 0 ∷ 1 ∷ 0 ∷ 2 ∷ 2 ∷ 2 ∷ 1 ∷ 0 ∷ 1 ∷ 1 ∷ 0 ∷ 0 ∷ 0 ∷ 0 ∷ 0 ∷ 0 ∷ 0 ∷ [])) (1 ∷ 3 ∷ 0 ∷ 4 ∷ 2 ∷ []) (minus 1 ∷ pos 0 ∷ pos 0 ∷ pos 0 ∷ pos 0 ∷ []) (nats (1 ∷ 0 ∷ 1 ∷ 0 ∷ 0 ∷ [])) (pos 1) (six 2 2 1 1 1 3)
     ∷ even
-    ∷ rowDearer
+    ∷ row_dearer
     ∷ []

@@ -3,7 +3,7 @@ use Rattle.std.specs.Prelude.{Bool, false, cond, List, ℕ, ◌+◌, ℤ, ◌+�
 use Rattle.std.specs.Int.Signed.{lt_z, le_z}
 use Rattle.lists.specs.Runs.{upward, Turn, on, left, until}
 use Rattle.lists.specs.Permutations.{at, table, exchange}
-use Rattle.assignment.specs.Pairings.{signedAt}
+use Rattle.assignment.specs.Pairings.{signed_at}
 use Rattle.rules.specs.declared.Cursor.{Cursor}
 use Rattle.rules.specs.declared.LastFree.{LastFree}
 use Rattle.rules.specs.declared.LastFree.TheVariants.{NoneYet, At}
@@ -19,8 +19,8 @@ pub record Work : Type 0 where
   pub scanned : ℕ
 
 -- A search with these.
-abbrev pub workOf : ℕ → List ℕ → List ℤ → List ℕ → ℕ → Work
-workOf hi list distances predecessors scanned =
+abbrev pub work_of : ℕ → List ℕ → List ℤ → List ℕ → ℕ → Work
+work_of hi list distances predecessors scanned =
     record { hi = hi; list = list; distances = distances; predecessors = predecessors; scanned = scanned }
 
 -- A scan is left: the free column that was reached, and the work as it stands then.
@@ -43,51 +43,51 @@ same x y = cond (le_z x y) (le_z y x) false
 -- when strictly lower."
 
 -- Row i leads to column j, at distance x.
-abbrev pub reachBy : Work → ℕ → ℕ → ℤ → Work
-reachBy w i j x = workOf w.hi w.list (set w.distances j x) (set w.predecessors j i) w.scanned
+abbrev pub reach_by : Work → ℕ → ℕ → ℤ → Work
+reach_by w i j x = work_of w.hi w.list (set w.distances j x) (set w.predecessors j i) w.scanned
 
 -- The column at place k is swapped to the block's end.
 abbrev pub join : Work → ℕ → Work
-join w k = workOf (w.hi + 1) (exchange w.list k w.hi) w.distances w.predecessors w.scanned
+join w k = work_of (w.hi + 1) (exchange w.list k w.hi) w.distances w.predecessors w.scanned
 
 -- One more column's row is used in a scan.
-abbrev pub countOne : Work → Work
-countOne w = workOf w.hi w.list w.distances w.predecessors (w.scanned + 1)
+abbrev pub count_one : Work → Work
+count_one w = work_of w.hi w.list w.distances w.predecessors (w.scanned + 1)
 
 -- Column j, at place k, has been lowered to x: at the block's minimum it ends the search if it is free, and else joins the block.
-abbrev pub afterLowering : ℕ → (ℕ → ℕ) → ℤ → ℕ → ℕ → ℤ → Work → Turn Work Hit
-afterLowering n row minimum k j x w =
+abbrev pub after_lowering : ℕ → (ℕ → ℕ) → ℤ → ℕ → ℕ → ℤ → Work → Turn Work Hit
+after_lowering n row minimum k j x w =
     cond (same x minimum) (cond (ltb (row j) n) (on (join w k)) (left (record { column = j; work = w }))) (on w)
 
 module _ (n : ℕ) (cost : ℕ → ℕ → ℤ) (v : ℕ → ℤ) (row : ℕ → ℕ) where
   -- The column at place k, as row i sees it: h is what the reduced cost of the scanned column is above the minimum.
-  abbrev pub scanColumn : ℤ → ℤ → ℕ → ℕ → Work → Turn Work Hit
-  scanColumn minimum h i k w =
+  abbrev pub scan_column : ℤ → ℤ → ℕ → ℕ → Work → Turn Work Hit
+  scan_column minimum h i k w =
       let j = at w.list k in
       let x = reduced cost v i j -ℤ h in
-      cond (lt_z x (signedAt w.distances j)) (afterLowering n row minimum k j x (reachBy w i j x)) (on w)
+      cond (lt_z x (signed_at w.distances j)) (after_lowering n row minimum k j x (reach_by w i j x)) (on w)
 
   -- The row of the column at place k sees all columns after the block.
-  abbrev pub scanRow : ℕ → Work → Turn Work Hit
-  scanRow k w =
+  abbrev pub scan_row : ℕ → Work → Turn Work Hit
+  scan_row k w =
       let j = at w.list k in
-      let minimum = signedAt w.distances j in
-      until w.hi n (scanColumn minimum (reduced cost v (row j) j -ℤ minimum) (row j)) (countOne w)
+      let minimum = signed_at w.distances j in
+      until w.hi n (scan_column minimum (reduced cost v (row j) j -ℤ minimum) (row j)) (count_one w)
 
   -- The columns of the block from place lo on, those that join it included.
   unfoldable pub scan : ℕ → Work → Turn Work Hit
-  scan lo w = until lo n (λ k x. cond (ltb k x.hi) (scanRow k x) (on x)) w
+  scan lo w = until lo n (λ k x. cond (ltb k x.hi) (scan_row k x) (on x)) w
 
 -- ---- "The search ends by handing out the free column it reached. Among free columns of a fresh block the last in the list is taken; the
 -- source has no early exit. [..] lo and hi then keep their values from before that scan."
 
 -- The last free column of the places from lo up to hi.
-unfoldable pub lastFree : ℕ → (ℕ → ℕ) → List ℕ → ℕ → ℕ → LastFree
-lastFree n row list lo hi = upward lo hi (λ k found. cond (ltb (row (at list k)) n) found (At (at list k))) NoneYet
+unfoldable pub last_free : ℕ → (ℕ → ℕ) → List ℕ → ℕ → ℕ → LastFree
+last_free n row list lo hi = upward lo hi (λ k found. cond (ltb (row (at list k)) n) found (At (at list k))) NoneYet
 
 -- The work with its block of minima from lo on.
-abbrev pub freshBlock : ℕ → ℕ → Work → Work
-freshBlock n lo w = let b = block n w.distances lo w.list in workOf b.hi b.list w.distances w.predecessors w.scanned
+abbrev pub fresh_block : ℕ → ℕ → Work → Work
+fresh_block n lo w = let b = block n w.distances lo w.list in work_of b.hi b.list w.distances w.predecessors w.scanned
 
 -- What is found from a block that starts at lo.
 abbrev pub found : ℕ → Cursor → ℕ → Work → Found
@@ -95,9 +95,9 @@ found lo cursor j w = record { column = j; ready = lo; cursor = cursor; work = w
 
 -- After the scan of the block from lo to hi: the next block starts where this one ended; or a free column was reached, and lo and hi keep
 -- their values.
-abbrev pub afterScan : ℕ → ℕ → Turn Work Hit → Turn Work Found
-afterScan lo hi (on w) = on w
-afterScan lo hi (left hit) = left (found lo (record { lo = lo; hi = hi }) hit.column hit.work)
+abbrev pub after_scan : ℕ → ℕ → Turn Work Hit → Turn Work Found
+after_scan lo hi (on w) = on w
+after_scan lo hi (left hit) = left (found lo (record { lo = lo; hi = hi }) hit.column hit.work)
 
 -- What was found. (That a search is left within n blocks is a law.)
 abbrev pub found_at : Turn Work Found → Found
@@ -108,32 +108,32 @@ module _ (n : ℕ) (cost : ℕ → ℕ → ℤ) (v : ℕ → ℤ) (row : ℕ →
   -- A fresh block, from lo on: it has a free column, or it is scanned.
   abbrev pub after_block : ℕ → Work → LastFree → Turn Work Found
   after_block lo w (At j) = left (found lo (record { lo = lo; hi = w.hi }) j w)
-  after_block lo w NoneYet = afterScan lo w.hi (scan n cost v row lo w)
+  after_block lo w NoneYet = after_scan lo w.hi (scan n cost v row lo w)
 
   -- One block. Between two blocks lo and hi are the same.
-  abbrev pub searchBlock : Work → Turn Work Found
-  searchBlock w = let lo = w.hi in let b = freshBlock n lo w in after_block lo b (lastFree n row b.list lo b.hi)
+  abbrev pub search_block : Work → Turn Work Found
+  search_block w = let lo = w.hi in let b = fresh_block n lo w in after_block lo b (last_free n row b.list lo b.hi)
 
   -- At most m blocks.
-  unfoldable pub searchBlocks : ℕ → Work → Turn Work Found
-  searchBlocks m w = until 0 m (λ k x. searchBlock x) w
+  unfoldable pub search_blocks : ℕ → Work → Turn Work Found
+  search_blocks m w = until 0 m (λ k x. search_block x) w
 
   -- Before the first block: the columns in their order, each as far as row s makes it.
-  abbrev pub searchStart : ℕ → Work
-  searchStart s = workOf 0 (table n (λ j. j)) (table n (reduced cost v s)) (table n (λ j. s)) 0
+  abbrev pub search_start : ℕ → Work
+  search_start s = work_of 0 (table n (λ j. j)) (table n (reduced cost v s)) (table n (λ j. s)) 0
 
   -- The search from row s.
   unfoldable pub search : ℕ → Found
-  search s = found_at (searchBlocks n (searchStart s))
+  search s = found_at (search_blocks n (search_start s))
 
 -- ---- "Then each ready column (those listed before the last block) has its distance minus that block's minimum added to v."
 
 -- A column's price, with its distance minus the minimum added.
-abbrev pub addDistance : List ℤ → ℤ → ℕ → List ℤ → List ℤ
-addDistance distances minimum j v = set v j (signedAt v j +ℤ (signedAt distances j -ℤ minimum))
+abbrev pub add_distance : List ℤ → ℤ → ℕ → List ℤ → List ℤ
+add_distance distances minimum j v = set v j (signed_at v j +ℤ (signed_at distances j -ℤ minimum))
 
 -- The prices after a search.
-unfoldable pub newPrices : Found → List ℤ → List ℤ
-newPrices f v =
+unfoldable pub new_prices : Found → List ℤ → List ℤ
+new_prices f v =
     let w = f.work in
-    upward 0 f.ready (λ k. addDistance w.distances (signedAt w.distances (at w.list f.cursor.lo)) (at w.list k)) v
+    upward 0 f.ready (λ k. add_distance w.distances (signed_at w.distances (at w.list f.cursor.lo)) (at w.list k)) v

@@ -10,8 +10,8 @@ abbrev pub surcharged : ℕ → (ℕ → ℤ) → Result → Result
 surcharged n amount a = record {
   cols = a.cols;
   rows = a.rows;
-  rowPrices = a.rowPrices;
-  columnPrices = risen amount a.columnPrices;
+  prices_of_rows = a.prices_of_rows;
+  prices_of_columns = risen amount a.prices_of_columns;
   total = a.total +ℤ sum n amount;
   counts = a.counts;
 }

@@ -11,64 +11,64 @@ use Rattle.ints.specs.Parts.{Within}
 use Rattle.ints.proofs.Shapes.{zlin}
 use Rattle.lists.specs.Permutations.{at}
 use Rattle.lists.specs.Sums.{sum}
-use Rattle.lists.proofs.Sums.{sum-cong, sum-zero, sum-add, sum-le, sum-le-tight, sum-within}
+use Rattle.lists.proofs.Sums.{sum_cong, sum_zero, sum_add, sum_le, sum_le_tight, sum-within}
 use Rattle.matrix.specs.declared.Answer.TheVariants.{Total}
-use Rattle.score.specs.Characters.{Reference, characterCost}
-use Rattle.score.specs.Score.{scoreOf, score}
-use Rattle.score.proofs.CharacterCosts.{cost-small, cost-same, cost-symmetric, cost-zero, cost-detour}
-use Rattle.score.proofs.Scores.{score-iff}
+use Rattle.score.specs.Characters.{Reference, character_cost}
+use Rattle.score.specs.Score.{score_of, score}
+use Rattle.score.proofs.CharacterCosts.{cost-small, cost-same, cost_symmetric, cost_zero, cost_detour}
+use Rattle.score.proofs.Scores.{score_iff}
 
 -- What the characters at k cost.
 abbrev costs : List ℕ → List ℕ → ℕ → ℤ
-costs x y k = pos (characterCost (at x k) (at y k))
+costs x y k = pos (character_cost (at x k) (at y k))
 
 -- ---- the sum
 
-pub sum-small : (x y : List ℕ) → Within 108 (scoreOf x y)
-unfolding scoreOf
+pub sum-small : (x y : List ℕ) → Within 108 (score_of x y)
+unfolding score_of
 sum-small x y = sum-within 12 9 (costs x y) (λ k l. omega (arith, cost-small (at x k) (at y k)))
 
-sum_same : (x : List ℕ) → scoreOf x x ≡ pos 0
-unfolding scoreOf
-sum_same x = sum-zero 12 (costs x x) (λ k l. ap pos (cost-same (at x k)))
+sum_same : (x : List ℕ) → score_of x x ≡ pos 0
+unfolding score_of
+sum_same x = sum_zero 12 (costs x x) (λ k l. ap pos (cost-same (at x k)))
 
 module _ (x y : List ℕ) (rx : Reference x) (ry : Reference y) where
-  sum-symmetric : scoreOf x y ≡ scoreOf y x
-  unfolding scoreOf
-  sum-symmetric = sum-cong 12 (costs x y) (costs y x) (λ k l. ap pos (cost-symmetric (at x k) (at y k) (rx.known k l) (ry.known k l)))
+  sum_symmetric : score_of x y ≡ score_of y x
+  unfolding score_of
+  sum_symmetric = sum_cong 12 (costs x y) (costs y x) (λ k l. ap pos (cost_symmetric (at x k) (at y k) (rx.known k l) (ry.known k l)))
 
   -- No cost is below 0: where they come to 0, each is 0.
-  sum-equal : scoreOf x y ≡ pos 0 → x ≡ y
-  unfolding scoreOf
-  sum-equal e = ext_get_or 0 x y (rx.size ∙ sym ry.size) (λ k l. same k (omega (arith, rx.size)))
+  sum_equal : score_of x y ≡ pos 0 → x ≡ y
+  unfolding score_of
+  sum_equal e = ext_get_or 0 x y (rx.size ∙ sym ry.size) (λ k l. same k (omega (arith, rx.size)))
     where
       same : (k : ℕ) → k < 12 → at x k ≡ at y k
       same k l =
-          let none : sum 12 (λ i. pos 0) ≡ pos 0 = sum-zero 12 (λ i. pos 0) (λ i h. refl) in
-          let zero : pos 0 ≡ costs x y k = sum-le-tight 12 (λ i. pos 0) (costs x y) (λ i h. omega zlin) (omega (zlin, e, none)) k l in
-          cost-zero (at x k) (at y k) (rx.known k l) (ry.known k l) (omega (zlin, zero))
+          let none : sum 12 (λ i. pos 0) ≡ pos 0 = sum_zero 12 (λ i. pos 0) (λ i h. refl) in
+          let zero : pos 0 ≡ costs x y k = sum_le_tight 12 (λ i. pos 0) (costs x y) (λ i h. omega zlin) (omega (zlin, e, none)) k l in
+          cost_zero (at x k) (at y k) (rx.known k l) (ry.known k l) (omega (zlin, zero))
 
-  sum-detour : (z : List ℕ) → Reference z → scoreOf x z ≤ℤ (scoreOf x y +ℤ scoreOf y z)
-  unfolding scoreOf
-  sum-detour z rz =
-      let each = sum-le 12 (costs x z) (λ k. costs x y k +ℤ costs y z k) (λ k l. omega (zlin, cost-detour (at x k) (at y k) (at z k) (rx.known k l) (ry.known k l) (rz.known k l))) in
-      omega (zlin, each, sum-add 12 (costs x y) (costs y z))
+  sum_detour : (z : List ℕ) → Reference z → score_of x z ≤ℤ (score_of x y +ℤ score_of y z)
+  unfolding score_of
+  sum_detour z rz =
+      let each = sum_le 12 (costs x z) (λ k. costs x y k +ℤ costs y z k) (λ k l. omega (zlin, cost_detour (at x k) (at y k) (at z k) (rx.known k l) (ry.known k l) (rz.known k l))) in
+      omega (zlin, each, sum_add 12 (costs x y) (costs y z))
 
 -- ---- the entry
 
-pub score-symmetric : (x y : List ℕ) {t : ℤ} → score x y ≡ Total t → score y x ≡ Total t
-score-symmetric x y e =
-    let s = (score-iff x y).0 e in
-    (score-iff y x).1 ((s.0.1, s.0.0), s.1 ∙ sum-symmetric x y s.0.0 s.0.1)
+pub score_symmetric : (x y : List ℕ) {t : ℤ} → score x y ≡ Total t → score y x ≡ Total t
+score_symmetric x y e =
+    let s = (score_iff x y).0 e in
+    (score_iff y x).1 ((s.0.1, s.0.0), s.1 ∙ sum_symmetric x y s.0.0 s.0.1)
 
-pub score-zero : (x y : List ℕ) → (score x y ≡ Total (pos 0)) ↔ (Reference x × (x ≡ y))
-score-zero x y = (
-  λ e. let s = (score-iff x y).0 e in (s.0.0, sum-equal x y s.0.0 s.0.1 (sym s.1)),
-  λ h. ap (λ (z : List ℕ). score x z) (sym h.1) ∙ (score-iff x x).1 ((h.0, h.0), sym (sum_same x)),
+pub score_zero : (x y : List ℕ) → (score x y ≡ Total (pos 0)) ↔ (Reference x × (x ≡ y))
+score_zero x y = (
+  λ e. let s = (score_iff x y).0 e in (s.0.0, sum_equal x y s.0.0 s.0.1 (sym s.1)),
+  λ h. ap (λ (z : List ℕ). score x z) (sym h.1) ∙ (score_iff x x).1 ((h.0, h.0), sym (sum_same x)),
 )
 
-pub score-detour : (x y z : List ℕ) {s t : ℤ} → score x y ≡ Total s → score y z ≡ Total t → (score x z ≡ Total (scoreOf x z)) × (scoreOf x z ≤ℤ (s +ℤ t))
-score-detour x y z e f =
-    let a = (score-iff x y).0 e in
-    let b = (score-iff y z).0 f in
-    ((score-iff x z).1 ((a.0.0, b.0.1), refl), omega (zlin, a.1, b.1, sum-detour x y a.0.0 a.0.1 z b.0.1))
+pub score_detour : (x y z : List ℕ) {s t : ℤ} → score x y ≡ Total s → score y z ≡ Total t → (score x z ≡ Total (score_of x z)) × (score_of x z ≤ℤ (s +ℤ t))
+score_detour x y z e f =
+    let a = (score_iff x y).0 e in
+    let b = (score_iff y z).0 f in
+    ((score_iff x z).1 ((a.0.0, b.0.1), refl), omega (zlin, a.1, b.1, sum_detour x y a.0.0 a.0.1 z b.0.1))

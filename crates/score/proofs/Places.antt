@@ -11,18 +11,18 @@ use Rattle.score.specs.ScoreSheet.{reference}
 
 -- A place of a square has a row and a column.
 module _ (n k : ℕ) (h : k < n * n) where
-  pub side-positive : 0 < n
-  side-positive = by n h
+  pub side_positive : 0 < n
+  side_positive = by n h
     where
       by : (n : ℕ) → k < n * n → 0 < n
       by zero l = absurd (omega arith)
       by (suc m) l = omega arith
 
   pub row_below : k / n < n
-  row_below = (div-lt_iff_lt-mul {k = n} {x = k} {y = n} side-positive).1 h
+  row_below = (div-lt_iff_lt-mul {k = n} {x = k} {y = n} side_positive).1 h
 
   pub column-below : k % n < n
-  column-below = mod-lt k side-positive
+  column-below = mod-lt k side_positive
 
 -- A reference of a list that passed its tests.
 module _ (n : ℕ) (list : List ℕ) (l : Known (12 * n) list) (i : ℕ) (h : i < n) where

@@ -7,49 +7,49 @@ use native.Mathlib.Omega.{arith}
 use borrow.Author.Tests.{leb-true, eqb-true, eq-eqb}
 use lib.Dec.{leb, eqb}
 use lib.ListN.{get_or}
-use Rattle.lists.proofs.Tables.{getD-table}
-use Rattle.score.specs.Characters.{characterCost, characterAt, placeCost, costTable}
-use Rattle.score.proofs.Everywhere.{everywhere, everywhere-at}
+use Rattle.lists.proofs.Tables.{get_d_table}
+use Rattle.score.specs.Characters.{character_cost, character_at, place_cost, cost_table}
+use Rattle.score.proofs.Everywhere.{everywhere, everywhere_at}
 
 -- What the characters with these numbers cost.
 cost : ℕ → ℕ → ℕ
-cost a b = characterCost (characterAt a) (characterAt b)
+cost a b = character_cost (character_at a) (character_at b)
 
 -- It stands in row a, column b.
-pub table_at : (a b : ℕ) → a < 36 → b < 36 → get_or costTable (36 * a + b) 0 ≡ characterCost (characterAt a) (characterAt b)
-unfolding costTable placeCost
+pub table_at : (a b : ℕ) → a < 36 → b < 36 → get_or cost_table (36 * a + b) 0 ≡ character_cost (character_at a) (character_at b)
+unfolding cost_table place_cost
 table_at a b la lb =
     let row : (36 * a + b) / 36 ≡ a = omega (arith, mul-add-div {m = 36} (omega arith) a b, div-eq_of_lt {n = b} {m = 36} lb) in
-    getD-table 1296 placeCost 0 (36 * a + b) (omega arith)
-    ∙ ap₂ (λ (x y : ℕ). characterCost (characterAt x) (characterAt y)) row (mul-add-mod_self_left 36 a b ∙ mod-eq_of_lt lb)
+    get_d_table 1296 place_cost 0 (36 * a + b) (omega arith)
+    ∙ ap₂ (λ (x y : ℕ). character_cost (character_at x) (character_at y)) row (mul-add-mod_self_left 36 a b ∙ mod-eq_of_lt lb)
 
 -- ---- symmetric
 
 mirrored : ℕ → ℕ → Bool
 mirrored a b = eqb (cost a b) (cost b a)
 
-mirrored-everywhere : everywhere 36 (λ a. everywhere 36 (mirrored a)) ≡ true
-unfolding cost characterCost mirrored
-mirrored-everywhere = refl
+mirrored_everywhere : everywhere 36 (λ a. everywhere 36 (mirrored a)) ≡ true
+unfolding cost character_cost mirrored
+mirrored_everywhere = refl
 
-pub table-symmetric : (a b : ℕ) → a < 36 → b < 36 → characterCost (characterAt a) (characterAt b) ≡ characterCost (characterAt b) (characterAt a)
+pub table_symmetric : (a b : ℕ) → a < 36 → b < 36 → character_cost (character_at a) (character_at b) ≡ character_cost (character_at b) (character_at a)
 unfolding cost mirrored
-table-symmetric a b la lb =
-    eqb-true (cost a b) (cost b a) (everywhere-at 36 (mirrored a) (everywhere-at 36 (λ a. everywhere 36 (mirrored a)) mirrored-everywhere a la) b lb)
+table_symmetric a b la lb =
+    eqb-true (cost a b) (cost b a) (everywhere_at 36 (mirrored a) (everywhere_at 36 (λ a. everywhere 36 (mirrored a)) mirrored_everywhere a la) b lb)
 
 -- ---- zero only on the diagonal
 
 costly : ℕ → ℕ → Bool
 costly a b = eqb a b || not (eqb (cost a b) 0)
 
-costly-everywhere : everywhere 36 (λ a. everywhere 36 (costly a)) ≡ true
-unfolding cost characterCost costly
-costly-everywhere = refl
+costly_everywhere : everywhere 36 (λ a. everywhere 36 (costly a)) ≡ true
+unfolding cost character_cost costly
+costly_everywhere = refl
 
-pub table-zero : (a b : ℕ) → a < 36 → b < 36 → characterCost (characterAt a) (characterAt b) ≡ 0 → a ≡ b
+pub table_zero : (a b : ℕ) → a < 36 → b < 36 → character_cost (character_at a) (character_at b) ≡ 0 → a ≡ b
 unfolding cost costly
-table-zero a b la lb e =
-    eqb-true a b (first (eqb a b) (eqb (cost a b) 0) (eq-eqb (cost a b) 0 e) (everywhere-at 36 (costly a) (everywhere-at 36 (λ a. everywhere 36 (costly a)) costly-everywhere a la) b lb))
+table_zero a b la lb e =
+    eqb-true a b (first (eqb a b) (eqb (cost a b) 0) (eq-eqb (cost a b) 0 e) (everywhere_at 36 (costly a) (everywhere_at 36 (λ a. everywhere 36 (costly a)) costly_everywhere a la) b lb))
   where
     first : (s t : Bool) → t ≡ true → s || not t ≡ true → s ≡ true
     first true t d h = refl
@@ -61,14 +61,14 @@ table-zero a b la lb e =
 straight : ℕ → ℕ → ℕ → Bool
 straight a b c = leb (cost a c) (cost a b + cost b c)
 
-straight-everywhere : everywhere 36 (λ a. everywhere 36 (λ b. everywhere 36 (straight a b))) ≡ true
-unfolding cost characterCost straight
-straight-everywhere = refl
+straight_everywhere : everywhere 36 (λ a. everywhere 36 (λ b. everywhere 36 (straight a b))) ≡ true
+unfolding cost character_cost straight
+straight_everywhere = refl
 
-pub table-detour : (a b c : ℕ) → a < 36 → b < 36 → c < 36
-    → characterCost (characterAt a) (characterAt c) ≤ characterCost (characterAt a) (characterAt b) + characterCost (characterAt b) (characterAt c)
+pub table_detour : (a b c : ℕ) → a < 36 → b < 36 → c < 36
+    → character_cost (character_at a) (character_at c) ≤ character_cost (character_at a) (character_at b) + character_cost (character_at b) (character_at c)
 unfolding cost straight
-table-detour a b c la lb lc =
+table_detour a b c la lb lc =
     leb-true (cost a c) (cost a b + cost b c)
-    (everywhere-at 36 (straight a b)
-    (everywhere-at 36 (λ b. everywhere 36 (straight a b)) (everywhere-at 36 (λ a. everywhere 36 (λ b. everywhere 36 (straight a b))) straight-everywhere a la) b lb) c lc)
+    (everywhere_at 36 (straight a b)
+    (everywhere_at 36 (λ b. everywhere 36 (straight a b)) (everywhere_at 36 (λ a. everywhere 36 (λ b. everywhere 36 (straight a b))) straight_everywhere a la) b lb) c lc)

@@ -24,24 +24,24 @@ abbrev pub Reference : List ℕ → Type 0
 Reference list = Known 12 list
 
 -- Two bytes are x and y, in either order.
-abbrev pub pairIs : ℕ → ℕ → ℕ → ℕ → Bool
-pairIs x y a b = (eqb a x && eqb b y) || (eqb a y && eqb b x)
+abbrev pub pair_is : ℕ → ℕ → ℕ → ℕ → Bool
+pair_is x y a b = (eqb a x && eqb b y) || (eqb a y && eqb b x)
 
 -- "the look-alikes 0/O, 1/I, 2/Z, 5/S and 8/B".
-abbrev pub lookAlike : ℕ → ℕ → Bool
-lookAlike a b = pairIs 48 79 a b || (pairIs 49 73 a b || (pairIs 50 90 a b || (pairIs 53 83 a b || pairIs 56 66 a b)))
+abbrev pub look_alike : ℕ → ℕ → Bool
+look_alike a b = pair_is 48 79 a b || (pair_is 49 73 a b || (pair_is 50 90 a b || (pair_is 53 83 a b || pair_is 56 66 a b)))
 
 -- "Equal characters cost 0; the look-alikes [..] cost 2; all others cost 9."
-unfoldable pub characterCost : ℕ → ℕ → ℕ
-characterCost a b = cond (eqb a b) 0 (cond (lookAlike a b) 2 9)
+unfoldable pub character_cost : ℕ → ℕ → ℕ
+character_cost a b = cond (eqb a b) 0 (cond (look_alike a b) 2 9)
 
 -- The characters in order, numbered from 0 to 35.
-abbrev pub characterAt : ℕ → ℕ
-characterAt k = cond (ltb k 10) (48 + k) (55 + k)
+abbrev pub character_at : ℕ → ℕ
+character_at k = cond (ltb k 10) (48 + k) (55 + k)
 
 -- "The costs stand in a table of 1,296 numbers": what stands at each of its places, 36 to a row.
-unfoldable pub placeCost : ℕ → ℕ
-placeCost place = characterCost (characterAt (place / 36)) (characterAt (place % 36))
+unfoldable pub place_cost : ℕ → ℕ
+place_cost place = character_cost (character_at (place / 36)) (character_at (place % 36))
 
-unfoldable pub costTable : List ℕ
-costTable = table 1296 placeCost
+unfoldable pub cost_table : List ℕ
+cost_table = table 1296 place_cost

@@ -1,6 +1,6 @@
 // The characters of a reference, and what two of them cost.
 ghost use Rattle.std.specs.Prelude.{◌≡◌, true};
-ghost use Rattle.score.specs.Characters.{between, known, foreign, characterCost, costTable};
+ghost use Rattle.score.specs.Characters.{between, known, foreign, character_cost, cost_table};
 ghost use Rattle.score.specs.Asked.{numbered};
 
 // Whether a byte lies between two others, or is one of them.
@@ -41,8 +41,8 @@ fn number(byte: u8) -> usize
 
 // What two characters cost, by the table.
 pub fn cost(table: &[u8], a: u8, b: u8) -> usize
-    requires { (table.now ≡ costTable) × (known a ≡ true) × (known b ≡ true) }
-    ensures { result ≡ characterCost a b }
+    requires { (table.now ≡ cost_table) × (known a ≡ true) × (known b ≡ true) }
+    ensures { result ≡ character_cost a b }
 {
     let place = 36 * number(a) + number(b);
     wide(table[place])

@@ -1,9 +1,9 @@
 // The score of two references, and a sheet of the scores of two lists of them. What is promised is said in specs/.
 ghost use Rattle.std.specs.Prelude.{◌≡◌, pos};
 ghost use Rattle.matrix.specs.Answers.{values_of};
-ghost use Rattle.score.specs.Characters.{Reference, costTable};
-ghost use Rattle.score.specs.Score.{scoreOf, score};
-ghost use Rattle.score.specs.ScoreSheet.{Filled, scoreSheet};
+ghost use Rattle.score.specs.Characters.{Reference, cost_table};
+ghost use Rattle.score.specs.Score.{score_of, score};
+ghost use Rattle.score.specs.ScoreSheet.{Filled, score_sheet};
 
 mod characters;
 mod sheets;
@@ -19,8 +19,8 @@ use tests::{score_tested, sheet_tested};
 
 // The sum of the 12 character costs.
 fn total(table: &[u8], first: &[u8], second: &[u8]) -> usize
-    requires { (table.now ≡ costTable) × Reference first.now × Reference second.now }
-    ensures { pos result ≡ scoreOf first.now second.now }
+    requires { (table.now ≡ cost_table) × Reference first.now × Reference second.now }
+    ensures { pos result ≡ score_of first.now second.now }
 {
     let mut total = 0;
     let mut k = 0;
@@ -47,7 +47,7 @@ pub fn score(first: &[u8], second: &[u8]) -> Answer
 
 // A sheet of the scores of two lists of references is written over the front of its room; 0, or the refusal as number + 256*place.
 pub fn score_sheet(firsts: &[u8], seconds: &[u8], sheet: &mut [u8]) -> u64
-    ensures { ◌≡◌ {A = Filled} (record { number = result; sheet = sheet.new }) (scoreSheet firsts.now seconds.now sheet.old) }
+    ensures { ◌≡◌ {A = Filled} (record { number = result; sheet = sheet.new }) (score_sheet firsts.now seconds.now sheet.old) }
 {
     match sheet_tested(firsts, seconds, sheet.len()) {
         Verdict::Fails(refusal) => code(refusal),

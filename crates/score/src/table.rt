@@ -1,6 +1,6 @@
 // The table of character costs: a row and in it a place for each character, 0 to 9 and A to Z.
 ghost use Rattle.std.specs.Prelude.{◌≡◌};
-ghost use Rattle.score.specs.Characters.{costTable};
+ghost use Rattle.score.specs.Characters.{cost_table};
 
 const COSTS: [u8; 1296] = [
     // 0
@@ -118,7 +118,7 @@ const COSTS: [u8; 1296] = [
 
 // The table, to be bound once and lent, since a constant is made anew at each use. The promise holds it and the definition together.
 pub fn costs() -> [u8; 1296]
-    ensures { result ≡ costTable }
+    ensures { result ≡ cost_table }
 {
     COSTS
 }

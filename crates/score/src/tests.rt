@@ -4,8 +4,8 @@ ghost use Rattle.lists.specs.Runs.{first};
 ghost use Rattle.lists.specs.Permutations.{at};
 ghost use Rattle.matrix.specs.Verdicts.{Passes, ◌then◌};
 ghost use Rattle.score.specs.Characters.{foreign};
-ghost use Rattle.score.specs.Score.{lengthsTwelve, charactersKnown, scoreTests};
-ghost use Rattle.score.specs.ScoreSheet.{uneven, listsFit, sheetTests};
+ghost use Rattle.score.specs.Score.{lengths_twelve, characters_known, score_tests};
+ghost use Rattle.score.specs.ScoreSheet.{uneven, lists_fit, sheet_tests};
 
 use crate::characters::foreign;
 use matrix::limits::sheet_side;
@@ -14,7 +14,7 @@ use matrix::{Verdict, refusals};
 
 // Test 18 of two references.
 fn lengths_twelve(first: &[u8], second: &[u8]) -> Verdict
-    ensures { result ≡ lengthsTwelve first.now second.now }
+    ensures { result ≡ lengths_twelve first.now second.now }
 {
     if first.len() != 12 {
         return fails_if(true, refusals::REFERENCE_LENGTH, 1);
@@ -39,7 +39,7 @@ fn first_foreign(list: &[u8]) -> usize
 // Test 19 of a list of references, which begin at `start` in each pair of 24.
 fn characters_known(before: Verdict, start: usize, list: &[u8]) -> Verdict
     requires { (start ≤ 12) × (Passes before → length list.now ≤ 768) }
-    ensures { result ≡ (before then charactersKnown start list.now) }
+    ensures { result ≡ (before then characters_known start list.now) }
 {
     match before {
         Verdict::Fails(refusal) => {
@@ -54,7 +54,7 @@ fn characters_known(before: Verdict, start: usize, list: &[u8]) -> Verdict
 
 // Tests 18, 19 of two references.
 pub fn score_tested(first: &[u8], second: &[u8]) -> Verdict
-    ensures { result ≡ scoreTests first.now second.now }
+    ensures { result ≡ score_tests first.now second.now }
 {
     let twelve = lengths_twelve(first, second);
     let known = characters_known(twelve, 0, first);
@@ -70,7 +70,7 @@ fn uneven(firsts: usize, seconds: usize) -> bool
 
 // Tests 18, 13, 16 of a sheet of scores, given the lengths of the two lists and of the room.
 fn lists_fit(firsts: usize, seconds: usize, room: usize) -> Verdict
-    ensures { result ≡ listsFit firsts seconds room }
+    ensures { result ≡ lists_fit firsts seconds room }
 {
     if uneven(firsts, seconds) {
         return fails_if(true, refusals::REFERENCE_LENGTH, 0);
@@ -84,7 +84,7 @@ fn lists_fit(firsts: usize, seconds: usize, room: usize) -> Verdict
 
 // Tests 18, 13, 16, 19 of a sheet of scores.
 pub fn sheet_tested(firsts: &[u8], seconds: &[u8], room: usize) -> Verdict
-    ensures { result ≡ sheetTests firsts.now seconds.now room }
+    ensures { result ≡ sheet_tests firsts.now seconds.now room }
 {
     let fit = lists_fit(firsts.len(), seconds.len(), room);
     let known = characters_known(fit, 0, firsts);

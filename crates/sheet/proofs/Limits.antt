@@ -2,14 +2,14 @@
 use Prim.Native.Nat.{◌+◌, ◌^◌, ◌≤◌}
 use native.Mathlib.Omega.{arith}
 use Rattle.matrix.specs.Limits.{K}
-use Rattle.sheet.specs.Reading.{sheetMost, noteMost}
+use Rattle.sheet.specs.Reading.{sheet_most, note_most}
 
 -- A place on a sheet is told by few bytes.
-pub sheetMost-small : sheetMost ≤ 2 ^ 16
-unfolding sheetMost
-sheetMost-small = omega arith
+pub sheet_most-small : sheet_most ≤ 2 ^ 16
+unfolding sheet_most
+sheet_most-small = omega arith
 
 -- A sheet has room for the longest note, and for the costs and what an edition adds at the largest side.
-pub sheetMost-large : noteMost + 16384 + 514 + 12 ≤ sheetMost
-unfolding sheetMost noteMost
-sheetMost-large = omega arith
+pub sheet_most_large : note_most + 16384 + 514 + 12 ≤ sheet_most
+unfolding sheet_most note_most
+sheet_most_large = omega arith

@@ -14,39 +14,39 @@ use lib.IntN.{ℤ}
 use lib.ListN.{length, take, drop, replicate, length-append, length-drop, length-replicate}
 use lib.Seq.{take_at, take-take}
 use Rattle.layout.specs.Values.{bytes_of, value_of}
-use Rattle.layout.specs.Trailers.{hasRowCount, distance_of, side_of, editionOf, rowCountOf}
-use Rattle.layout.specs.Sheets.{costsAt, barsAt}
-use Rattle.layout.specs.Slips.{slipOf, slipLength}
-use Rattle.layout.proofs.Values.{value-below}
+use Rattle.layout.specs.Trailers.{has_row_count, distance_of, side_of, edition_of, row_count_of}
+use Rattle.layout.specs.Sheets.{costs_at, bars_at}
+use Rattle.layout.specs.Slips.{slip_of, slip_length}
+use Rattle.layout.proofs.Values.{value_below}
 use Rattle.layout.proofs.Fields.{length_fields}
-use Rattle.matrix.specs.Limits.{sheetSide}
+use Rattle.matrix.specs.Limits.{sheet_side}
 use Rattle.matrix.specs.Refusals.{code_of, NoPairing}
 use Rattle.matrix.specs.Asked.{Tellable}
 use Rattle.matrix.specs.Verdicts.{Passes}
 use Rattle.matrix.specs.declared.Verdict.{Verdict}
 use Rattle.matrix.specs.declared.Verdict.TheVariants.{Passed, Fails}
 use Rattle.matrix.specs.declared.Refusal.{Refusal}
-use Rattle.matrix.proofs.SmallLimits.{sheetSide-small}
+use Rattle.matrix.proofs.SmallLimits.{sheet_side-small}
 use Rattle.matrix.proofs.Verdicts as verdicts
-use Rattle.matrix.proofs.Verdicts.{then-iff, then-small, failsIf-small, failsAt-small}
+use Rattle.matrix.proofs.Verdicts.{then_iff, then_small, fails_if-small, fails_at-small}
 use Rattle.sheet.specs.declared.State.{State}
 use Rattle.sheet.specs.declared.Reply.TheVariants.{Accepted, Refused, Blocked}
 use Rattle.sheet.specs.declared.Settled.{Settled}
-use Rattle.sheet.specs.Reading.{sheetMost, hasBars, rows_of, Laid, laid_of, trailed, rowsFit, pointed, unfit, noteFit, sheetTests, nightTests, Read, refused, night, nightIf, readIf, read}
-use Rattle.sheet.specs.Settle.{fresh, found, ended, barredRow, rowsShown, blockedWith, acceptedWith, settledAs, Delivery, blockedAs, slipAs, pairedAs}
-use Rattle.sheet.proofs.Limits.{sheetMost-small}
-use Rattle.sheet.proofs.Passing.{trailed-passed, tests-passed}
+use Rattle.sheet.specs.Reading.{sheet_most, has_bars, rows_of, Laid, laid_of, trailed, rows_fit, pointed, unfit, note_fit, sheet_tests, night_tests, Read, refused, night, night_if, read_if, read}
+use Rattle.sheet.specs.Settle.{fresh, found, ended, barred_row, rows_shown, blocked_with, accepted_with, settled_as, Delivery, blocked_as, slip_as, paired_as}
+use Rattle.sheet.proofs.Limits.{sheet_most-small}
+use Rattle.sheet.proofs.Passing.{trailed-passed, tests_passed}
 
 -- ---- what was read
 
 trailed-small : (sheet : List ℕ) → verdicts.Small (trailed sheet)
 trailed-small sheet =
-    then-small _ _
-    (then-small _ _ (then-small _ _ (failsIf-small _ _ _ (lit< tt) (λ e. lit< tt)) (λ e. failsIf-small _ _ _ (lit< tt) (λ e. lit< tt))) (λ e. failsIf-small _ _ _ (lit< tt) (λ e. lit< tt)))
-    (λ e. failsIf-small _ _ _ (lit< tt) (λ e. lit< tt))
+    then_small _ _
+    (then_small _ _ (then_small _ _ (fails_if-small _ _ _ (lit< tt) (λ e. lit< tt)) (λ e. fails_if-small _ _ _ (lit< tt) (λ e. lit< tt))) (λ e. fails_if-small _ _ _ (lit< tt) (λ e. lit< tt)))
+    (λ e. fails_if-small _ _ _ (lit< tt) (λ e. lit< tt))
 
 pointed-small : (sheet : List ℕ) → verdicts.Small (pointed sheet)
-pointed-small sheet = then-small _ _ (failsIf-small _ _ _ (lit< tt) (λ e. lit< tt)) (λ e. failsIf-small _ _ _ (lit< tt) (λ e. lit< tt))
+pointed-small sheet = then_small _ _ (fails_if-small _ _ _ (lit< tt) (λ e. lit< tt)) (λ e. fails_if-small _ _ _ (lit< tt) (λ e. lit< tt))
 
 -- A row count is two bytes, and so is a side.
 abbrev pub Bytes : List ℕ → Type 0
@@ -54,85 +54,85 @@ Bytes sheet = (k : ℕ) → k < length sheet → at sheet k < 256
 
 two_bytes : (sheet : List ℕ) → Bytes sheet → (a : ℕ) → value_of (part a 2 sheet) < 256 ^ 2
 two_bytes sheet bytes a =
-    value-below (part a 2 sheet) 2 (part-short a 2 sheet)
+    value_below (part a 2 sheet) 2 (part-short a 2 sheet)
     (λ i l. rw (part_at a 2 sheet i 0 (omega (arith, part-short a 2 sheet))) (bytes (a + i) (part-inside a 2 sheet i l)))
 
-rows-small : (sheet : List ℕ) → Bytes sheet → verdicts.Small (rowsFit sheet)
-rows-small sheet bytes = then-small _ _ (failsIf-small _ _ _ (lit< tt) (λ e. lit< tt)) (λ e. failsIf-small _ _ _ (lit< tt) (λ f. by (hasRowCount (editionOf sheet))))
+rows-small : (sheet : List ℕ) → Bytes sheet → verdicts.Small (rows_fit sheet)
+rows-small sheet bytes = then_small _ _ (fails_if-small _ _ _ (lit< tt) (λ e. lit< tt)) (λ e. fails_if-small _ _ _ (lit< tt) (λ f. by (has_row_count (edition_of sheet))))
   where
-    by : (t : Bool) → cond t (rowCountOf sheet) (side_of sheet) < 2 ^ 48
+    by : (t : Bool) → cond t (row_count_of sheet) (side_of sheet) < 2 ^ 48
     by true = omega (arith, two_bytes sheet bytes (length sheet - 14))
     by false = omega (arith, two_bytes sheet bytes (length sheet - 8))
 
 -- A position of the note is one of the sheet, which is short.
-note-small : (sheet : List ℕ) → length sheet ≤ sheetMost → verdicts.Small (noteFit sheet)
-note-small sheet short = failsAt-small _ (λ k. k) _ (unfit sheet) (lit< tt) (λ k l. omega (arith, sheetMost-small))
+note_small : (sheet : List ℕ) → length sheet ≤ sheet_most → verdicts.Small (note_fit sheet)
+note_small sheet short = fails_at-small _ (λ k. k) _ (unfit sheet) (lit< tt) (λ k l. omega (arith, sheet_most-small))
 
-tests-small : (room : ℕ) (sheet : List ℕ) → Bytes sheet → verdicts.Small (sheetTests room sheet)
-unfolding sheetTests
-tests-small room sheet bytes =
-    then-small _ _
-    (then-small _ _
-    (then-small _ _ (then-small _ _ (trailed-small sheet) (λ e. rows-small sheet bytes)) (λ e. pointed-small sheet))
-    (λ e. note-small sheet (trailed-passed sheet ((then-iff _ _).0 ((then-iff _ _).0 e).0).0).2))
-    (λ e. failsIf-small _ _ _ (lit< tt) (λ e. lit< tt))
+tests_small : (room : ℕ) (sheet : List ℕ) → Bytes sheet → verdicts.Small (sheet_tests room sheet)
+unfolding sheet_tests
+tests_small room sheet bytes =
+    then_small _ _
+    (then_small _ _
+    (then_small _ _ (then_small _ _ (trailed-small sheet) (λ e. rows-small sheet bytes)) (λ e. pointed-small sheet))
+    (λ e. note_small sheet (trailed-passed sheet ((then_iff _ _).0 ((then_iff _ _).0 e).0).0).2))
+    (λ e. fails_if-small _ _ _ (lit< tt) (λ e. lit< tt))
 
 -- What is known of a night that was read: state and room are large enough, and its costs and bars are within their limits.
 pub record Readable (room : ℕ) (laid : Laid) : Type 0 where
-  pub small : laid.side ≤ sheetSide
+  pub small : laid.side ≤ sheet_side
   pub few : laid.side ≤ 64
-  pub fewer : laid.rowCount ≤ laid.side
-  pub roomy : slipLength laid.edition laid.rowCount laid.side ≤ room
-  pub filled : length laid.costs ≡ laid.rowCount * laid.side
-  pub square : hasRowCount laid.edition ≡ false → laid.rowCount ≡ laid.side
+  pub fewer : laid.row_count ≤ laid.side
+  pub roomy : slip_length laid.edition laid.row_count laid.side ≤ room
+  pub filled : length laid.costs ≡ laid.row_count * laid.side
+  pub square : has_row_count laid.edition ≡ false → laid.row_count ≡ laid.side
   pub rows : length laid.bars ≡ laid.side
-  pub unbarred : hasBars laid.edition ≡ false → laid.bars ≡ replicate laid.side 0
-  pub passes : Passes (nightTests laid)
+  pub unbarred : has_bars laid.edition ≡ false → laid.bars ≡ replicate laid.side 0
+  pub passes : Passes (night_tests laid)
 
 -- A refusal of bytes is told by one number.
 abbrev pub ReadRight : ℕ → List ℕ → Read → Type 0
 ReadRight room sheet (refused refusal) = Bytes sheet → Tellable refusal
 ReadRight room sheet (night laid) = Readable room laid
 
-night-right : (room : ℕ) (sheet : List ℕ) (laid : Laid) (verdict : Verdict) → verdicts.Small verdict → (Passes verdict → Readable room laid) → ReadRight room sheet (nightIf laid verdict)
-night-right room sheet laid Passed h f = f refl
-night-right room sheet laid (Fails refusal) h f = λ bytes. h
+night_right : (room : ℕ) (sheet : List ℕ) (laid : Laid) (verdict : Verdict) → verdicts.Small verdict → (Passes verdict → Readable room laid) → ReadRight room sheet (night_if laid verdict)
+night_right room sheet laid Passed h f = f refl
+night_right room sheet laid (Fails refusal) h f = λ bytes. h
 
 -- A place in the costs or among the rows is small.
-night-small : (laid : Laid) → laid.rowCount ≤ 64 → laid.side ≤ 64 → length laid.costs ≡ laid.rowCount * laid.side → verdicts.Small (nightTests laid)
+night-small : (laid : Laid) → laid.row_count ≤ 64 → laid.side ≤ 64 → length laid.costs ≡ laid.row_count * laid.side → verdicts.Small (night_tests laid)
 night-small laid rows few size =
-    then-small _ _ (failsAt-small _ _ _ _ (lit< tt) (λ k l. omega (arith, size, mul-le-mul rows few))) (λ e. failsAt-small _ _ _ _ (lit< tt) (λ i l. omega (arith, few)))
+    then_small _ _ (fails_at-small _ _ _ _ (lit< tt) (λ k l. omega (arith, size, mul-le-mul rows few))) (λ e. fails_at-small _ _ _ _ (lit< tt) (λ i l. omega (arith, few)))
 
-bars-size : (t : Bool) (n : ℕ) (sheet : List ℕ) → length (cond t (barsAt n sheet) (replicate n 0)) ≡ n
+bars-size : (t : Bool) (n : ℕ) (sheet : List ℕ) → length (cond t (bars_at n sheet) (replicate n 0)) ≡ n
 bars-size true n sheet = length_fields _ _ 8 n sheet
 bars-size false n sheet = length-replicate n 0
 
 pub read_right : (room : ℕ) (sheet : List ℕ) → ReadRight room sheet (read room sheet)
 unfolding read
-read_right room sheet = by (sheetTests room sheet) refl (tests-small room sheet)
+read_right room sheet = by (sheet_tests room sheet) refl (tests_small room sheet)
   where
-    by : (v : Verdict) → sheetTests room sheet ≡ v → (Bytes sheet → verdicts.Small v) → ReadRight room sheet (readIf sheet v)
+    by : (v : Verdict) → sheet_tests room sheet ≡ v → (Bytes sheet → verdicts.Small v) → ReadRight room sheet (read_if sheet v)
     by (Fails refusal) e small = small
     by Passed e small =
-        let p = tests-passed room sheet e in
+        let p = tests_passed room sheet e in
         let m = rows_of sheet in
         let n = side_of sheet in
-        let few : n ≤ 64 = omega (arith, p.counted.small, sheetSide-small) in
-        let size : length (costsAt (distance_of sheet) (m * n) sheet) ≡ m * n = length_fields _ _ 4 (m * n) sheet in
-        night-right room sheet (laid_of sheet) (nightTests (laid_of sheet)) (night-small (laid_of sheet) (omega (arith, p.counted.fewer, few)) few size)
-        (λ passes. record { small = p.counted.small; few = few; fewer = p.counted.fewer; roomy = p.roomy; filled = size; square = λ h. ap (λ (t : Bool). cond t (rowCountOf sheet) n) h; rows = bars-size (hasBars (editionOf sheet)) n sheet; unbarred = λ h. ap (λ (t : Bool). cond t (barsAt n sheet) (replicate n 0)) h; passes = passes })
+        let few : n ≤ 64 = omega (arith, p.counted.small, sheet_side-small) in
+        let size : length (costs_at (distance_of sheet) (m * n) sheet) ≡ m * n = length_fields _ _ 4 (m * n) sheet in
+        night_right room sheet (laid_of sheet) (night_tests (laid_of sheet)) (night-small (laid_of sheet) (omega (arith, p.counted.fewer, few)) few size)
+        (λ passes. record { small = p.counted.small; few = few; fewer = p.counted.fewer; roomy = p.roomy; filled = size; square = λ h. ap (λ (t : Bool). cond t (row_count_of sheet) n) h; rows = bars-size (has_bars (edition_of sheet)) n sheet; unbarred = λ h. ap (λ (t : Bool). cond t (bars_at n sheet) (replicate n 0)) h; passes = passes })
 
 -- ---- what is settled
 
 -- The state's arrays are as long as their types say.
 pub record Sized (state : State) : Type 0 where
   pub cols-size : length state.cols ≡ 64
-  pub row-prices-size : length state.row_prices ≡ 64
-  pub column-prices-size : length state.col_prices ≡ 64
+  pub row_prices_size : length state.row_prices ≡ 64
+  pub column_prices_size : length state.col_prices ≡ 64
 
 -- The first m of what stands at the front, where that is longer.
-front-shorter : {A : Type 0} (m n : ℕ) → m ≤ n → {a : List A} (l : List A) → take n l ≡ a → take m l ≡ take m a
-front-shorter m n h l e = sym (take-take m n l h) ∙ ap (take m) e
+front_shorter : {A : Type 0} (m n : ℕ) → m ≤ n → {a : List A} (l : List A) → take n l ≡ a → take m l ≡ take m a
+front_shorter m n h l e = sym (take-take m n l h) ∙ ap (take m) e
 
 -- What stands at the front of an array of 64.
 front : {A : Type 0} (a d : List A) (n : ℕ) → length d ≡ 64 → length (a ++ drop n d) ≡ 64 → n ≤ 64 → take n (a ++ drop n d) ≡ a
@@ -140,41 +140,41 @@ front a d n e f h = take_at a (drop n d) n (omega (arith, length-append a (drop 
 
 -- What the front desk gets of a sheet that was read as x and settled as s.
 module _ (sheet room : List ℕ) (s : Settled) where
-  reply-is : (x : Read) → s ≡ settledAs x → s.reply ≡ (settledAs x).reply
-  reply-is x e = ap (λ (t : Settled). t.reply) e
+  reply_is : (x : Read) → s ≡ settled_as x → s.reply ≡ (settled_as x).reply
+  reply_is x e = ap (λ (t : Settled). t.reply) e
 
   -- The two ways in which a night ends: with or without rows to show.
-  night-refused : (laid : Laid) (t : Bool) → (refusal : Refusal) → (cond t (blockedWith laid) (acceptedWith laid)).reply ≡ Refused refusal → ⊥
+  night-refused : (laid : Laid) (t : Bool) → (refusal : Refusal) → (cond t (blocked_with laid) (accepted_with laid)).reply ≡ Refused refusal → ⊥
   night-refused laid true refusal v = let z : ◌≡◌ {A = ℕ} 0 1 = cc in absurd (omega arith)
   night-refused laid false refusal v = let z : ◌≡◌ {A = ℕ} 0 1 = cc in absurd (omega arith)
 
-  pub refused-outcome : Bytes sheet → (x : Read) → ReadRight (length room) sheet x → s ≡ settledAs x → (refusal : Refusal) → s.reply ≡ Refused refusal
-      → (Tellable refusal) × (◌≡◌ {A = Delivery} (record { number = code_of refusal; slip = room }) (pairedAs room x))
+  pub refused-outcome : Bytes sheet → (x : Read) → ReadRight (length room) sheet x → s ≡ settled_as x → (refusal : Refusal) → s.reply ≡ Refused refusal
+      → (Tellable refusal) × (◌≡◌ {A = Delivery} (record { number = code_of refusal; slip = room }) (paired_as room x))
   refused-outcome bytes (refused given) right e refusal v =
-      let same : given ≡ refusal = cc (reply-is (refused given) e) in
+      let same : given ≡ refusal = cc (reply_is (refused given) e) in
       (subst Tellable same (right bytes), ap (λ (r : Refusal). record { number = code_of r; slip = room }) (sym same))
-  refused-outcome bytes (night laid) right e refusal v = absurd (night-refused laid (ltb (barredRow laid) laid.side) refusal (sym (reply-is (night laid) e) ∙ v))
+  refused-outcome bytes (night laid) right e refusal v = absurd (night-refused laid (ltb (barred_row laid) laid.side) refusal (sym (reply_is (night laid) e) ∙ v))
 
   -- Rows that are shown.
-  shown_by : (laid : Laid) (t : Bool) (rows : ℕ) → (cond t (blockedWith laid) (acceptedWith laid)).reply ≡ Blocked rows
-      → ◌≡◌ {A = Delivery} (record { number = NoPairing; slip = bytes_of 8 rows ++ drop 8 room }) (cond t (blockedAs room laid) (slipAs room laid))
-  shown_by laid true rows v = let same : rowsShown laid ≡ rows = cc in ap (λ (r : ℕ). record { number = NoPairing; slip = bytes_of 8 r ++ drop 8 room }) (sym same)
+  shown_by : (laid : Laid) (t : Bool) (rows : ℕ) → (cond t (blocked_with laid) (accepted_with laid)).reply ≡ Blocked rows
+      → ◌≡◌ {A = Delivery} (record { number = NoPairing; slip = bytes_of 8 rows ++ drop 8 room }) (cond t (blocked_as room laid) (slip_as room laid))
+  shown_by laid true rows v = let same : rows_shown laid ≡ rows = cc in ap (λ (r : ℕ). record { number = NoPairing; slip = bytes_of 8 r ++ drop 8 room }) (sym same)
   shown_by laid false rows v = let z : ◌≡◌ {A = ℕ} 0 1 = cc in absurd (omega arith)
 
-  pub blocked-outcome : (x : Read) → ReadRight (length room) sheet x → s ≡ settledAs x → (rows : ℕ) → s.reply ≡ Blocked rows
-      → (8 ≤ length room) × (◌≡◌ {A = Delivery} (record { number = NoPairing; slip = bytes_of 8 rows ++ drop 8 room }) (pairedAs room x))
-  blocked-outcome (refused given) right e rows v = let z : ◌≡◌ {A = ℕ} 0 1 = cc (reply-is (refused given) e) in absurd (omega arith)
-  blocked-outcome (night laid) right e rows v =
-      (omega (arith, right.roomy), shown_by laid (ltb (barredRow laid) laid.side) rows (sym (reply-is (night laid) e) ∙ v))
+  pub blocked_outcome : (x : Read) → ReadRight (length room) sheet x → s ≡ settled_as x → (rows : ℕ) → s.reply ≡ Blocked rows
+      → (8 ≤ length room) × (◌≡◌ {A = Delivery} (record { number = NoPairing; slip = bytes_of 8 rows ++ drop 8 room }) (paired_as room x))
+  blocked_outcome (refused given) right e rows v = let z : ◌≡◌ {A = ℕ} 0 1 = cc (reply_is (refused given) e) in absurd (omega arith)
+  blocked_outcome (night laid) right e rows v =
+      (omega (arith, right.roomy), shown_by laid (ltb (barred_row laid) laid.side) rows (sym (reply_is (night laid) e) ∙ v))
 
   -- The slip that is written from the front of the arrays.
   abbrev written : ℕ → ℕ → ℕ → ℤ → State → List ℕ
   written edition m n total state =
-      slipOf edition m n (take m state.cols) (take m state.row_prices) (take n state.col_prices) total ++ drop (slipLength edition m n) room
+      slip_of edition m n (take m state.cols) (take m state.row_prices) (take n state.col_prices) total ++ drop (slip_length edition m n) room
 
-  paired_by : (laid : Laid) (t : Bool) → Readable (length room) laid → s ≡ cond t (blockedWith laid) (acceptedWith laid) → (edition m n : ℕ) (total : ℤ)
+  paired_by : (laid : Laid) (t : Bool) → Readable (length room) laid → s ≡ cond t (blocked_with laid) (accepted_with laid) → (edition m n : ℕ) (total : ℤ)
       → s.reply ≡ Accepted edition m n total → Sized s.state
-      → (edition ≡ laid.edition) × (m ≡ laid.rowCount) × (n ≡ laid.side) × (◌≡◌ {A = Delivery} (record { number = 0; slip = written edition m n total s.state }) (cond t (blockedAs room laid) (slipAs room laid)))
+      → (edition ≡ laid.edition) × (m ≡ laid.row_count) × (n ≡ laid.side) × (◌≡◌ {A = Delivery} (record { number = 0; slip = written edition m n total s.state }) (cond t (blocked_as room laid) (slip_as room laid)))
   paired_by laid true right e edition m n total v sized = let z : ◌≡◌ {A = ℕ} 0 1 = cc (ap (λ (t : Settled). t.reply) e) in absurd (omega arith)
   paired_by laid false right e edition m n total v sized =
       let a = found laid in
@@ -182,18 +182,18 @@ module _ (sheet room : List ℕ) (s : Settled) where
       let r = ap (λ (t : Settled). t.reply) e in
       let d = ap (λ (t : Settled). t.state) e in
       let same-edition : edition ≡ laid.edition = cc r in
-      let same_rows : m ≡ laid.rowCount = cc r in
+      let same_rows : m ≡ laid.row_count = cc r in
       let same-side : n ≡ side = cc r in
       let sum : total ≡ a.total = cc r in
       let cols = front a.cols fresh.cols side refl (sym (ap (λ (t : State). length t.cols) d) ∙ sized.cols-size) right.few in
-      let rows = front a.rowPrices fresh.row_prices side refl (sym (ap (λ (t : State). length t.row_prices) d) ∙ sized.row-prices-size) right.few in
-      let columns = front a.columnPrices fresh.col_prices side refl (sym (ap (λ (t : State). length t.col_prices) d) ∙ sized.column-prices-size) right.few in
-      (same-edition, same_rows, same-side, rw (same-edition, same_rows, same-side, sum, d, front-shorter laid.rowCount side right.fewer (ended laid).cols cols, front-shorter laid.rowCount side right.fewer (ended laid).row_prices rows, columns))
+      let rows = front a.prices_of_rows fresh.row_prices side refl (sym (ap (λ (t : State). length t.row_prices) d) ∙ sized.row_prices_size) right.few in
+      let columns = front a.prices_of_columns fresh.col_prices side refl (sym (ap (λ (t : State). length t.col_prices) d) ∙ sized.column_prices_size) right.few in
+      (same-edition, same_rows, same-side, rw (same-edition, same_rows, same-side, sum, d, front_shorter laid.row_count side right.fewer (ended laid).cols cols, front_shorter laid.row_count side right.fewer (ended laid).row_prices rows, columns))
 
-  pub paired-outcome : (x : Read) → ReadRight (length room) sheet x → s ≡ settledAs x → (edition m n : ℕ) (total : ℤ) → s.reply ≡ Accepted edition m n total → Sized s.state
-      → (m ≤ n) × (n ≤ 64) × (slipLength edition m n ≤ length room) × (◌≡◌ {A = Delivery} (record { number = 0; slip = written edition m n total s.state }) (pairedAs room x))
-  paired-outcome (refused given) right e edition m n total v sized = let z : ◌≡◌ {A = ℕ} 0 1 = cc (reply-is (refused given) e) in absurd (omega arith)
+  pub paired-outcome : (x : Read) → ReadRight (length room) sheet x → s ≡ settled_as x → (edition m n : ℕ) (total : ℤ) → s.reply ≡ Accepted edition m n total → Sized s.state
+      → (m ≤ n) × (n ≤ 64) × (slip_length edition m n ≤ length room) × (◌≡◌ {A = Delivery} (record { number = 0; slip = written edition m n total s.state }) (paired_as room x))
+  paired-outcome (refused given) right e edition m n total v sized = let z : ◌≡◌ {A = ℕ} 0 1 = cc (reply_is (refused given) e) in absurd (omega arith)
   paired-outcome (night laid) right e edition m n total v sized =
-      let p = paired_by laid (ltb (barredRow laid) laid.side) right e edition m n total v sized in
-      let room-due : slipLength edition m n ≡ slipLength laid.edition laid.rowCount laid.side = rw (p.0, p.1, p.2) in
+      let p = paired_by laid (ltb (barred_row laid) laid.side) right e edition m n total v sized in
+      let room-due : slip_length edition m n ≡ slip_length laid.edition laid.row_count laid.side = rw (p.0, p.1, p.2) in
       (omega (arith, p.1, p.2, right.fewer), omega (arith, p.2, right.few), omega (arith, room-due, right.roomy), p.3)

@@ -6,12 +6,12 @@ use Prim.Native.Nat.{ℕ, ◌+◌, ◌*◌, ◌-◌, ◌≤◌}
 use native.Mathlib.Omega.{arith}
 use borrow.Author.Tests.{ltb-false, eqb-true, not-false}
 use lib.ListN.{length}
-use Rattle.layout.specs.Trailers.{distance_of, side_of, editionOf, unmarked}
-use Rattle.layout.specs.Slips.{slipLength}
-use Rattle.matrix.specs.Limits.{sheetSide}
+use Rattle.layout.specs.Trailers.{distance_of, side_of, edition_of, unmarked}
+use Rattle.layout.specs.Slips.{slip_length}
+use Rattle.matrix.specs.Limits.{sheet_side}
 use Rattle.matrix.specs.Verdicts.{Passes, ◌then◌}
-use Rattle.matrix.proofs.Verdicts.{then-iff, failsIf-iff}
-use Rattle.sheet.specs.Reading.{sheetMost, rows_of, distanceDue, laidAt, laid_of, trailed, rowsFit, pointed, sheetTests}
+use Rattle.matrix.proofs.Verdicts.{then_iff, fails_if_iff}
+use Rattle.sheet.specs.Reading.{sheet_most, rows_of, distance_due, laid_at, laid_of, trailed, rows_fit, pointed, sheet_tests}
 use Rattle.sheet.specs.Asked.{Ended, Counted}
 
 -- A sheet that is not refused by 11 has a trailer.
@@ -23,35 +23,35 @@ has-trailer mark sheet e = ltb-false (length sheet) 12 (left _ _ e)
     left false b f = refl
 
 -- 17, 11, 12, 13.
-pub trailed-passed : (sheet : List ℕ) → Passes (trailed sheet) → (12 ≤ length sheet) × (side_of sheet ≤ sheetSide) × (length sheet ≤ sheetMost)
+pub trailed-passed : (sheet : List ℕ) → Passes (trailed sheet) → (12 ≤ length sheet) × (side_of sheet ≤ sheet_side) × (length sheet ≤ sheet_most)
 trailed-passed sheet p =
-    let t13 = (then-iff _ _).0 p in
-    let t12 = (then-iff _ _).0 t13.0 in
-    let t11 = (then-iff _ _).0 t12.0 in (
-      has-trailer _ sheet ((failsIf-iff _ _ _).0 t11.1),
-      ltb-false sheetSide (side_of sheet) ((failsIf-iff _ _ _).0 t13.1),
-      ltb-false sheetMost (length sheet) ((failsIf-iff _ _ _).0 t11.0),
+    let t13 = (then_iff _ _).0 p in
+    let t12 = (then_iff _ _).0 t13.0 in
+    let t11 = (then_iff _ _).0 t12.0 in (
+      has-trailer _ sheet ((fails_if_iff _ _ _).0 t11.1),
+      ltb-false sheet_side (side_of sheet) ((fails_if_iff _ _ _).0 t13.1),
+      ltb-false sheet_most (length sheet) ((fails_if_iff _ _ _).0 t11.0),
     )
 
 -- 23.
-pub rows-passed : (sheet : List ℕ) → Passes (trailed sheet then rowsFit sheet) → Counted sheet
+pub rows-passed : (sheet : List ℕ) → Passes (trailed sheet then rows_fit sheet) → Counted sheet
 rows-passed sheet p =
-    let t23 = (then-iff _ _).0 p in
+    let t23 = (then_iff _ _).0 p in
     let ends = trailed-passed sheet t23.0 in
-    let counts = (then-iff _ _).0 t23.1 in
+    let counts = (then_iff _ _).0 t23.1 in
     record {
-      ended = record { long = ends.0; counted = (failsIf-iff _ _ _).0 counts.0 };
+      ended = record { long = ends.0; counted = (fails_if_iff _ _ _).0 counts.0 };
       small = ends.1;
-      fewer = ltb-false (side_of sheet) (rows_of sheet) ((failsIf-iff _ _ _).0 counts.1);
+      fewer = ltb-false (side_of sheet) (rows_of sheet) ((fails_if_iff _ _ _).0 counts.1);
     }
 
 -- 14, 15.
 pub pointed-passed : (sheet : List ℕ) → 12 ≤ length sheet → Passes (pointed sheet)
-    → (distance_of sheet ≡ distanceDue (editionOf sheet) (rows_of sheet) (side_of sheet)) × (distance_of sheet + 12 ≤ length sheet)
+    → (distance_of sheet ≡ distance_due (edition_of sheet) (rows_of sheet) (side_of sheet)) × (distance_of sheet + 12 ≤ length sheet)
 pointed-passed sheet long p =
-    let t15 = (then-iff _ _).0 p in (
-      eqb-true _ _ (not-false _ ((failsIf-iff _ _ _).0 t15.0)),
-      omega (arith, ltb-false (length sheet - 12) (distance_of sheet) ((failsIf-iff _ _ _).0 t15.1)),
+    let t15 = (then_iff _ _).0 p in (
+      eqb-true _ _ (not-false _ ((fails_if_iff _ _ _).0 t15.0)),
+      omega (arith, ltb-false (length sheet - 12) (distance_of sheet) ((fails_if_iff _ _ _).0 t15.1)),
     )
 
 module _ (room : ℕ) (sheet : List ℕ) where
@@ -63,25 +63,25 @@ module _ (room : ℕ) (sheet : List ℕ) where
 
   pub record SheetPassed : Type 0 where
     pub counted : Counted sheet
-    pub distance : distance_of sheet ≡ distanceDue (editionOf sheet) m n
-    pub inside : distanceDue (editionOf sheet) m n + 12 ≤ length sheet
-    pub roomy : slipLength (editionOf sheet) m n ≤ room
+    pub distance : distance_of sheet ≡ distance_due (edition_of sheet) m n
+    pub inside : distance_due (edition_of sheet) m n + 12 ≤ length sheet
+    pub roomy : slip_length (edition_of sheet) m n ≤ room
 
-  pub tests-passed : Passes (sheetTests room sheet) → SheetPassed
-  unfolding sheetTests
-  tests-passed p =
-      let t16 = (then-iff _ _).0 p in
-      let t21 = (then-iff _ _).0 t16.0 in
-      let t15 = (then-iff _ _).0 t21.0 in
+  pub tests_passed : Passes (sheet_tests room sheet) → SheetPassed
+  unfolding sheet_tests
+  tests_passed p =
+      let t16 = (then_iff _ _).0 p in
+      let t21 = (then_iff _ _).0 t16.0 in
+      let t15 = (then_iff _ _).0 t21.0 in
       let counts = rows-passed sheet t15.0 in
       let points = pointed-passed sheet counts.ended.long t15.1 in
       record {
         counted = counts;
         distance = points.0;
         inside = omega (arith, points.0, points.1);
-        roomy = ltb-false room (slipLength (editionOf sheet) m n) ((failsIf-iff _ _ _).0 t16.1);
+        roomy = ltb-false room (slip_length (edition_of sheet) m n) ((fails_if_iff _ _ _).0 t16.1);
       }
 
   -- The night lies where edition, rows and side say.
-  pub laid-found : SheetPassed → laid_of sheet ≡ laidAt (editionOf sheet) m n (distanceDue (editionOf sheet) m n) sheet
-  laid-found p = ap (λ (d : ℕ). laidAt (editionOf sheet) m n d sheet) p.distance
+  pub laid_found : SheetPassed → laid_of sheet ≡ laid_at (edition_of sheet) m n (distance_due (edition_of sheet) m n) sheet
+  laid_found p = ap (λ (d : ℕ). laid_at (edition_of sheet) m n d sheet) p.distance

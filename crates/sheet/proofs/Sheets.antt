@@ -11,31 +11,31 @@ use lib.IntN.{ℤ, pos, negsuc}
 use lib.ListN.{length, replicate, get_or-append}
 use lib.Signed.{mag}
 use Rattle.ints.specs.Parts.{Within}
-use Rattle.ints.proofs.Ranges.{within-mono}
+use Rattle.ints.proofs.Ranges.{within_mono}
 use Rattle.lists.specs.Permutations.{at}
-use Rattle.layout.specs.Values.{bytes_of, value_of, signedBytes}
-use Rattle.layout.specs.Trailers.{sheetMark, trailer, hasRowCount, rowCountOf, distance_of, side_of, editionOf, mark_of}
-use Rattle.layout.specs.Sheets.{sheetWith, costsAt, barsAt}
-use Rattle.layout.specs.Slips.{rowCount, rowCountLength, slipLength}
-use Rattle.layout.proofs.Values.{length-bytesOf}
-use Rattle.layout.proofs.Fields.{length-flatMap}
-use Rattle.layout.proofs.Slips.{length-rowCount}
-use Rattle.layout.proofs.Sheets.{sheet-length, sheet-distance, sheet-side, sheet-edition, sheet-mark, sheet-costs, sheet-row-count, sheet-bars}
-use Rattle.assignment.specs.Pairings.{signedAt}
-use Rattle.bars.specs.Barred.{bitsAbove}
-use Rattle.matrix.specs.Limits.{sheetSide, K}
+use Rattle.layout.specs.Values.{bytes_of, value_of, signed_bytes}
+use Rattle.layout.specs.Trailers.{sheet_mark, trailer, has_row_count, row_count_of, distance_of, side_of, edition_of, mark_of}
+use Rattle.layout.specs.Sheets.{sheet_with, costs_at, bars_at}
+use Rattle.layout.specs.Slips.{row_count, row_count_length, slip_length}
+use Rattle.layout.proofs.Values.{length-bytes_of}
+use Rattle.layout.proofs.Fields.{length_flat_map}
+use Rattle.layout.proofs.Slips.{length-row_count}
+use Rattle.layout.proofs.Sheets.{sheet-length, sheet_distance, sheet-side, sheet-edition, sheet-mark, sheet-costs, sheet_row_count, sheet-bars}
+use Rattle.assignment.specs.Pairings.{signed_at}
+use Rattle.bars.specs.Barred.{bits_above}
+use Rattle.matrix.specs.Limits.{sheet_side, K}
 use Rattle.matrix.specs.Verdicts.{Passes}
-use Rattle.matrix.proofs.SmallLimits.{sheetSide-small, K-small}
-use Rattle.matrix.proofs.Verdicts.{then-iff, failsIf-iff, failsAt-iff}
-use Rattle.matrix.proofs.Passed.{costs-in}
-use Rattle.sheet.specs.Reading.{sheetMost, noteMost, hasBars, unknown, rows_of, distanceDue, costMost, Laid, laidAt, laid_of, barsIn, noteLength, unprintable, unfit, trailed, rowsFit, pointed, noteFit, roomLong, sheetTests, nightTests, nightIf, readIf, nightTested, night, read, Printable, Layable}
-use Rattle.sheet.proofs.Limits.{sheetMost-large}
-use Rattle.sheet.proofs.Editions.{costMost-within, due-short, barred-uncounted, counted-unbarred}
+use Rattle.matrix.proofs.SmallLimits.{sheet_side-small, K-small}
+use Rattle.matrix.proofs.Verdicts.{then_iff, fails_if_iff, fails_at_iff}
+use Rattle.matrix.proofs.Passed.{costs_in_lem}
+use Rattle.sheet.specs.Reading.{sheet_most, note_most, has_bars, unknown, rows_of, distance_due, cost_most, Laid, laid_at, laid_of, bars_in, note_length, unprintable, unfit, trailed, rows_fit, pointed, note_fit, room_long, sheet_tests, night_tests, night_if, read_if, night_tested, night, read, Printable, Layable}
+use Rattle.sheet.proofs.Limits.{sheet_most_large}
+use Rattle.sheet.proofs.Editions.{cost_most-within, due_short, barred_uncounted, counted-unbarred}
 
 -- A cost within K fits four bytes.
-fits-four : (z : ℤ) → Within K z → mag z < 256 ^ 4 / 2
-fits-four (pos m) w = omega (arith, K-small)
-fits-four (negsuc m) w = omega (arith, K-small)
+fits_four : (z : ℤ) → Within K z → mag z < 256 ^ 4 / 2
+fits_four (pos m) w = omega (arith, K-small)
+fits_four (negsuc m) w = omega (arith, K-small)
 
 -- A known edition is a small number, and bits below those of a side up to 64 fit eight bytes.
 known_small : (edition : ℕ) → unknown edition ≡ false → edition < 256 ^ 2
@@ -51,26 +51,26 @@ pub below_word : (n : ℕ) → n ≤ 64 → (bits : ℕ) → bits < 2 ^ n → bi
 below_word n h bits l = lt_of_lt_of_le l (pow-le-pow_right (zero-lt-suc 1) h)
 
 -- What an edition puts between costs and trailer: bars, or a row count.
-abbrev pub moreOf : Bool → ℕ → ℕ → List ℕ → List ℕ
-moreOf barred edition m bars = cond barred (flat_map (bytes_of 8) bars) (rowCount edition m)
+abbrev pub more_of : Bool → ℕ → ℕ → List ℕ → List ℕ
+more_of barred edition m bars = cond barred (flat_map (bytes_of 8) bars) (row_count edition m)
 
-more-length : (edition m n : ℕ) (bars : List ℕ) → length bars ≡ n → length (moreOf (hasBars edition) edition m bars) ≡ cond (hasBars edition) (8 * n) 0 + rowCountLength edition
-more-length edition m n bars e = by (hasBars edition) refl
+more_length : (edition m n : ℕ) (bars : List ℕ) → length bars ≡ n → length (more_of (has_bars edition) edition m bars) ≡ cond (has_bars edition) (8 * n) 0 + row_count_length edition
+more_length edition m n bars e = by (has_bars edition) refl
   where
-    no-count : hasBars edition ≡ true → rowCountLength edition ≡ 0
-    no-count h = ap (λ (t : Bool). cond t 2 0) (barred-uncounted edition h)
+    no_count : has_bars edition ≡ true → row_count_length edition ≡ 0
+    no_count h = ap (λ (t : Bool). cond t 2 0) (barred_uncounted edition h)
 
-    by : (t : Bool) → hasBars edition ≡ t → length (moreOf t edition m bars) ≡ cond t (8 * n) 0 + rowCountLength edition
-    by true h = omega (arith, e, length-flatMap (bytes_of 8) 8 (length-bytesOf 8) bars, no-count h)
-    by false h = length-rowCount edition m ∙ omega arith
+    by : (t : Bool) → has_bars edition ≡ t → length (more_of t edition m bars) ≡ cond t (8 * n) 0 + row_count_length edition
+    by true h = omega (arith, e, length_flat_map (bytes_of 8) 8 (length-bytes_of 8) bars, no_count h)
+    by false h = length-row_count edition m ∙ omega arith
 
 -- A sheet of a night, by its edition.
-abbrev pub sheetLaid : List ℕ → Laid → List ℕ
-sheetLaid note laid = sheetWith laid.edition note laid.side laid.costs (moreOf (hasBars laid.edition) laid.edition laid.rowCount laid.bars)
+abbrev pub sheet_laid : List ℕ → Laid → List ℕ
+sheet_laid note laid = sheet_with laid.edition note laid.side laid.costs (more_of (has_bars laid.edition) laid.edition laid.row_count laid.bars)
 
-module _ (note : List ℕ) (laid : Laid) (room : ℕ) (printable : Printable note) (g : Layable laid) (roomy : slipLength laid.edition laid.rowCount laid.side ≤ room) where
+module _ (note : List ℕ) (laid : Laid) (room : ℕ) (printable : Printable note) (g : Layable laid) (roomy : slip_length laid.edition laid.row_count laid.side ≤ room) where
   abbrev m : ℕ
-  m = laid.rowCount
+  m = laid.row_count
 
   abbrev n : ℕ
   n = laid.side
@@ -82,119 +82,119 @@ module _ (note : List ℕ) (laid : Laid) (room : ℕ) (printable : Printable not
   costs = laid.costs
 
   abbrev more : List ℕ
-  more = moreOf (hasBars edition) edition m laid.bars
+  more = more_of (has_bars edition) edition m laid.bars
 
   abbrev sheet : List ℕ
-  sheet = sheetLaid note laid
+  sheet = sheet_laid note laid
 
   few : n ≤ 64
-  few = omega (arith, g.small, sheetSide-small)
+  few = omega (arith, g.small, sheet_side-small)
 
   edition-small : edition < 256 ^ 2
   edition-small = known_small edition g.known
 
-  due : 4 * length costs + length more ≡ distanceDue edition m n
-  due = omega (arith, ap (λ (c : ℕ). 4 * c) g.filled, more-length edition m n laid.bars g.rows)
+  due : 4 * length costs + length more ≡ distance_due edition m n
+  due = omega (arith, ap (λ (c : ℕ). 4 * c) g.filled, more_length edition m n laid.bars g.rows)
 
-  long : length sheet ≡ length note + distanceDue edition m n + 12
+  long : length sheet ≡ length note + distance_due edition m n + 12
   long = omega (arith, sheet-length edition note n costs more, due)
 
   side-read : side_of sheet ≡ n
   side-read = sheet-side edition note n costs more (omega (arith, few))
 
-  edition-read : editionOf sheet ≡ edition
+  edition-read : edition_of sheet ≡ edition
   edition-read = sheet-edition edition note n costs more edition-small
 
-  distance_read : distance_of sheet ≡ distanceDue edition m n
-  distance_read = sheet-distance edition note n costs more (omega (arith, due, due-short edition m n g.fewer few)) ∙ due
+  distance_read : distance_of sheet ≡ distance_due edition m n
+  distance_read = sheet_distance edition note n costs more (omega (arith, due, due_short edition m n g.fewer few)) ∙ due
 
   -- Where the edition has a row count, that is what stands before the trailer.
-  counted-more : hasRowCount edition ≡ true → more ≡ bytes_of 2 m
-  counted-more h =
+  counted_more : has_row_count edition ≡ true → more ≡ bytes_of 2 m
+  counted_more h =
       ap₂ (λ (t u : Bool). cond t (flat_map (bytes_of 8) laid.bars) (cond u (bytes_of 2 m) [])) (counted-unbarred edition h) h
 
   rows-read : rows_of sheet ≡ m
-  rows-read = ap (λ (d : ℕ). cond (hasRowCount d) (rowCountOf sheet) (side_of sheet)) edition-read ∙ by (hasRowCount edition) refl
+  rows-read = ap (λ (d : ℕ). cond (has_row_count d) (row_count_of sheet) (side_of sheet)) edition-read ∙ by (has_row_count edition) refl
     where
-      by : (t : Bool) → hasRowCount edition ≡ t → cond t (rowCountOf sheet) (side_of sheet) ≡ m
-      by true h = ap (λ (l : List ℕ). rowCountOf (sheetWith edition note n costs l)) (counted-more h) ∙ sheet-row-count edition note n costs m (omega (arith, g.fewer, few))
+      by : (t : Bool) → has_row_count edition ≡ t → cond t (row_count_of sheet) (side_of sheet) ≡ m
+      by true h = ap (λ (l : List ℕ). row_count_of (sheet_with edition note n costs l)) (counted_more h) ∙ sheet_row_count edition note n costs m (omega (arith, g.fewer, few))
       by false h = side-read ∙ sym (g.square h)
 
-  costs-read : costsAt (distance_of sheet) (rows_of sheet * side_of sheet) sheet ≡ costs
+  costs-read : costs_at (distance_of sheet) (rows_of sheet * side_of sheet) sheet ≡ costs
   costs-read =
       let count : rows_of sheet * side_of sheet ≡ length costs = ap₂ ◌*◌ rows-read side-read ∙ sym g.filled in
-      ap₂ (λ (far many : ℕ). costsAt far many sheet) (distance_read ∙ sym due) count
-      ∙ sheet-costs edition note n costs more (λ k l. fits-four (signedAt costs k) (within-mono (costMost-within edition) (g.inside k (omega (arith, g.filled)))))
+      ap₂ (λ (far many : ℕ). costs_at far many sheet) (distance_read ∙ sym due) count
+      ∙ sheet-costs edition note n costs more (λ k l. fits_four (signed_at costs k) (within_mono (cost_most-within edition) (g.inside k (omega (arith, g.filled)))))
 
-  bars-of : (t : Bool) → hasBars edition ≡ t → barsIn edition n (sheetWith edition note n costs (moreOf t edition m laid.bars)) ≡ laid.bars
-  bars-of true e =
-      let whole = sheetWith edition note n costs (flat_map (bytes_of 8) laid.bars) in
-      ap (λ (t : Bool). cond t (barsAt n whole) (replicate n 0)) e ∙ ap (λ (m : ℕ). barsAt m whole) (sym g.rows)
+  bars_of : (t : Bool) → has_bars edition ≡ t → bars_in edition n (sheet_with edition note n costs (more_of t edition m laid.bars)) ≡ laid.bars
+  bars_of true e =
+      let whole = sheet_with edition note n costs (flat_map (bytes_of 8) laid.bars) in
+      ap (λ (t : Bool). cond t (bars_at n whole) (replicate n 0)) e ∙ ap (λ (m : ℕ). bars_at m whole) (sym g.rows)
       ∙ sheet-bars edition note n costs laid.bars (λ i l. below_word n few (at laid.bars i) (g.clear i (omega (arith, g.rows))))
-  bars-of false e =
-      ap (λ (t : Bool). cond t (barsAt n (sheetWith edition note n costs (rowCount edition m))) (replicate n 0)) e ∙ sym (g.unbarred e)
+  bars_of false e =
+      ap (λ (t : Bool). cond t (bars_at n (sheet_with edition note n costs (row_count edition m))) (replicate n 0)) e ∙ sym (g.unbarred e)
 
-  bars-read : barsIn (editionOf sheet) (side_of sheet) sheet ≡ laid.bars
-  bars-read = ap₂ (λ (d m : ℕ). barsIn d m sheet) edition-read side-read ∙ bars-of (hasBars edition) refl
+  bars-read : bars_in (edition_of sheet) (side_of sheet) sheet ≡ laid.bars
+  bars-read = ap₂ (λ (d m : ℕ). bars_in d m sheet) edition-read side-read ∙ bars_of (has_bars edition) refl
 
-  laid-read : laid_of sheet ≡ laid
-  laid-read =
-      ap₂ (λ (d k : ℕ). record { edition = d; rowCount = rows_of sheet; side = k; costs = costsAt (distance_of sheet) (rows_of sheet * side_of sheet) sheet; bars = barsIn (editionOf sheet) (side_of sheet) sheet }) edition-read side-read
-      ∙ ap (λ (k : ℕ). record { edition = edition; rowCount = k; side = n; costs = costsAt (distance_of sheet) (rows_of sheet * side_of sheet) sheet; bars = barsIn (editionOf sheet) (side_of sheet) sheet }) rows-read
-      ∙ ap₂ (λ (c : List ℤ) (b : List ℕ). record { edition = edition; rowCount = m; side = n; costs = c; bars = b }) costs-read bars-read
+  laid_read : laid_of sheet ≡ laid
+  laid_read =
+      ap₂ (λ (d k : ℕ). record { edition = d; row_count = rows_of sheet; side = k; costs = costs_at (distance_of sheet) (rows_of sheet * side_of sheet) sheet; bars = bars_in (edition_of sheet) (side_of sheet) sheet }) edition-read side-read
+      ∙ ap (λ (k : ℕ). record { edition = edition; row_count = k; side = n; costs = costs_at (distance_of sheet) (rows_of sheet * side_of sheet) sheet; bars = bars_in (edition_of sheet) (side_of sheet) sheet }) rows-read
+      ∙ ap₂ (λ (c : List ℤ) (b : List ℕ). record { edition = edition; row_count = m; side = n; costs = c; bars = b }) costs-read bars-read
 
   trailer-passed : Passes (trailed sheet)
   trailer-passed =
-      let due-most = due-short edition m n g.fewer few in
-      let short : length sheet ≤ sheetMost = omega (arith, long, due-most, printable.short, sheetMost-large) in
-      let t17 = (failsIf-iff _ _ _).1 (le-ltb sheetMost (length sheet) short) in
-      let t11 = (then-iff _ _).1 (t17, (failsIf-iff _ _ _).1 (ap₂ ◌||◌ (le-ltb (length sheet) 12 (omega (arith, long))) (ap not (eq-eqb (mark_of sheet) (value_of sheetMark) (sheet-mark edition note n costs more))))) in
-      let t12 = (then-iff _ _).1 (t11, (failsIf-iff _ _ _).1 (ap unknown edition-read ∙ g.known)) in
-      (then-iff _ _).1 (t12, (failsIf-iff _ _ _).1 (le-ltb sheetSide (side_of sheet) (omega (arith, g.small, side-read))))
+      let due-most = due_short edition m n g.fewer few in
+      let short : length sheet ≤ sheet_most = omega (arith, long, due-most, printable.short, sheet_most_large) in
+      let t17 = (fails_if_iff _ _ _).1 (le-ltb sheet_most (length sheet) short) in
+      let t11 = (then_iff _ _).1 (t17, (fails_if_iff _ _ _).1 (ap₂ ◌||◌ (le-ltb (length sheet) 12 (omega (arith, long))) (ap not (eq-eqb (mark_of sheet) (value_of sheet_mark) (sheet-mark edition note n costs more))))) in
+      let t12 = (then_iff _ _).1 (t11, (fails_if_iff _ _ _).1 (ap unknown edition-read ∙ g.known)) in
+      (then_iff _ _).1 (t12, (fails_if_iff _ _ _).1 (le-ltb sheet_side (side_of sheet) (omega (arith, g.small, side-read))))
 
-  rows-passed : Passes (rowsFit sheet)
-  rows-passed = (then-iff _ _).1 (
-    (failsIf-iff _ _ _).1 (ap (λ (d : ℕ). hasRowCount d && ltb (length sheet) 14) edition-read ∙ by (hasRowCount edition) refl),
-    (failsIf-iff _ _ _).1 (le-ltb (side_of sheet) (rows_of sheet) (omega (arith, rows-read, side-read, g.fewer))),
+  rows-passed : Passes (rows_fit sheet)
+  rows-passed = (then_iff _ _).1 (
+    (fails_if_iff _ _ _).1 (ap (λ (d : ℕ). has_row_count d && ltb (length sheet) 14) edition-read ∙ by (has_row_count edition) refl),
+    (fails_if_iff _ _ _).1 (le-ltb (side_of sheet) (rows_of sheet) (omega (arith, rows-read, side-read, g.fewer))),
   )
     where
-      by : (t : Bool) → hasRowCount edition ≡ t → (t && ltb (length sheet) 14) ≡ false
-      by true h = let two : rowCountLength edition ≡ 2 = ap (λ (t : Bool). cond t 2 0) h in le-ltb (length sheet) 14 (omega (arith, long, two))
+      by : (t : Bool) → has_row_count edition ≡ t → (t && ltb (length sheet) 14) ≡ false
+      by true h = let two : row_count_length edition ≡ 2 = ap (λ (t : Bool). cond t 2 0) h in le-ltb (length sheet) 14 (omega (arith, long, two))
       by false h = refl
 
-  distance-passed : Passes (pointed sheet)
-  distance-passed =
-      let t14 = (failsIf-iff _ _ _).1 (ap not (eq-eqb (distance_of sheet) (distanceDue (editionOf sheet) (rows_of sheet) (side_of sheet)) (distance_read ∙ ap₂ (λ (d k : ℕ). distanceDue d k n) (sym edition-read) (sym rows-read) ∙ ap (distanceDue (editionOf sheet) (rows_of sheet)) (sym side-read)))) in
-      (then-iff _ _).1 (t14, (failsIf-iff _ _ _).1 (le-ltb (length sheet - 12) (distance_of sheet) (omega (arith, long, distance_read))))
+  distance_passed : Passes (pointed sheet)
+  distance_passed =
+      let t14 = (fails_if_iff _ _ _).1 (ap not (eq-eqb (distance_of sheet) (distance_due (edition_of sheet) (rows_of sheet) (side_of sheet)) (distance_read ∙ ap₂ (λ (d k : ℕ). distance_due d k n) (sym edition-read) (sym rows-read) ∙ ap (distance_due (edition_of sheet) (rows_of sheet)) (sym side-read)))) in
+      (then_iff _ _).1 (t14, (fails_if_iff _ _ _).1 (le-ltb (length sheet - 12) (distance_of sheet) (omega (arith, long, distance_read))))
 
-  slip-read : slipLength (editionOf sheet) (rows_of sheet) (side_of sheet) ≡ slipLength edition m n
-  slip-read = ap₂ (λ (d k : ℕ). slipLength d k (side_of sheet)) edition-read rows-read ∙ ap (slipLength edition m) side-read
+  slip-read : slip_length (edition_of sheet) (rows_of sheet) (side_of sheet) ≡ slip_length edition m n
+  slip-read = ap₂ (λ (d k : ℕ). slip_length d k (side_of sheet)) edition-read rows-read ∙ ap (slip_length edition m) side-read
 
   -- The note is read at the sheet's front.
-  note-read : noteLength sheet ≡ length note
-  note-read = omega (arith, long, distance_read)
+  note_read : note_length sheet ≡ length note
+  note_read = omega (arith, long, distance_read)
 
-  note-passed : Passes (noteFit sheet)
-  note-passed = (failsAt-iff _ (λ k. k) (noteLength sheet) (unfit sheet)).1
+  note_passed : Passes (note_fit sheet)
+  note_passed = (fails_at_iff _ (λ k. k) (note_length sheet) (unfit sheet)).1
       (λ k l.
-      let inside : k < length note = omega (arith, note-read) in
-      let byte : at sheet k ≡ at note k = get_or-append note (flat_map (signedBytes 4) costs ++ (more ++ trailer (4 * length costs + length more) n edition sheetMark)) 0 k inside in
-      ap₂ ◌||◌ (lt-leb noteMost k (omega (arith, printable.short))) (ap unprintable byte ∙ printable.printed k inside))
+      let inside : k < length note = omega (arith, note_read) in
+      let byte : at sheet k ≡ at note k = get_or-append note (flat_map (signed_bytes 4) costs ++ (more ++ trailer (4 * length costs + length more) n edition sheet_mark)) 0 k inside in
+      ap₂ ◌||◌ (lt-leb note_most k (omega (arith, printable.short))) (ap unprintable byte ∙ printable.printed k inside))
 
-  all-passed : Passes (sheetTests room sheet)
-  unfolding sheetTests
-  all-passed =
-      let t23 = (then-iff _ _).1 (trailer-passed, rows-passed) in
-      let t15 = (then-iff _ _).1 (t23, distance-passed) in
-      let t21 = (then-iff _ _).1 (t15, note-passed) in
-      (then-iff _ _).1 (t21, (failsIf-iff _ _ _).1 (le-ltb room (slipLength (editionOf sheet) (rows_of sheet) (side_of sheet)) (omega (arith, roomy, slip-read))))
+  all_passed : Passes (sheet_tests room sheet)
+  unfolding sheet_tests
+  all_passed =
+      let t23 = (then_iff _ _).1 (trailer-passed, rows-passed) in
+      let t15 = (then_iff _ _).1 (t23, distance_passed) in
+      let t21 = (then_iff _ _).1 (t15, note_passed) in
+      (then_iff _ _).1 (t21, (fails_if_iff _ _ _).1 (le-ltb room (slip_length (edition_of sheet) (rows_of sheet) (side_of sheet)) (omega (arith, roomy, slip-read))))
 
-  night-passed : Passes (nightTests laid)
-  night-passed = (then-iff _ _).1 (
-    (costs-in (costMost edition) costs).1 (λ k l. g.inside k (omega (arith, g.filled))),
-    (failsAt-iff _ (λ i. i) n (λ i. bitsAbove n (at laid.bars i))).1 (λ i l. lt-leb (2 ^ n) (at laid.bars i) (g.clear i l)),
+  night-passed : Passes (night_tests laid)
+  night-passed = (then_iff _ _).1 (
+    (costs_in_lem (cost_most edition) costs).1 (λ k l. g.inside k (omega (arith, g.filled))),
+    (fails_at_iff _ (λ i. i) n (λ i. bits_above n (at laid.bars i))).1 (λ i l. lt-leb (2 ^ n) (at laid.bars i) (g.clear i l)),
   )
 
   pub read-sheet : read room sheet ≡ night laid
   unfolding read
-  read-sheet = ap (readIf sheet) all-passed ∙ ap nightTested laid-read ∙ ap (nightIf laid) night-passed
+  read-sheet = ap (read_if sheet) all_passed ∙ ap night_tested laid_read ∙ ap (night_if laid) night-passed

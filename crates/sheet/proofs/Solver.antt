@@ -12,48 +12,48 @@ use lib.IntN.{ℤ, pos}
 use lib.ListN.{length, take, drop, replicate, length-replicate, get_or-replicate, replicate-append-replicate, get_or-append, get_or-eq_default}
 use lib.Seq.{take_at, drop_at, drop-drop, drop-append-add, get_or-drop, get_or-append-add, sets}
 use Rattle.ints.specs.Parts.{Within}
-use Rattle.ints.proofs.Ranges.{within-mono}
+use Rattle.ints.proofs.Ranges.{within_mono}
 use Rattle.lists.specs.Permutations.{at, table}
 use Rattle.lists.specs.Counts.{bit_of}
-use Rattle.lists.proofs.Tables.{table-cong}
-use Rattle.layout.specs.Trailers.{side_of, editionOf}
-use Rattle.layout.specs.Sheets.{costsAt, barsAt}
+use Rattle.lists.proofs.Tables.{table_cong}
+use Rattle.layout.specs.Trailers.{side_of, edition_of}
+use Rattle.layout.specs.Sheets.{costs_at, bars_at}
 use Rattle.layout.proofs.Fields.{length_fields}
-use Rattle.layout.proofs.Stores.{sets-front}
-use Rattle.assignment.specs.Pairings.{signedAt}
-use Rattle.bars.specs.Barred.{bitsAbove, firstBarred, filledAt, filledCosts}
-use Rattle.bars.specs.Masks.{shownRows}
-use Rattle.bars.proofs.FilledCosts.{filled-costs-length, filled-costs-at, filled-costs-within, filled-costs-first}
-use Rattle.bars.proofs.Longer.{first-barred-same, shown-rows-same}
-use Rattle.matrix.specs.Limits.{sheetSide, K}
-use Rattle.matrix.specs.Verdicts.{Passes, ◌then◌, failsAt}
+use Rattle.layout.proofs.Stores.{sets_front}
+use Rattle.assignment.specs.Pairings.{signed_at}
+use Rattle.bars.specs.Barred.{bits_above, first_barred, filled_at, filled_costs}
+use Rattle.bars.specs.Masks.{shown_rows}
+use Rattle.bars.proofs.FilledCosts.{filled_costs_length, filled_costs_at, filled_costs_within, filled_costs_first}
+use Rattle.bars.proofs.Longer.{first_barred_same, shown_rows_same}
+use Rattle.matrix.specs.Limits.{sheet_side, K}
+use Rattle.matrix.specs.Verdicts.{Passes, ◌then◌, fails_at}
 use Rattle.matrix.specs.Refusals.{BarsPastSide}
-use Rattle.matrix.specs.Tests.{costsIn}
+use Rattle.matrix.specs.Tests.{costs_in}
 use Rattle.matrix.specs.declared.Verdict.{Verdict}
 use Rattle.matrix.specs.declared.Verdict.TheVariants.{Passed, Fails}
-use Rattle.matrix.proofs.SmallLimits.{sheetSide-small, sheetSide-within}
-use Rattle.matrix.proofs.Verdicts.{then-iff, failsAt-cong}
-use Rattle.matrix.proofs.Passed.{costs-in}
+use Rattle.matrix.proofs.SmallLimits.{sheet_side-small, sheet_side-within}
+use Rattle.matrix.proofs.Verdicts.{then_iff, fails_at_cong}
+use Rattle.matrix.proofs.Passed.{costs_in_lem}
 use Rattle.rules.specs.Run.{Result}
 use Rattle.rules.specs.Right.{Right}
 use Rattle.lapjv.specs.Answers.{answer}
 use Rattle.lapjv.specs.Solve as lapjv
 use Rattle.lapjv.specs.Solve.{Outcome, solve}
 use Rattle.lapjv.specs.WithinLimits.{WithinLimits}
-use Rattle.lapjv.proofs.Tests.{passes-paired}
-use Rattle.lapjv.proofs.Owed.{answer-owes}
+use Rattle.lapjv.proofs.Tests.{passes_paired}
+use Rattle.lapjv.proofs.Owed.{answer_owes}
 use Rattle.sheet.specs.declared.State.{State}
 use Rattle.sheet.specs.declared.Reply.TheVariants.{Accepted, Blocked}
 use Rattle.sheet.specs.declared.Settled.{Settled}
-use Rattle.sheet.specs.Reading.{hasBars, rows_of, distanceDue, costMost, Laid, laidAt, barsIn, nightTests, nightIf, nightTested, readIf, sheetTests, read, night}
-use Rattle.sheet.specs.Settle.{fresh, lent, state_of, solvedCosts, found, ended, settledAs, settled}
-use Rattle.sheet.specs.Steps.{readInto, barsInto, filledIn, settledBy, solvedIn, stateTests, settledIf, settledIn}
-use Rattle.sheet.proofs.Editions.{costMost-within}
-use Rattle.sheet.proofs.Passing.{tests-passed, laid-found}
+use Rattle.sheet.specs.Reading.{has_bars, rows_of, distance_due, cost_most, Laid, laid_at, bars_in, night_tests, night_if, night_tested, read_if, sheet_tests, read, night}
+use Rattle.sheet.specs.Settle.{fresh, lent, state_of, solved_costs, found, ended, settled_as, settled}
+use Rattle.sheet.specs.Steps.{read_into, bars_into, filled_in, settled_by, solved_in, state_tests, settled_if, settled_in}
+use Rattle.sheet.proofs.Editions.{cost_most-within}
+use Rattle.sheet.proofs.Passing.{tests_passed, laid_found}
 
 -- A list of one entry again and again is its first n and the rest.
-zeros-split : (a n m : ℕ) → n ≤ m → replicate m a ≡ replicate n a ++ drop n (replicate m a)
-zeros-split a n m h =
+zeros_split : (a n m : ℕ) → n ≤ m → replicate m a ≡ replicate n a ++ drop n (replicate m a)
+zeros_split a n m h =
     let e : n + (m - n) ≡ m = omega arith in
     let whole = replicate-append-replicate n (m - n) a ∙ ap (λ (k : ℕ). replicate k a) e in
     sym whole ∙ ap (λ (l : List ℕ). replicate n a ++ l) (sym (drop_at (replicate n a) (replicate (m - n) a) n (length-replicate n a)) ∙ ap (drop n) whole)
@@ -65,40 +65,40 @@ below-side (suc m) k l = (div-lt_iff_lt-mul (zero-lt-suc m)).1 l
 -- ---- bars behind those of the night
 
 module _ (n : ℕ) (dear : ℤ) (costs : List ℤ) (bars more : List ℕ) (rows : length bars ≡ n) where
-  bars-front : (i : ℕ) → i < n → at (bars ++ more) i ≡ at bars i
-  bars-front i l = get_or-append bars more 0 i (omega arith)
+  bars_front : (i : ℕ) → i < n → at (bars ++ more) i ≡ at bars i
+  bars_front i l = get_or-append bars more 0 i (omega arith)
 
-  bars-longer : filledCosts n dear costs (bars ++ more) ≡ filledCosts n dear costs bars
-  unfolding filledCosts
+  bars-longer : filled_costs n dear costs (bars ++ more) ≡ filled_costs n dear costs bars
+  unfolding filled_costs
   bars-longer =
-      table-cong (n * n) (filledAt n dear costs (bars ++ more)) (filledAt n dear costs bars)
-      (λ k l. ap (λ (b : ℕ). cond (bit_of b (k % n)) dear (signedAt costs k)) (bars-front (k / n) (below-side n k l)))
+      table_cong (n * n) (filled_at n dear costs (bars ++ more)) (filled_at n dear costs bars)
+      (λ k l. ap (λ (b : ℕ). cond (bit_of b (k % n)) dear (signed_at costs k)) (bars_front (k / n) (below-side n k l)))
 
 -- ---- zeros behind the costs
 
 module _ (n : ℕ) (dear : ℤ) (costs : List ℤ) (k m : ℕ) (bars : List ℕ) where
   -- They are what stands past the end of the costs.
-  zeros-behind : filledCosts n dear (costs ++ drop k (replicate m (pos 0))) bars ≡ filledCosts n dear costs bars
-  unfolding filledCosts
+  zeros-behind : filled_costs n dear (costs ++ drop k (replicate m (pos 0))) bars ≡ filled_costs n dear costs bars
+  unfolding filled_costs
   zeros-behind =
-      table-cong (n * n) (filledAt n dear (costs ++ drop k (replicate m (pos 0))) bars) (filledAt n dear costs bars)
+      table_cong (n * n) (filled_at n dear (costs ++ drop k (replicate m (pos 0))) bars) (filled_at n dear costs bars)
       (λ i l. ap (cond (bit_of (at bars (i / n)) (i % n)) dear) (by i (dec_lt i (length costs))))
     where
-      zero-at : (i : ℕ) → Dec (i < m) → signedAt (replicate m (pos 0)) i ≡ pos 0
-      zero-at i (yes h) = get_or-replicate m i (pos 0) (pos 0) h
-      zero-at i (no h) = get_or-eq_default (replicate m (pos 0)) (pos 0) (omega (arith, length-replicate m (pos 0)))
+      zero_at : (i : ℕ) → Dec (i < m) → signed_at (replicate m (pos 0)) i ≡ pos 0
+      zero_at i (yes h) = get_or-replicate m i (pos 0) (pos 0) h
+      zero_at i (no h) = get_or-eq_default (replicate m (pos 0)) (pos 0) (omega (arith, length-replicate m (pos 0)))
 
-      by : (i : ℕ) → Dec (i < length costs) → signedAt (costs ++ drop k (replicate m (pos 0))) i ≡ signedAt costs i
+      by : (i : ℕ) → Dec (i < length costs) → signed_at (costs ++ drop k (replicate m (pos 0))) i ≡ signed_at costs i
       by i (yes h) = get_or-append costs (drop k (replicate m (pos 0))) (pos 0) i h
       by i (no h) =
           let j = i - length costs in
           let e : length costs + j ≡ i = omega arith in
-          ap (signedAt (costs ++ drop k (replicate m (pos 0)))) (sym e) ∙ get_or-append-add costs (drop k (replicate m (pos 0))) j (pos 0) ∙ get_or-drop k (replicate m (pos 0)) j (pos 0)
-          ∙ zero-at (k + j) (dec_lt (k + j) m) ∙ sym (get_or-eq_default costs (pos 0) (omega arith))
+          ap (signed_at (costs ++ drop k (replicate m (pos 0)))) (sym e) ∙ get_or-append-add costs (drop k (replicate m (pos 0))) j (pos 0) ∙ get_or-drop k (replicate m (pos 0)) j (pos 0)
+          ∙ zero_at (k + j) (dec_lt (k + j) m) ∙ sym (get_or-eq_default costs (pos 0) (omega arith))
 
 -- Costs and zeros behind them, from a later place on, are zeros.
-later-zeros : (costs : List ℤ) (m k j : ℕ) → length costs ≡ k → k ≤ j → drop j (costs ++ drop k (replicate m (pos 0))) ≡ drop j (replicate m (pos 0))
-later-zeros costs m k j e h =
+later_zeros : (costs : List ℤ) (m k j : ℕ) → length costs ≡ k → k ≤ j → drop j (costs ++ drop k (replicate m (pos 0))) ≡ drop j (replicate m (pos 0))
+later_zeros costs m k j e h =
     let f : length costs + (j - k) ≡ j = omega arith in
     let g : k + (j - k) ≡ j = omega arith in
     ap (λ (i : ℕ). drop i (costs ++ drop k (replicate m (pos 0)))) (sym f) ∙ drop-append-add costs (drop k (replicate m (pos 0))) (j - k)
@@ -106,9 +106,9 @@ later-zeros costs m k j e h =
 
 -- ---- a night in the state
 
-module _ (edition m n : ℕ) (costs : List ℤ) (bars : List ℕ) (size : length costs ≡ m * n) (rows : length bars ≡ n) (fewer : m ≤ n) (small : n ≤ sheetSide) where
+module _ (edition m n : ℕ) (costs : List ℤ) (bars : List ℕ) (size : length costs ≡ m * n) (rows : length bars ≡ n) (fewer : m ≤ n) (small : n ≤ sheet_side) where
   abbrev laid : Laid
-  laid = record { edition = edition; rowCount = m; side = n; costs = costs; bars = bars }
+  laid = record { edition = edition; row_count = m; side = n; costs = costs; bars = bars }
 
   abbrev bars-kept : List ℕ
   bars-kept = bars ++ drop n fresh.bars
@@ -118,69 +118,69 @@ module _ (edition m n : ℕ) (costs : List ℤ) (bars : List ℕ) (size : length
   held = state_of (costs ++ drop (m * n) fresh.costs) bars-kept (lent fresh)
 
   -- The tests are those of the night.
-  tests_same : stateTests edition m n held ≡ nightTests laid
+  tests_same : state_tests edition m n held ≡ night_tests laid
   tests_same =
-      ap₂ ◌then◌ (ap (costsIn (pos (costMost edition))) (take_at costs (drop (m * n) fresh.costs) (m * n) size))
-      (failsAt-cong BarsPastSide n (λ i. i) (λ i. i) (λ i. bitsAbove n (at bars-kept i)) (λ i. bitsAbove n (at bars i)) (λ i. refl)
-      (λ i l. ap (bitsAbove n) (bars-front n (pos K) costs bars (drop n fresh.bars) rows i l)))
+      ap₂ ◌then◌ (ap (costs_in (pos (cost_most edition))) (take_at costs (drop (m * n) fresh.costs) (m * n) size))
+      (fails_at_cong BarsPastSide n (λ i. i) (λ i. i) (λ i. bits_above n (at bars-kept i)) (λ i. bits_above n (at bars i)) (λ i. refl)
+      (λ i l. ap (bits_above n) (bars_front n (pos K) costs bars (drop n fresh.bars) rows i l)))
 
   -- The state with K on barred places.
   abbrev filled-held : State
-  filled-held = state_of (solvedCosts laid ++ drop (n * n) fresh.costs) bars-kept (lent fresh)
+  filled-held = state_of (solved_costs laid ++ drop (n * n) fresh.costs) bars-kept (lent fresh)
 
-  filled-same : filledIn n held ≡ filled-held
+  filled-same : filled_in n held ≡ filled-held
   filled-same =
       let rest = drop (m * n) fresh.costs in
       ap₂ (λ (l r : List ℤ). state_of (l ++ r) bars-kept (lent fresh)) (zeros-behind n (pos K) costs (m * n) 4096 bars-kept ∙ bars-longer n (pos K) costs bars (drop n fresh.bars) rows)
-      (later-zeros costs 4096 (m * n) (n * n) size (mul-le-mul fewer (omega arith)))
+      (later_zeros costs 4096 (m * n) (n * n) size (mul-le-mul fewer (omega arith)))
 
   -- No test of the solver can apply.
-  module _ (passes : Passes (nightTests laid)) where
+  module _ (passes : Passes (night_tests laid)) where
     few : n ≤ 64
-    few = omega (arith, sheetSide-small)
+    few = omega (arith, sheet_side-small)
 
-    filled-size : length (solvedCosts laid) ≡ n * n
-    filled-size = filled-costs-length n (pos K) costs bars
+    filled-size : length (solved_costs laid) ≡ n * n
+    filled-size = filled_costs_length n (pos K) costs bars
 
-    filled_within : (k : ℕ) → k < n * n → Within K (signedAt (solvedCosts laid) k)
+    filled_within : (k : ℕ) → k < n * n → Within K (signed_at (solved_costs laid) k)
     filled_within =
-        filled-costs-within n (pos K) costs bars K (record { low = omega arith; high = omega arith })
+        filled_costs_within n (pos K) costs bars K (record { low = omega arith; high = omega arith })
         (λ k l. by k (dec_lt k (length costs)))
       where
-        by : (k : ℕ) → Dec (k < length costs) → Within K (signedAt costs k)
-        by k (yes h) = within-mono (costMost-within edition) ((costs-in (costMost edition) costs).0 ((then-iff _ _).0 passes).0 k h)
+        by : (k : ℕ) → Dec (k < length costs) → Within K (signed_at costs k)
+        by k (yes h) = within_mono (cost_most-within edition) ((costs_in_lem (cost_most edition) costs).0 ((then_iff _ _).0 passes).0 k h)
         by k (no h) = rw (get_or-eq_default costs (pos 0) {n = k} (omega arith)) (record { low = omega arith; high = omega arith })
 
-    pub filled-within-all : (k : ℕ) → k < length (solvedCosts laid) → Within K (signedAt (solvedCosts laid) k)
-    filled-within-all k l = filled_within k (omega (arith, filled-size))
+    pub filled_within_all : (k : ℕ) → k < length (solved_costs laid) → Within K (signed_at (solved_costs laid) k)
+    filled_within_all k l = filled_within k (omega (arith, filled-size))
 
-    limits : WithinLimits n (solvedCosts laid) (lent fresh)
+    limits : WithinLimits n (solved_costs laid) (lent fresh)
     limits = record {
-      small = omega (arith, sheetSide-within);
+      small = omega (arith, sheet_side-within);
       squared = filled-size;
       cols-enough = few;
       rows-enough = few;
-      row-prices-enough = few;
-      column-prices-enough = few;
+      row_prices_enough = few;
+      column_prices_enough = few;
       indices-enough = omega (arith, few);
       numbers-enough = few;
-      costs-within = filled-within-all;
+      costs-within = filled_within_all;
     }
 
-    pub owed : Right n (solvedCosts laid) K (found laid)
-    owed = answer-owes n (solvedCosts laid) limits.small limits.costs-within
+    pub owed : Right n (solved_costs laid) K (found laid)
+    owed = answer_owes n (solved_costs laid) limits.small limits.costs-within
 
     -- What the solver leaves in the state is the night's answer, and a barred pair is the night's.
-    solved-same : solvedIn edition m n filled-held ≡ settledAs (night laid)
-    solved-same =
-        ap (λ (l : List ℤ). after (solve n l (lent fresh))) (take_at (solvedCosts laid) (drop (n * n) fresh.costs) (n * n) filled-size)
-        ∙ ap after (passes-paired n (solvedCosts laid) (lent fresh) limits)
+    solved_same : solved_in edition m n filled-held ≡ settled_as (night laid)
+    solved_same =
+        ap (λ (l : List ℤ). after (solve n l (lent fresh))) (take_at (solved_costs laid) (drop (n * n) fresh.costs) (n * n) filled-size)
+        ∙ ap after (passes_paired n (solved_costs laid) (lent fresh) limits)
         ∙ ap₂ (λ (bar shown : ℕ). cond (ltb bar n) (record { reply = Blocked shown; state = fresh }) done)
-        (first-barred-same n bars-kept bars same-bars kept-cols (found laid).cols same-cols)
-        (shown-rows-same n bars-kept bars same-bars kept-cols (found laid).cols same-cols)
+        (first_barred_same n bars-kept bars same-bars kept-cols (found laid).cols same-cols)
+        (shown_rows_same n bars-kept bars same-bars kept-cols (found laid).cols same-cols)
       where
         after : Outcome → Settled
-        after o = settledBy edition m n o.answer (state_of (solvedCosts laid ++ drop (n * n) fresh.costs) bars-kept o.lent)
+        after o = settled_by edition m n o.answer (state_of (solved_costs laid ++ drop (n * n) fresh.costs) bars-kept o.lent)
 
         done : Settled
         done = record { reply = Accepted edition m n (found laid).total; state = ended laid }
@@ -189,58 +189,58 @@ module _ (edition m n : ℕ) (costs : List ℤ) (bars : List ℕ) (size : length
         kept-cols = (found laid).cols ++ drop n fresh.cols
 
         same-bars : (i : ℕ) → i < n → at bars-kept i ≡ at bars i
-        same-bars = bars-front n (pos K) costs bars (drop n fresh.bars) rows
+        same-bars = bars_front n (pos K) costs bars (drop n fresh.bars) rows
 
         same-cols : (i : ℕ) → i < n → at kept-cols i ≡ at (found laid).cols i
         same-cols i l = get_or-append (found laid).cols (drop n fresh.cols) 0 i (omega (arith, owed.cols-size))
 
   -- Tested, filled and solved.
-  pub held-settles : settledIn edition m n held ≡ settledAs (nightTested laid)
-  held-settles = ap (settledIf edition m n held) tests_same ∙ by (nightTests laid) refl
+  pub held_settles : settled_in edition m n held ≡ settled_as (night_tested laid)
+  held_settles = ap (settled_if edition m n held) tests_same ∙ by (night_tests laid) refl
     where
-      by : (v : Verdict) → nightTests laid ≡ v → settledIf edition m n held v ≡ settledAs (nightIf laid v)
-      by Passed e = ap (solvedIn edition m n) filled-same ∙ solved-same e
+      by : (v : Verdict) → night_tests laid ≡ v → settled_if edition m n held v ≡ settled_as (night_if laid v)
+      by Passed e = ap (solved_in edition m n) filled-same ∙ solved_same e
       by (Fails refusal) e = refl
 
 -- ---- a sheet read into the fresh state
 
-module _ (edition m n : ℕ) (sheet : List ℕ) (fewer : m ≤ n) (small : n ≤ sheetSide) where
+module _ (edition m n : ℕ) (sheet : List ℕ) (fewer : m ≤ n) (small : n ≤ sheet_side) where
   fits : n ≤ 64
-  fits = omega (arith, sheetSide-small)
+  fits = omega (arith, sheet_side-small)
 
   few-rows : m ≤ 64
   few-rows = omega (arith, fewer, fits)
 
-  abbrev costs-there : List ℤ
-  costs-there = costsAt (distanceDue edition m n) (m * n) sheet
+  abbrev costs_there : List ℤ
+  costs_there = costs_at (distance_due edition m n) (m * n) sheet
 
-  costs-size : length costs-there ≡ m * n
+  costs-size : length costs_there ≡ m * n
   costs-size = length_fields _ _ 4 (m * n) sheet
 
   -- The bars at the front of the state's, with those of the edition or none.
-  bars-read : (t : Bool) → cond t (sets fresh.bars 0 (barsAt n sheet)) fresh.bars ≡ cond t (barsAt n sheet) (replicate n 0) ++ drop n fresh.bars
-  bars-read true = sets-front (barsAt n sheet) fresh.bars n (length_fields _ _ 8 n sheet) fits
-  bars-read false = zeros-split 0 n 64 fits
+  bars-read : (t : Bool) → cond t (sets fresh.bars 0 (bars_at n sheet)) fresh.bars ≡ cond t (bars_at n sheet) (replicate n 0) ++ drop n fresh.bars
+  bars-read true = sets_front (bars_at n sheet) fresh.bars n (length_fields _ _ 8 n sheet) fits
+  bars-read false = zeros_split 0 n 64 fits
 
-  bars-size : (t : Bool) → length (cond t (barsAt n sheet) (replicate n 0)) ≡ n
+  bars-size : (t : Bool) → length (cond t (bars_at n sheet) (replicate n 0)) ≡ n
   bars-size true = length_fields _ _ 8 n sheet
   bars-size false = length-replicate n 0
 
-  pub state-settles : {start read barred : State} {answer : Settled} → start ≡ fresh → read ≡ readInto (distanceDue edition m n) (m * n) sheet start
-      → barred ≡ barsInto edition n sheet read → answer ≡ settledIn edition m n barred → answer ≡ settledAs (nightTested (laidAt edition m n (distanceDue edition m n) sheet))
-  state-settles e f g h =
-      h ∙ ap (settledIn edition m n) (g ∙ ap (barsInto edition n sheet) (f ∙ ap (readInto (distanceDue edition m n) (m * n) sheet) e)
-      ∙ ap₂ (λ (l : List ℤ) (b : List ℕ). state_of l b (lent fresh)) (sets-front costs-there fresh.costs (m * n) costs-size (mul-le-mul few-rows fits)) (bars-read (hasBars edition)))
-      ∙ held-settles edition m n costs-there (barsIn edition n sheet) costs-size (bars-size (hasBars edition)) fewer small
+  pub state_settles : {start read barred : State} {answer : Settled} → start ≡ fresh → read ≡ read_into (distance_due edition m n) (m * n) sheet start
+      → barred ≡ bars_into edition n sheet read → answer ≡ settled_in edition m n barred → answer ≡ settled_as (night_tested (laid_at edition m n (distance_due edition m n) sheet))
+  state_settles e f g h =
+      h ∙ ap (settled_in edition m n) (g ∙ ap (bars_into edition n sheet) (f ∙ ap (read_into (distance_due edition m n) (m * n) sheet) e)
+      ∙ ap₂ (λ (l : List ℤ) (b : List ℕ). state_of l b (lent fresh)) (sets_front costs_there fresh.costs (m * n) costs-size (mul-le-mul few-rows fits)) (bars-read (has_bars edition)))
+      ∙ held_settles edition m n costs_there (bars_in edition n sheet) costs-size (bars-size (has_bars edition)) fewer small
 
 -- A sheet that passes the tests before the costs settles as its night.
-pub passed-settles : (room : ℕ) (sheet : List ℕ) → Passes (sheetTests room sheet)
-    → let m = rows_of sheet in let n = side_of sheet in let edition = editionOf sheet in settledAs (nightTested (laidAt edition m n (distanceDue edition m n) sheet)) ≡ settled room sheet
+pub passed_settles : (room : ℕ) (sheet : List ℕ) → Passes (sheet_tests room sheet)
+    → let m = rows_of sheet in let n = side_of sheet in let edition = edition_of sheet in settled_as (night_tested (laid_at edition m n (distance_due edition m n) sheet)) ≡ settled room sheet
 unfolding settled read
-passed-settles room sheet e =
-    ap (λ (l : Laid). settledAs (nightTested l)) (sym (laid-found room sheet (tests-passed room sheet e)))
-    ∙ ap (λ (v : Verdict). settledAs (readIf sheet v)) (sym e)
+passed_settles room sheet e =
+    ap (λ (l : Laid). settled_as (night_tested l)) (sym (laid_found room sheet (tests_passed room sheet e)))
+    ∙ ap (λ (v : Verdict). settled_as (read_if sheet v)) (sym e)
 
-pub fails-settles : (room : ℕ) (sheet : List ℕ) {v : Verdict} → sheetTests room sheet ≡ v → settledAs (readIf sheet v) ≡ settled room sheet
+pub fails_settles : (room : ℕ) (sheet : List ℕ) {v : Verdict} → sheet_tests room sheet ≡ v → settled_as (read_if sheet v) ≡ settled room sheet
 unfolding settled read
-fails-settles room sheet e = ap (λ (w : Verdict). settledAs (readIf sheet w)) (sym e)
+fails_settles room sheet e = ap (λ (w : Verdict). settled_as (read_if sheet w)) (sym e)

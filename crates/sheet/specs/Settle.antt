@@ -1,11 +1,11 @@
 -- What comes of a sheet: its night solved, the slip, and what the front desk gets and finds in the slip's room.
 use Rattle.std.specs.Prelude.{cond, List, ◌++◌, ℕ, ◌*◌, ltb, ℤ, pos, length, take, drop, replicate}
 use Rattle.layout.specs.Values.{bytes_of}
-use Rattle.layout.specs.Slips.{slipOf, slipLength}
+use Rattle.layout.specs.Slips.{slip_of, slip_length}
 use Rattle.matrix.specs.Limits.{K}
 use Rattle.matrix.specs.Refusals.{code_of, NoPairing}
-use Rattle.bars.specs.Barred.{firstBarred, filledCosts}
-use Rattle.bars.specs.Masks.{shownRows}
+use Rattle.bars.specs.Barred.{first_barred, filled_costs}
+use Rattle.bars.specs.Masks.{shown_rows}
 use Rattle.rules.specs.Run.{Result}
 use Rattle.lapjv.specs.Answers.{answer}
 use Rattle.lapjv.specs.Solve as lapjv
@@ -38,48 +38,48 @@ state_of costs bars l = record {
   bars = bars;
   cols = l.cols;
   rows = l.rows;
-  row_prices = l.rowPrices;
-  col_prices = l.columnPrices;
+  row_prices = l.prices_of_rows;
+  col_prices = l.prices_of_columns;
   indices = l.indices;
   numbers = l.numbers;
 }
 
 -- "columns and prices are those of document 01's rules with cost K on barred places", and "with n-m rows of zeros added below": past the end of the
 -- costs stands 0. The n*n costs that are solved, and the answer.
-abbrev pub solvedCosts : Laid → List ℤ
-solvedCosts laid = filledCosts laid.side (pos K) laid.costs laid.bars
+abbrev pub solved_costs : Laid → List ℤ
+solved_costs laid = filled_costs laid.side (pos K) laid.costs laid.bars
 
 abbrev pub found : Laid → Result
-found laid = answer laid.side (solvedCosts laid)
+found laid = answer laid.side (solved_costs laid)
 
 -- The first row that is paired at a barred place, or the side; and, where there is one, the set of rows that is shown.
-abbrev pub barredRow : Laid → ℕ
-barredRow laid = firstBarred laid.side laid.bars (found laid).cols
+abbrev pub barred_row : Laid → ℕ
+barred_row laid = first_barred laid.side laid.bars (found laid).cols
 
-abbrev pub rowsShown : Laid → ℕ
-rowsShown laid = shownRows laid.side laid.bars (found laid).cols
+abbrev pub rows_shown : Laid → ℕ
+rows_shown laid = shown_rows laid.side laid.bars (found laid).cols
 
 -- The state in which a night ends: costs, bars and answer stand at the front of the arrays, all else is 0.
 abbrev pub ended : Laid → State
 ended laid =
     let n = laid.side in
-    state_of (solvedCosts laid ++ drop (n * n) fresh.costs) (laid.bars ++ drop n fresh.bars) (lapjv.paired n (lent fresh) (found laid)).lent
+    state_of (solved_costs laid ++ drop (n * n) fresh.costs) (laid.bars ++ drop n fresh.bars) (lapjv.paired n (lent fresh) (found laid)).lent
 
 -- The two ways in which a night ends: rows that show that it has no pairing, or edition, rows, side, total and the arrays.
-abbrev pub blockedWith : Laid → Settled
-blockedWith laid = record { reply = Blocked (rowsShown laid); state = fresh }
+abbrev pub blocked_with : Laid → Settled
+blocked_with laid = record { reply = Blocked (rows_shown laid); state = fresh }
 
-abbrev pub acceptedWith : Laid → Settled
-acceptedWith laid = record { reply = Accepted laid.edition laid.rowCount laid.side (found laid).total; state = ended laid }
+abbrev pub accepted_with : Laid → Settled
+accepted_with laid = record { reply = Accepted laid.edition laid.row_count laid.side (found laid).total; state = ended laid }
 
 -- What is settled of a sheet as it was read. "Refuse with 20 exactly if there is none."
-abbrev pub settledAs : Read → Settled
-settledAs (refused refusal) = record { reply = Refused refusal; state = fresh }
-settledAs (night laid) = cond (ltb (barredRow laid) laid.side) (blockedWith laid) (acceptedWith laid)
+abbrev pub settled_as : Read → Settled
+settled_as (refused refusal) = record { reply = Refused refusal; state = fresh }
+settled_as (night laid) = cond (ltb (barred_row laid) laid.side) (blocked_with laid) (accepted_with laid)
 
 -- A sheet settled, for a slip room of so many bytes.
 unfoldable pub settled : ℕ → List ℕ → Settled
-settled room sheet = settledAs (read room sheet)
+settled room sheet = settled_as (read room sheet)
 
 -- What the front desk gets and finds: "0, or number + 256*place", and the slip's room.
 pub record Delivery : Type 0 where
@@ -87,22 +87,22 @@ pub record Delivery : Type 0 where
   pub slip : List ℕ
 
 -- 20, "the one refusal under demand 1 that writes": its set of rows "goes as 8 bytes at the start of the slip room, the rest unchanged".
-abbrev pub blockedAs : List ℕ → Laid → Delivery
-blockedAs room laid = record { number = NoPairing; slip = bytes_of 8 (rowsShown laid) ++ drop 8 room }
+abbrev pub blocked_as : List ℕ → Laid → Delivery
+blocked_as room laid = record { number = NoPairing; slip = bytes_of 8 (rows_shown laid) ++ drop 8 room }
 
 -- The slip of a night at the front of its room, of its m rows: "Slip room past 18n+20 is untouched." "A slip carries its sheet's edition."
-abbrev pub slipAs : List ℕ → Laid → Delivery
-slipAs room laid =
+abbrev pub slip_as : List ℕ → Laid → Delivery
+slip_as room laid =
     let a = found laid in
-    let m = laid.rowCount in
+    let m = laid.row_count in
     let n = laid.side in
-    record { number = 0; slip = slipOf laid.edition m n (take m a.cols) (take m a.rowPrices) a.columnPrices a.total ++ drop (slipLength laid.edition m n) room }
+    record { number = 0; slip = slip_of laid.edition m n (take m a.cols) (take m a.prices_of_rows) a.prices_of_columns a.total ++ drop (slip_length laid.edition m n) room }
 
 -- Any other refusal writes nothing.
-abbrev pub pairedAs : List ℕ → Read → Delivery
-pairedAs room (refused refusal) = record { number = code_of refusal; slip = room }
-pairedAs room (night laid) = cond (ltb (barredRow laid) laid.side) (blockedAs room laid) (slipAs room laid)
+abbrev pub paired_as : List ℕ → Read → Delivery
+paired_as room (refused refusal) = record { number = code_of refusal; slip = room }
+paired_as room (night laid) = cond (ltb (barred_row laid) laid.side) (blocked_as room laid) (slip_as room laid)
 
 -- The entry, on the sheet's bytes and the slip's room.
 unfoldable pub pair : List ℕ → List ℕ → Delivery
-pair sheet room = pairedAs room (read (length room) sheet)
+pair sheet room = paired_as room (read (length room) sheet)

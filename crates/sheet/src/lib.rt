@@ -2,20 +2,20 @@
 ghost use Rattle.std.specs.Prelude.{◌≡◌, cond, ◌++◌, ℕ, ◌+◌, ◌*◌, ◌≤◌, ◌<◌, pos, length, take, drop};
 ghost use Rattle.std.proofs.lemmas.List.Edits.{sets};
 ghost use Rattle.lists.specs.Permutations.{at};
-ghost use Rattle.layout.specs.Sheets.{costsAt, barsAt};
-ghost use Rattle.layout.specs.Slips.{slipOf, slipLength};
-ghost use Rattle.bars.specs.Barred.{firstBarred, filledCosts};
-ghost use Rattle.bars.specs.Masks.{reachedMask};
-ghost use Rattle.bars.specs.Tests.{barsClear};
-ghost use Rattle.matrix.specs.Limits.{sheetSide, K};
+ghost use Rattle.layout.specs.Sheets.{costs_at, bars_at};
+ghost use Rattle.layout.specs.Slips.{slip_of, slip_length};
+ghost use Rattle.bars.specs.Barred.{first_barred, filled_costs};
+ghost use Rattle.bars.specs.Masks.{reached_mask};
+ghost use Rattle.bars.specs.Tests.{bars_clear};
+ghost use Rattle.matrix.specs.Limits.{sheet_side, K};
 ghost use Rattle.matrix.specs.Verdicts.{◌then◌};
-ghost use Rattle.matrix.specs.Tests.{costsIn};
-ghost use Rattle.lapjv.specs.Solve.{lent_of, outcomeOf, solve};
-ghost use Rattle.sheet.specs.Reading.{hasBars, distanceDue, costMost, laidAt, refused, nightTested};
-ghost use Rattle.sheet.specs.Settle.{fresh, settledAs, settled, Delivery, pair};
-ghost use Rattle.sheet.specs.Values.{settledValues};
+ghost use Rattle.matrix.specs.Tests.{costs_in};
+ghost use Rattle.lapjv.specs.Solve.{lent_of, outcome_of, solve};
+ghost use Rattle.sheet.specs.Reading.{has_bars, distance_due, cost_most, laid_at, refused, night_tested};
+ghost use Rattle.sheet.specs.Settle.{fresh, settled_as, settled, Delivery, pair};
+ghost use Rattle.sheet.specs.Values.{settled_values};
 ghost use Rattle.sheet.specs.Asked.{Inside};
-ghost use Rattle.sheet.specs.Steps.{readInto, barsInto, filledIn, unlessBarred, solvedIn, settledIn};
+ghost use Rattle.sheet.specs.Steps.{read_into, bars_into, filled_in, unless_barred, solved_in, settled_in};
 ghost use Rattle.sheet.specs.declared.Reply.TheVariants.{Accepted, Blocked};
 
 pub mod reading;
@@ -79,7 +79,7 @@ fn fresh() -> State
 // So many costs of a sheet, the first at a distance before the trailer, are read over the front of an array.
 fn read_array(costs: &mut [i32; 4096], sheet: &[u8], distance: usize, count: usize)
     requires { Inside distance count sheet.now }
-    ensures { costs.new ≡ sets costs.old 0 (costsAt distance count sheet.now) }
+    ensures { costs.new ≡ sets costs.old 0 (costs_at distance count sheet.now) }
 {
     let first = sheet.len() - 12 - distance;
     let all: &mut [i32] = costs;
@@ -89,7 +89,7 @@ fn read_array(costs: &mut [i32; 4096], sheet: &[u8], distance: usize, count: usi
 // They are read into the state.
 fn read_night(state: State, sheet: &[u8], distance: usize, count: usize) -> State
     requires { Inside distance count sheet.now }
-    ensures { result ≡ readInto distance count sheet.now state }
+    ensures { result ≡ read_into distance count sheet.now state }
 {
     let mut costs = state.costs;
     let bars = state.bars;
@@ -115,7 +115,7 @@ fn read_night(state: State, sheet: &[u8], distance: usize, count: usize) -> Stat
 // The bars of n rows, which end at the trailer, are read over the front of an array.
 fn read_bars_array(bars: &mut [u64; 64], sheet: &[u8], n: usize)
     requires { (n ≤ 64) × (8 * n + 12 ≤ length sheet.now) }
-    ensures { bars.new ≡ sets bars.old 0 (barsAt n sheet.now) }
+    ensures { bars.new ≡ sets bars.old 0 (bars_at n sheet.now) }
 {
     let first = sheet.len() - 12 - 8 * n;
     let all: &mut [u64] = bars;
@@ -124,8 +124,8 @@ fn read_bars_array(bars: &mut [u64; 64], sheet: &[u8], n: usize)
 
 // They are read into the state, where the edition has some.
 fn read_bars(state: State, sheet: &[u8], edition: usize, n: usize) -> State
-    requires { (n ≤ 64) × (cond (hasBars edition) (8 * n) 0 + 12 ≤ length sheet.now) }
-    ensures { result ≡ barsInto edition n sheet.now state }
+    requires { (n ≤ 64) × (cond (has_bars edition) (8 * n) 0 + 12 ≤ length sheet.now) }
+    ensures { result ≡ bars_into edition n sheet.now state }
 {
     if edition != 2 {
         return state;
@@ -161,7 +161,7 @@ fn dear() -> i32
 // The first n*n costs have K on barred places.
 fn fill_arrays(n: usize, costs: &mut [i32; 4096], bars: &[u64; 64])
     requires { n ≤ 64 }
-    ensures { costs.new ≡ filledCosts n (pos K) costs.old bars.now ++ drop (n * n) costs.old }
+    ensures { costs.new ≡ filled_costs n (pos K) costs.old bars.now ++ drop (n * n) costs.old }
 {
     let all: &mut [i32] = costs;
     let barred: &[u64] = bars;
@@ -171,7 +171,7 @@ fn fill_arrays(n: usize, costs: &mut [i32; 4096], bars: &[u64; 64])
 // The night in the state is filled.
 fn fill_night(state: State, n: usize) -> State
     requires { n ≤ 64 }
-    ensures { result ≡ filledIn n state }
+    ensures { result ≡ filled_in n state }
 {
     let mut costs = state.costs;
     let bars = state.bars;
@@ -206,7 +206,7 @@ fn solve_arrays(
     numbers: &mut [i64; 64],
 ) -> Solved
     requires { n ≤ 64 }
-    ensures { outcomeOf result (lent_of cols.new rows.new row_prices.new col_prices.new indices.new numbers.new) ≡ solve n (take (n * n) costs.now) (lent_of cols.old rows.old row_prices.old col_prices.old indices.old numbers.old) }
+    ensures { outcome_of result (lent_of cols.new rows.new row_prices.new col_prices.new indices.new numbers.new) ≡ solve n (take (n * n) costs.now) (lent_of cols.old rows.old row_prices.old col_prices.old indices.old numbers.old) }
 {
     let count = n * n;
     let all: &[i32] = costs;
@@ -224,7 +224,7 @@ fn solve_arrays(
 
 // A refusal leaves nothing in the arrays.
 fn refused(refusal: Refusal) -> Settled
-    ensures { result ≡ settledAs (refused refusal) }
+    ensures { result ≡ settled_as (refused refusal) }
 {
     let state = fresh();
     Settled {
@@ -247,7 +247,7 @@ fn blocked(rows: u64) -> Settled
 // The first row that is paired at a barred place, or n.
 fn first_barred(n: usize, bars: &[u64; 64], cols: &[u32; 64]) -> usize
     requires { (n ≤ 64) × ((i : ℕ) → i < n → at cols.now i < n) }
-    ensures { result ≡ firstBarred n bars.now cols.now }
+    ensures { result ≡ first_barred n bars.now cols.now }
 {
     let barred: &[u64] = bars;
     let columns: &[u32] = cols;
@@ -257,7 +257,7 @@ fn first_barred(n: usize, bars: &[u64; 64], cols: &[u32; 64]) -> usize
 // The rows that are reached from it.
 fn rows_shown(n: usize, bars: &[u64; 64], cols: &[u32; 64], i: usize) -> u64
     requires { (n ≤ 64) × ((k : ℕ) → k < n → at cols.now k < n) × (i < n) }
-    ensures { result ≡ reachedMask n bars.now cols.now i }
+    ensures { result ≡ reached_mask n bars.now cols.now i }
 {
     let barred: &[u64] = bars;
     let columns: &[u32] = cols;
@@ -267,7 +267,7 @@ fn rows_shown(n: usize, bars: &[u64; 64], cols: &[u32; 64], i: usize) -> u64
 // A state that the solver has worked in: its pairs are those of the night, or the first that is barred leads to rows that are shown.
 fn unless_barred(state: State, edition: usize, m: usize, n: usize, total: i64) -> Settled
     requires { (n ≤ 64) × ((i : ℕ) → i < n → at state.cols i < n) }
-    ensures { result ≡ unlessBarred n (firstBarred n state.bars state.cols) (record { reply = Accepted edition m n total; state = state }) state }
+    ensures { result ≡ unless_barred n (first_barred n state.bars state.cols) (record { reply = Accepted edition m n total; state = state }) state }
 {
     let costs = state.costs;
     let bars = state.bars;
@@ -300,7 +300,7 @@ fn unless_barred(state: State, edition: usize, m: usize, n: usize, total: i64) -
 // The night of m rows and side n whose costs stand in the state is solved in it.
 fn solve_night(state: State, edition: usize, m: usize, n: usize) -> Settled
     requires { n ≤ 64 }
-    ensures { result ≡ solvedIn edition m n state }
+    ensures { result ≡ solved_in edition m n state }
 {
     let costs = state.costs;
     let bars = state.bars;
@@ -346,7 +346,7 @@ fn night_tested(
     bars: &[u64; 64],
 ) -> Verdict
     requires { (m ≤ n) × (n ≤ 64) }
-    ensures { result ≡ (costsIn (pos (costMost edition)) (take (m * n) costs.now) then barsClear n bars.now) }
+    ensures { result ≡ (costs_in (pos (cost_most edition)) (take (m * n) costs.now) then bars_clear n bars.now) }
 {
     let count = m * n;
     let all: &[i32] = costs;
@@ -362,7 +362,7 @@ fn night_tested(
 // A night that was read into the state is tested, filled and solved.
 fn settle_in(state: State, edition: usize, m: usize, n: usize) -> Settled
     requires { (m ≤ n) × (n ≤ 64) }
-    ensures { result ≡ settledIn edition m n state }
+    ensures { result ≡ settled_in edition m n state }
 {
     let costs = state.costs;
     let bars = state.bars;
@@ -392,8 +392,8 @@ fn settle_in(state: State, edition: usize, m: usize, n: usize) -> Settled
 
 // A sheet of an edition, rows and a side that has passed its tests: its night is read, and settled. Behind its m*n costs the state has zeros.
 fn settle_night(sheet: &[u8], edition: usize, m: usize, n: usize) -> Settled
-    requires { (m ≤ n) × (n ≤ sheetSide) × (distanceDue edition m n + 12 ≤ length sheet.now) }
-    ensures { result ≡ settledAs (nightTested (laidAt edition m n (distanceDue edition m n) sheet.now)) }
+    requires { (m ≤ n) × (n ≤ sheet_side) × (distance_due edition m n + 12 ≤ length sheet.now) }
+    ensures { result ≡ settled_as (night_tested (laid_at edition m n (distance_due edition m n) sheet.now)) }
 {
     let count = m * n;
     let distance = reading::distance_due(edition, m, n);
@@ -404,7 +404,7 @@ fn settle_night(sheet: &[u8], edition: usize, m: usize, n: usize) -> Settled
 
 // A sheet is read and its night solved, for a slip room of so many bytes.
 pub fn settle(sheet: &[u8], room: usize) -> Settled
-    ensures { settledValues result ≡ settledValues (settled room sheet.now) }
+    ensures { settled_values result ≡ settled_values (settled room sheet.now) }
 {
     match tests(sheet, room) {
         Verdict::Fails(refusal) => refused(refusal),
@@ -428,8 +428,8 @@ fn write_arrays(
     col_prices: &[i64; 64],
     total: i64,
 )
-    requires { (m ≤ n) × (n ≤ 64) × (slipLength edition m n ≤ length slip.old) }
-    ensures { slip.new ≡ slipOf edition m n (take m cols.now) (take m row_prices.now) (take n col_prices.now) total ++ drop (slipLength edition m n) slip.old }
+    requires { (m ≤ n) × (n ≤ 64) × (slip_length edition m n ≤ length slip.old) }
+    ensures { slip.new ≡ slip_of edition m n (take m cols.now) (take m row_prices.now) (take n col_prices.now) total ++ drop (slip_length edition m n) slip.old }
 {
     let all_cols: &[u32] = cols;
     let all_row_prices: &[i64] = row_prices;
@@ -446,8 +446,8 @@ fn write_arrays(
 
 // The slip of a solved state is written over the front of its room.
 fn write_state(slip: &mut [u8], state: State, edition: usize, m: usize, n: usize, total: i64)
-    requires { (m ≤ n) × (n ≤ 64) × (slipLength edition m n ≤ length slip.old) }
-    ensures { slip.new ≡ slipOf edition m n (take m state.cols) (take m state.row_prices) (take n state.col_prices) total ++ drop (slipLength edition m n) slip.old }
+    requires { (m ≤ n) × (n ≤ 64) × (slip_length edition m n ≤ length slip.old) }
+    ensures { slip.new ≡ slip_of edition m n (take m state.cols) (take m state.row_prices) (take n state.col_prices) total ++ drop (slip_length edition m n) slip.old }
 {
     let cols = state.cols;
     let row_prices = state.row_prices;

@@ -1,11 +1,11 @@
 // A sheet's tests.
 ghost use Rattle.std.specs.Prelude.{◌≡◌, cond, ◌&&◌, ◌+◌, ◌*◌, ◌^◌, ◌≤◌, ◌<◌, ltb, pos, length};
 ghost use Rattle.lists.specs.Runs.{first};
-ghost use Rattle.layout.specs.Trailers.{hasRowCount, distance_of, side_of, editionOf};
-ghost use Rattle.layout.specs.Slips.{slipLength};
-ghost use Rattle.matrix.specs.Limits.{sheetSide};
+ghost use Rattle.layout.specs.Trailers.{has_row_count, distance_of, side_of, edition_of};
+ghost use Rattle.layout.specs.Slips.{slip_length};
+ghost use Rattle.matrix.specs.Limits.{sheet_side};
 ghost use Rattle.matrix.specs.Verdicts.{Passes, ◌then◌};
-ghost use Rattle.sheet.specs.Reading.{sheetMost, noteMost, trailed, pointed, unprintable, unfitAt, unfit, noteFit, roomLong, sheetTests, unknown, hasBars, rows_of, rowsFit, distanceDue, costMost};
+ghost use Rattle.sheet.specs.Reading.{sheet_most, note_most, trailed, pointed, unprintable, unfit_at, unfit, note_fit, room_long, sheet_tests, unknown, has_bars, rows_of, rows_fit, distance_due, cost_most};
 ghost use Rattle.sheet.specs.Asked.{Ended, Counted};
 
 use layout::slip::row_count_length;
@@ -16,14 +16,14 @@ use matrix::{Verdict, refusals};
 
 // The number once more, beside specs/Reading.antt: code cannot read a definition. The promise holds the two together.
 fn sheet_most() -> usize
-    ensures { result ≡ sheetMost }
+    ensures { result ≡ sheet_most }
 {
     65536
 }
 
 // As `sheet_most`.
 fn note_most() -> usize
-    ensures { result ≡ noteMost }
+    ensures { result ≡ note_most }
 {
     4096
 }
@@ -51,8 +51,8 @@ pub fn rows_of(sheet: &[u8]) -> usize
 
 // What an edition's bars take, of n rows.
 fn bars_length(edition: usize, n: usize) -> usize
-    requires { n ≤ sheetSide }
-    ensures { result ≡ cond (hasBars edition) (8 * n) 0 }
+    requires { n ≤ sheet_side }
+    ensures { result ≡ cond (has_bars edition) (8 * n) 0 }
 {
     if edition == 2 {
         return 8 * n;
@@ -62,15 +62,15 @@ fn bars_length(edition: usize, n: usize) -> usize
 
 // The distance that an edition wants.
 pub fn distance_due(edition: usize, m: usize, n: usize) -> usize
-    requires { (m ≤ n) × (n ≤ sheetSide) }
-    ensures { result ≡ distanceDue edition m n }
+    requires { (m ≤ n) × (n ≤ sheet_side) }
+    ensures { result ≡ distance_due edition m n }
 {
     4 * (m * n) + bars_length(edition, n) + row_count_length(edition)
 }
 
 // The limit of an edition's costs.
 pub fn cost_most(edition: usize) -> i64
-    ensures { result ≡ pos (costMost edition) }
+    ensures { result ≡ pos (cost_most edition) }
 {
     if edition == 2 {
         return bars::tests::barred_most();
@@ -97,7 +97,7 @@ fn trailed(sheet: &[u8]) -> Verdict
 // Whether a row count is wanted and there is no room for it before the trailer.
 fn cut_off(sheet: &[u8]) -> bool
     requires { 12 ≤ length sheet.now }
-    ensures { result ≡ (hasRowCount (editionOf sheet.now) && ltb (length sheet.now) 14) }
+    ensures { result ≡ (has_row_count (edition_of sheet.now) && ltb (length sheet.now) 14) }
 {
     edition_of(sheet) == 3 && sheet.len() < 14
 }
@@ -105,7 +105,7 @@ fn cut_off(sheet: &[u8]) -> bool
 // Test 23.
 fn rows_fit(before: Verdict, sheet: &[u8]) -> Verdict
     requires { Passes before → 12 ≤ length sheet.now }
-    ensures { result ≡ (before then rowsFit sheet.now) }
+    ensures { result ≡ (before then rows_fit sheet.now) }
 {
     match before {
         Verdict::Fails(refusal) => {
@@ -151,7 +151,7 @@ fn unprintable(byte: u8) -> bool
 
 // Whether no note goes on at position k, which holds this byte.
 fn unfit(k: usize, byte: u8) -> bool
-    ensures { result ≡ unfitAt k byte }
+    ensures { result ≡ unfit_at k byte }
 {
     note_most() <= k || unprintable(byte)
 }
@@ -174,7 +174,7 @@ fn first_unfit(sheet: &[u8], count: usize) -> usize
 // Test 21.
 fn note_fit(before: Verdict, sheet: &[u8]) -> Verdict
     requires { Passes before → distance_of sheet.now + 12 ≤ length sheet.now }
-    ensures { result ≡ (before then noteFit sheet.now) }
+    ensures { result ≡ (before then note_fit sheet.now) }
 {
     match before {
         Verdict::Fails(refusal) => {
@@ -190,7 +190,7 @@ fn note_fit(before: Verdict, sheet: &[u8]) -> Verdict
 // How long the slip of a sheet's night is.
 fn slip_length(sheet: &[u8]) -> usize
     requires { Counted sheet.now }
-    ensures { result ≡ slipLength (editionOf sheet.now) (rows_of sheet.now) (side_of sheet.now) }
+    ensures { result ≡ slip_length (edition_of sheet.now) (rows_of sheet.now) (side_of sheet.now) }
 {
     let body = 10 * rows_of(sheet) + 8 * side_of(sheet) + 8;
     body + row_count_length(edition_of(sheet)) + 12
@@ -199,7 +199,7 @@ fn slip_length(sheet: &[u8]) -> usize
 // Test 16.
 fn room_long(before: Verdict, sheet: &[u8], room: usize) -> Verdict
     requires { Passes before → Counted sheet.now }
-    ensures { result ≡ (before then roomLong room sheet.now) }
+    ensures { result ≡ (before then room_long room sheet.now) }
 {
     match before {
         Verdict::Fails(refusal) => {
@@ -212,7 +212,7 @@ fn room_long(before: Verdict, sheet: &[u8], room: usize) -> Verdict
 
 // Tests 17, 11, 12, 13, 23, 14, 15, 21, 16.
 pub fn tests(sheet: &[u8], room: usize) -> Verdict
-    ensures { result ≡ sheetTests room sheet.now }
+    ensures { result ≡ sheet_tests room sheet.now }
 {
     let trailed = trailed(sheet);
     let counted = rows_fit(trailed, sheet);

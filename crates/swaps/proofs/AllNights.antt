@@ -7,6 +7,6 @@ use Rattle.swaps.specs.Walks.{walk}
 use Rattle.swaps.specs.Second.{dearest, second}
 use Rattle.swaps.specs.Nights.{answered, nights}
 
-pub all-answered : map answered nights ≡ nights
+pub all_answered : map answered nights ≡ nights
 unfolding turns upward until first table walk dearest second
-all-answered = refl
+all_answered = refl

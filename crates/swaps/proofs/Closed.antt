@@ -9,7 +9,7 @@ use lib.Dec.{ltb, leb, eqb}
 use borrow.Author.Tests.{ltb-true, leb-true, eqb-true, lt-ltb, le-leb}
 use Rattle.lists.proofs.Runs.{first_holds}
 use Rattle.lists.proofs.Injections.{source_of}
-use Rattle.swaps.specs.Walks.{Walk, Closed, place, place_of, last, onClosed, choice}
+use Rattle.swaps.specs.Walks.{Walk, Closed, place, place_of, last, on_closed, choice}
 use Rattle.swaps.proofs.Walks.{Leads, IsClosed, path-injective}
 
 module _ (nodes width : ℕ) (way : ℕ → ℕ → ℕ) (z : Closed) (c : IsClosed nodes width way z) where
@@ -36,15 +36,15 @@ module _ (nodes width : ℕ) (way : ℕ → ℕ → ℕ) (z : Closed) (c : IsClo
       by (no h) = let q : w.size - 1 ≡ k = omega arith in (z.from, c.from-below, rw q at c.back, inr (omega arith, refl))
 
   -- Each node leads to one of them,
-  pub in-next : (x : ℕ) → In x → Leads nodes width way w x (next x) × In (next x)
-  in-next x (k, l, m, e) =
+  pub in_next : (x : ℕ) → In x → Leads nodes width way w x (next x) × In (next x)
+  in_next x (k, l, m, e) =
       let f = after k l m in
       let g : Leads nodes width way w x (place w f.0) = rw e at f.2 in
       (record { below = g.below; there = refl }, (f.0, ⊎_elim (λ q. omega arith) (λ q. omega arith) f.3, f.1, sym g.there))
 
   -- each is led to from one,
-  pub in-before : (y : ℕ) → In y → (x : ℕ) × In x × (next x ≡ y)
-  in-before y (k, l, m, e) = by (ℕ_discrete k z.from)
+  pub in_before : (y : ℕ) → In y → (x : ℕ) × In x × (next x ≡ y)
+  in_before y (k, l, m, e) = by (ℕ_discrete k z.from)
     where
       by : Dec (k ≡ z.from) → (x : ℕ) × In x × (next x ≡ y)
       by (yes q) =
@@ -55,8 +55,8 @@ module _ (nodes width : ℕ) (way : ℕ → ℕ → ℕ) (z : Closed) (c : IsClo
           (place w (k - 1), (k - 1, omega arith, omega arith, refl), g.there ∙ ap (place w) q ∙ e)
 
   -- and two do not lead to the same.
-  pub in-apart : (x y : ℕ) → In x → In y → next x ≡ next y → x ≡ y
-  in-apart x y (k, l, m, e) (j, g, h, d) q =
+  pub in_apart : (x y : ℕ) → In x → In y → next x ≡ next y → x ≡ y
+  in_apart x y (k, l, m, e) (j, g, h, d) q =
       let f = after k l m in
       let t = after j g h in
       let same : f.0 ≡ t.0 =
@@ -66,15 +66,15 @@ module _ (nodes width : ℕ) (way : ℕ → ℕ → ℕ) (z : Closed) (c : IsClo
       sym e ∙ ap (place w) r ∙ d
 
   -- It has a node, and its nodes are nodes.
-  pub in-first : In (place w z.from)
-  in-first = (z.from, omega arith, c.from-below, refl)
+  pub in_first : In (place w z.from)
+  in_first = (z.from, omega arith, c.from-below, refl)
 
-  pub in-below : (x : ℕ) → In x → x < nodes
-  in-below x (k, l, m, e) = omega (arith, c.sound.inside k m)
+  pub in_below : (x : ℕ) → In x → x < nodes
+  in_below x (k, l, m, e) = omega (arith, c.sound.inside k m)
 
   -- The test tells them.
-  pub closed-true : (x : ℕ) → onClosed z x ≡ true → In x
-  closed-true x t =
+  pub closed_true : (x : ℕ) → on_closed z x ≡ true → In x
+  closed_true x t =
       let b = (and-eq-true_iff (leb z.from (place_of w x)) (ltb (place_of w x) w.size)).0 t in
       let m = ltb-true (place_of w x) w.size b.1 in (
         place_of w x,
@@ -83,8 +83,8 @@ module _ (nodes width : ℕ) (way : ℕ → ℕ → ℕ) (z : Closed) (c : IsClo
         eqb-true (place w (place_of w x)) x (first_holds (λ k. eqb (place w k) x) w.size m),
       )
 
-  pub closed-make : (x : ℕ) → In x → onClosed z x ≡ true
-  closed-make x (k, l, m, e) =
+  pub closed_make : (x : ℕ) → In x → on_closed z x ≡ true
+  closed_make x (k, l, m, e) =
       let q : place_of w x ≡ k = ap (place_of w) (sym e) ∙ source_of (path-injective nodes width way w c.sound) k m in
       (and-eq-true_iff (leb z.from (place_of w x)) (ltb (place_of w x) w.size)).1
       (le-leb z.from (place_of w x) (omega arith), lt-ltb (place_of w x) w.size (omega arith))

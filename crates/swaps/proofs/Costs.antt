@@ -13,16 +13,16 @@ use lib.ListN.{take}
 use borrow.Author.Tests.{le-ltb}
 use Rattle.lists.specs.Runs.{Turn, on, left, until}
 use Rattle.lists.specs.Permutations.{at}
-use Rattle.lists.proofs.Tables.{table-cong}
+use Rattle.lists.proofs.Tables.{table_cong}
 use Rattle.matrix.proofs.First.{first_cong}
 use Rattle.assignment.specs.Pairings.{Night, Pairing}
-use Rattle.assignment.specs.Amounts.{withCosts}
+use Rattle.assignment.specs.Amounts.{with_costs}
 use Rattle.assignment.specs.Prices.{priced}
 use Rattle.assignment.proofs.Amounts.{pairing-same}
 use Rattle.assignment.proofs.Longer.{at_first}
 use Rattle.checker.specs.Proven.{Shown}
-use Rattle.swaps.specs.Walks.{Walk, Closed, last, onClosed, unseen, live, begin, goTo, finish, choice, goFrom, turn, walk}
-use Rattle.swaps.specs.Second.{also, nodes, behind, dearest, fits, spareWay, way, answer, second}
+use Rattle.swaps.specs.Walks.{Walk, Closed, last, on_closed, unseen, live, begin, go_to, finish, choice, go_from, turn, walk}
+use Rattle.swaps.specs.Second.{also, nodes, behind, dearest, fits, spare_way, way, answer, second}
 
 -- A test that is asked only where another has passed.
 and_same : (t a b rest : Bool) → (t ≡ true → a ≡ b) → (t && a && rest) ≡ (t && b && rest)
@@ -34,11 +34,11 @@ module _ (count width : ℕ) (f g : ℕ → ℕ → ℕ) (same : (x c : ℕ) →
   choice-same : (w : Walk) (x : ℕ) → choice count width f w x ≡ choice count width g w x
   choice-same w x = first_cong width (λ c. live count w (f x c)) (λ c. live count w (g x c)) (λ c l. ap (live count w) (same x c l))
 
-  from-same : (x : ℕ) (w : Walk) → goFrom count width f x w ≡ goFrom count width g x w
-  from-same x w = ap (λ (c : ℕ). cond (ltb c width) (goTo (f x c) w) (on (finish x w))) (choice-same w x) ∙ by (choice count width g w x) (dec_lt (choice count width g w x) width)
+  from-same : (x : ℕ) (w : Walk) → go_from count width f x w ≡ go_from count width g x w
+  from-same x w = ap (λ (c : ℕ). cond (ltb c width) (go_to (f x c) w) (on (finish x w))) (choice-same w x) ∙ by (choice count width g w x) (dec_lt (choice count width g w x) width)
     where
-      by : (c : ℕ) → Dec (c < width) → cond (ltb c width) (goTo (f x c) w) (on (finish x w)) ≡ cond (ltb c width) (goTo (g x c) w) (on (finish x w))
-      by c (yes l) = ap (λ (y : ℕ). cond (ltb c width) (goTo y w) (on (finish x w))) (same x c l)
+      by : (c : ℕ) → Dec (c < width) → cond (ltb c width) (go_to (f x c) w) (on (finish x w)) ≡ cond (ltb c width) (go_to (g x c) w) (on (finish x w))
+      by c (yes l) = ap (λ (y : ℕ). cond (ltb c width) (go_to y w) (on (finish x w))) (same x c l)
       by c (no l) = rw (le-ltb c width (omega arith))
 
   turn-same : (w : Walk) → turn count width f w ≡ turn count width g w
@@ -49,15 +49,15 @@ module _ (count width : ℕ) (f g : ℕ → ℕ → ℕ) (same : (x c : ℕ) →
   walk_same = ap (λ (t : Walk → Turn Walk Closed). until 0 (count + count) (λ k w. t w) (unseen count)) (fun_ext turn-same)
 
 module _ (night : Night) (cost : ℕ → ℕ → ℤ)
-    (same : (i j : ℕ) → i < night.rowCount → j < night.columnCount → night.allowed i j ≡ true → cost i j ≡ night.cost i j) (us vs : List ℤ) (cols : List ℕ) where
+    (same : (i j : ℕ) → i < night.row_count → j < night.column_count → night.allowed i j ≡ true → cost i j ≡ night.cost i j) (us vs : List ℤ) (cols : List ℕ) where
   abbrev m : ℕ
-  m = night.rowCount
+  m = night.row_count
 
   abbrev n : ℕ
-  n = night.columnCount
+  n = night.column_count
 
   abbrev other : Night
-  other = withCosts night cost
+  other = with_costs night cost
 
   fits-same : (i j : ℕ) → i < m → j < n → fits other us vs cols i j ≡ fits night us vs cols i j
   unfolding dearest
@@ -68,7 +68,7 @@ module _ (night : Night) (cost : ℕ → ℕ → ℤ)
   way_same x c l = by (dec_lt x m)
     where
       by : Dec (x < m) → way other us vs cols x c ≡ way night us vs cols x c
-      by (yes h) = ap (λ (t : Bool). cond (ltb x m) (cond (not (eqb (behind night cols c) x) && t) (behind night cols c) (nodes night)) (spareWay night us vs cols c)) (fits-same x c h l)
+      by (yes h) = ap (λ (t : Bool). cond (ltb x m) (cond (not (eqb (behind night cols c) x) && t) (behind night cols c) (nodes night)) (spare_way night us vs cols c)) (fits-same x c h l)
       by (no h) = rw (le-ltb x m (omega arith))
 
   pub second-same : second other us vs cols ≡ second night us vs cols
@@ -81,9 +81,9 @@ module _ (night : Night) (cost : ℕ → ℕ → ℤ)
       by (on w) = refl
       by (left z) =
           ap also
-          (table-cong m (λ i. cond (onClosed z i) (choice (nodes night) n (way other us vs cols) z.walk i) (at cols i))
-          (λ i. cond (onClosed z i) (choice (nodes night) n (way night us vs cols) z.walk i) (at cols i))
-          (λ i l. ap (λ (c : ℕ). cond (onClosed z i) c (at cols i)) (choice-same (nodes night) n (way other us vs cols) (way night us vs cols) way_same z.walk i)))
+          (table_cong m (λ i. cond (on_closed z i) (choice (nodes night) n (way other us vs cols) z.walk i) (at cols i))
+          (λ i. cond (on_closed z i) (choice (nodes night) n (way night us vs cols) z.walk i) (at cols i))
+          (λ i l. ap (λ (c : ℕ). cond (on_closed z i) c (at cols i)) (choice-same (nodes night) n (way other us vs cols) (way night us vs cols) way_same z.walk i)))
 
   pub shown-same : Shown night cols us vs → Shown other cols us vs
   shown-same s =
@@ -92,7 +92,7 @@ module _ (night : Night) (cost : ℕ → ℕ → ℤ)
         pairing = (pairing-same night cost (take m cols)).0 p;
         feasible = record { under = λ i j h l a. rw (same i j h l a) (s.feasible.under i j h l a) };
         tight = record { met = λ i h. s.tight.met i h ∙ sym (at_pair p i h) };
-        spares = record { not-below = s.spares.not-below };
+        spares = record { not_below = s.spares.not_below };
       }
     where
       at_pair : Pairing night (take m cols) → (i : ℕ) → i < m → cost i (at cols i) ≡ night.cost i (at cols i)

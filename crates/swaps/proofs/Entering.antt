@@ -13,7 +13,7 @@ use Rattle.assignment.specs.Prices.{SparesNotBelow}
 use Rattle.assignment.proofs.Pairings.{pairing-injective}
 use Rattle.assignment.proofs.Square.{square-spares}
 use Rattle.assignment.proofs.Longer.{at_first, spares-first}
-use Rattle.bars.specs.Barred.{nightOf, barred}
+use Rattle.bars.specs.Barred.{night_of, barred}
 use Rattle.bars.proofs.Passed.{square-unbarred}
 use Rattle.matrix.specs.Asked.{ColumnsListed}
 use Rattle.matrix.specs.Limits.{side}
@@ -21,33 +21,33 @@ use Rattle.matrix.specs.Verdicts.{Passes}
 use Rattle.matrix.specs.declared.Refusal.{Refusal}
 use Rattle.matrix.specs.declared.Verdict.{Verdict}
 use Rattle.matrix.specs.declared.Verdict.TheVariants.{Fails}
-use Rattle.matrix.proofs.SmallLimits.{sheetSide-within}
-use Rattle.matrix.proofs.Verdicts.{then-iff}
-use Rattle.matrix.proofs.Passed.{list-long, rooms-long}
-use Rattle.checker.specs.Check.{checks, checksBarred, checksOblong}
+use Rattle.matrix.proofs.SmallLimits.{sheet_side-within}
+use Rattle.matrix.proofs.Verdicts.{then_iff}
+use Rattle.matrix.proofs.Passed.{list-long, rooms_long_lem}
+use Rattle.checker.specs.Check.{checks, checks_barred, checks_oblong}
 use Rattle.checker.specs.Proven.{Prices, Shown}
-use Rattle.checker.proofs.Accepted.{checks-iff}
-use Rattle.checker.proofs.Least.{proven-shown}
-use Rattle.checker.proofs.Barred.{checks-barred-iff, barred-pairing}
-use Rattle.checker.proofs.Oblong.{checks-oblong-iff, oblong-pairing}
+use Rattle.checker.proofs.Accepted.{checks_iff}
+use Rattle.checker.proofs.Least.{proven_shown}
+use Rattle.checker.proofs.Barred.{checks_barred_iff, barred-pairing}
+use Rattle.checker.proofs.Oblong.{checks_oblong_iff, oblong_pairing}
 use Rattle.swaps.specs.Found.{CanFindIn, FoundIn}
-use Rattle.swaps.specs.Entries.{Lent, lent_of, outcomeOf, outcome, lentLong, secondTests, secondBarredTests, secondOblongTests}
+use Rattle.swaps.specs.Entries.{Lent, lent_of, outcome_of, outcome, lent_long, second_tests, second_barred_tests, second_oblong_tests}
 use Rattle.swaps.specs.declared.Seconded.TheVariants.{Told, Refused}
 
 -- ---- any night
 
 module _ (m n : ℕ) (costs : List ℤ) (bars cols : List ℕ) (us vs : List ℤ) (lent : Lent) where
   abbrev night : Night
-  night = nightOf m n costs bars
+  night = night_of m n costs bars
 
   abbrev Can : Type 0
   Can = CanFindIn m n costs bars cols us vs lent.list lent.indices lent.numbers
 
   -- A pairing that its prices show to be least, and lists that are long enough.
-  can-find : n ≤ side → length costs ≡ m * n → m ≤ length cols → Prices m us → Prices n vs → Shown night cols us vs → Passes (lentLong m n lent) → Can
-  can-find small filled listed row-prices column-prices shown long =
-      let t = (then-iff _ _).0 long in
-      let r = (rooms-long n (length lent.indices) (length lent.numbers)).0 t.1 in
+  can_find : n ≤ side → length costs ≡ m * n → m ≤ length cols → Prices m us → Prices n vs → Shown night cols us vs → Passes (lent_long m n lent) → Can
+  can_find small filled listed row-prices column-prices shown long =
+      let t = (then_iff _ _).0 long in
+      let r = (rooms_long_lem n (length lent.indices) (length lent.numbers)).0 t.1 in
       record {
         small = small;
         filled = filled;
@@ -70,56 +70,56 @@ module _ (m n : ℕ) (costs : List ℤ) (bars cols : List ℕ) (us vs : List ℤ
   )
 
   -- An outcome, by its verdict.
-  pub refused-outcome : {verdict : Verdict} {refusal : Refusal} → verdict ≡ Fails refusal → outcomeOf (Refused refusal) lent ≡ outcome night cols us vs lent verdict
+  pub refused-outcome : {verdict : Verdict} {refusal : Refusal} → verdict ≡ Fails refusal → outcome_of (Refused refusal) lent ≡ outcome night cols us vs lent verdict
   unfolding outcome
   refused-outcome e = rw e
 
   pub told-outcome : {verdict : Verdict} → Passes verdict → {t : ℤ} → t ≡ total night cols → {r : Bool} {list indices : List ℕ} {numbers : List ℤ}
       → FoundIn m n costs bars cols us vs lent.list lent.indices lent.numbers r list indices numbers
-      → outcomeOf (Told (record { total = t; another = r })) (lent_of list indices numbers) ≡ outcome night cols us vs lent verdict
+      → outcome_of (Told (record { total = t; another = r })) (lent_of list indices numbers) ≡ outcome night cols us vs lent verdict
   unfolding outcome
-  told-outcome e d f = rw (e, d, f.told, f.written, f.indices-cleared, f.numbers-cleared)
+  told-outcome e d f = rw (e, d, f.told, f.written, f.indices_cleared, f.numbers_cleared)
 
 -- ---- the tests of each entry
 
 module _ (n : ℕ) (costs : List ℤ) (cols rows : List ℕ) (us vs : List ℤ) (lent : Lent) where
-  pub square-can-find : Passes (secondTests n costs cols rows us vs lent) → CanFindIn n n costs [] cols us vs lent.list lent.indices lent.numbers
-  unfolding secondTests checks
-  square-can-find passed =
-      let t = (then-iff _ _).0 passed in
-      let s = (then-iff _ _).0 t.0 in
-      let f = (checks-iff n costs cols rows us vs).0 ((then-iff _ _).1 (s.0, t.1)) in
-      can-find n n costs [] cols us vs lent f.sizes.small f.sizes.squared f.sizes.columns-listed f.row-prices f.column-prices
-      (subst (λ (night : Night). Shown night cols us vs) (sym (square-unbarred n costs)) (proven-shown n costs cols rows us vs f)) s.1
+  pub square_can_find : Passes (second_tests n costs cols rows us vs lent) → CanFindIn n n costs [] cols us vs lent.list lent.indices lent.numbers
+  unfolding second_tests checks
+  square_can_find passed =
+      let t = (then_iff _ _).0 passed in
+      let s = (then_iff _ _).0 t.0 in
+      let f = (checks_iff n costs cols rows us vs).0 ((then_iff _ _).1 (s.0, t.1)) in
+      can_find n n costs [] cols us vs lent f.sizes.small f.sizes.squared f.sizes.columns-listed f.row-prices f.column-prices
+      (subst (λ (night : Night). Shown night cols us vs) (sym (square-unbarred n costs)) (proven_shown n costs cols rows us vs f)) s.1
 
 module _ (n : ℕ) (costs : List ℤ) (cols rows : List ℕ) (us vs : List ℤ) (bars : List ℕ) (lent : Lent) where
   -- There are as many columns as rows: none is spare.
   barred-spares : Pairing (barred n costs bars) (take n cols) → SparesNotBelow (barred n costs bars) vs cols
   barred-spares p =
       let q : Pairing (square n costs) (take n cols) = record { size = p.size; inside = p.inside; apart = p.apart; permitted = λ i l. refl } in
-      (spares-first (barred n costs bars) cols vs).0 (record { not-below = (square-spares n costs vs (take n cols) q).not-below })
+      (spares-first (barred n costs bars) cols vs).0 (record { not_below = (square-spares n costs vs (take n cols) q).not_below })
 
-  pub barred-can-find : Passes (secondBarredTests n costs cols rows us vs bars lent) → CanFindIn n n costs bars cols us vs lent.list lent.indices lent.numbers
-  unfolding secondBarredTests checksBarred
-  barred-can-find passed =
-      let t = (then-iff _ _).0 passed in
-      let p = (then-iff _ _).0 t.0 in
-      let s = (then-iff _ _).0 p.0 in
-      let h = (checks-barred-iff n costs bars cols rows us vs).0 ((then-iff _ _).1 ((then-iff _ _).1 (s.0, p.1), t.1)) in
+  pub barred_can_find : Passes (second_barred_tests n costs cols rows us vs bars lent) → CanFindIn n n costs bars cols us vs lent.list lent.indices lent.numbers
+  unfolding second_barred_tests checks_barred
+  barred_can_find passed =
+      let t = (then_iff _ _).0 passed in
+      let p = (then_iff _ _).0 t.0 in
+      let s = (then_iff _ _).0 p.0 in
+      let h = (checks_barred_iff n costs bars cols rows us vs).0 ((then_iff _ _).1 ((then_iff _ _).1 (s.0, p.1), t.1)) in
       let f = h.0 in
       let pairing = barred-pairing n costs bars cols rows f in
-      can-find n n costs bars cols us vs lent (le_trans f.small sheetSide-within) f.squared f.columns-listed h.1.row-prices h.1.column-prices
+      can_find n n costs bars cols us vs lent (le_trans f.small sheet_side-within) f.squared f.columns-listed h.1.row-prices h.1.column-prices
       (record { pairing = pairing; feasible = h.1.feasible; tight = h.2; spares = barred-spares pairing }) s.1
 
 module _ (m n : ℕ) (costs : List ℤ) (cols : List ℕ) (us vs : List ℤ) (lent : Lent) where
-  pub oblong-can-find : Passes (secondOblongTests m n costs cols us vs lent) → CanFindIn m n costs [] cols us vs lent.list lent.indices lent.numbers
-  unfolding secondOblongTests checksOblong
-  oblong-can-find passed =
-      let t27 = (then-iff _ _).0 passed in
-      let t = (then-iff _ _).0 t27.0 in
-      let p = (then-iff _ _).0 t.0 in
-      let s = (then-iff _ _).0 p.0 in
-      let h = (checks-oblong-iff m n costs cols us vs).0 ((then-iff _ _).1 ((then-iff _ _).1 ((then-iff _ _).1 (s.0, p.1), t.1), t27.1)) in
+  pub oblong_can_find : Passes (second_oblong_tests m n costs cols us vs lent) → CanFindIn m n costs [] cols us vs lent.list lent.indices lent.numbers
+  unfolding second_oblong_tests checks_oblong
+  oblong_can_find passed =
+      let t27 = (then_iff _ _).0 passed in
+      let t = (then_iff _ _).0 t27.0 in
+      let p = (then_iff _ _).0 t.0 in
+      let s = (then_iff _ _).0 p.0 in
+      let h = (checks_oblong_iff m n costs cols us vs).0 ((then_iff _ _).1 ((then_iff _ _).1 ((then_iff _ _).1 (s.0, p.1), t.1), t27.1)) in
       let f = h.0 in
-      can-find m n costs [] cols us vs lent (le_trans f.small sheetSide-within) f.filled f.columns-listed h.1.row-prices h.1.column-prices
-      (record { pairing = oblong-pairing m n costs cols f; feasible = h.1.feasible; tight = h.2; spares = h.3 }) s.1
+      can_find m n costs [] cols us vs lent (le_trans f.small sheet_side-within) f.filled f.columns-listed h.1.row-prices h.1.column-prices
+      (record { pairing = oblong_pairing m n costs cols f; feasible = h.1.feasible; tight = h.2; spares = h.3 }) s.1

@@ -10,20 +10,20 @@ use lib.ListN.{take, drop, take-append-drop}
 use lib.Seq.{length-take-le}
 use Rattle.assignment.specs.Pairings.{Night}
 use Rattle.assignment.proofs.Longer.{tight-first, spares-first}
-use Rattle.bars.specs.Barred.{nightOf}
+use Rattle.bars.specs.Barred.{night_of}
 use Rattle.swaps.specs.Second.{Answer, only, also, second}
 use Rattle.swaps.specs.Rooms.{Fair}
-use Rattle.swaps.specs.Found.{another, writtenIn, writtenFront, CanFind, FoundBy, CanFindIn, FoundIn}
+use Rattle.swaps.specs.Found.{another, written_in, written_front, CanFind, FoundBy, CanFindIn, FoundIn}
 use Rattle.swaps.proofs.Longer.{second-first}
 
-front-written : (m : ℕ) (a : Answer) (list : List ℕ) → (writtenIn a (take m list) ++ drop m list) ≡ writtenFront m a list
-front-written m only list = take-append-drop m list
-front-written m (also other) list = refl
+front_written : (m : ℕ) (a : Answer) (list : List ℕ) → (written_in a (take m list) ++ drop m list) ≡ written_front m a list
+front_written m only list = take-append-drop m list
+front_written m (also other) list = refl
 
 module _ (m n : ℕ) (costs : List ℤ) (bars cols : List ℕ) (us vs : List ℤ) (list indices : List ℕ) (numbers : List ℤ)
     (h : CanFindIn m n costs bars cols us vs list indices numbers) where
   abbrev night : Night
-  night = nightOf m n costs bars
+  night = night_of m n costs bars
 
   fair : Fair m n costs bars (take m cols) us vs
   fair = record {
@@ -37,8 +37,8 @@ module _ (m n : ℕ) (costs : List ℤ) (bars cols : List ℕ) (us vs : List ℤ
     spares = (spares-first night cols vs).1 h.shown.spares;
   }
 
-  pub can-find : CanFind m n costs bars (take (m - 0) cols) us vs (take (m - 0) list) (take (4 * n - 0) indices) (take (n - 0) numbers)
-  can-find = rw (sub-zero m, sub-zero n, sub-zero (4 * n)) (record {
+  pub can_find : CanFind m n costs bars (take (m - 0) cols) us vs (take (m - 0) list) (take (4 * n - 0) indices) (take (n - 0) numbers)
+  can_find = rw (sub-zero m, sub-zero n, sub-zero (4 * n)) (record {
     fair = fair;
     list-size = length-take-le m list h.list-long;
     room-size = omega (arith, length-take-le (4 * n) indices h.indices-long);
@@ -57,7 +57,7 @@ module _ (m n : ℕ) (costs : List ℤ) (bars cols : List ℕ) (us vs : List ℤ
           → FoundIn m n costs bars cols us vs list indices numbers r (list' ++ drop m list) (room' ++ drop (4 * n) indices) (numbers' ++ drop n numbers)
       by f = record {
         told = f.searched.told ∙ ap another same;
-        written = ap (λ (l : List ℕ). l ++ drop m list) (f.searched.written ∙ ap (λ (a : Answer). writtenIn a (take m list)) same) ∙ front-written m (second night us vs cols) list;
-        indices-cleared = ap (λ (l : List ℕ). l ++ drop (4 * n) indices) f.room-cleared;
-        numbers-cleared = ap (λ (l : List ℤ). l ++ drop n numbers) f.numbers-cleared;
+        written = ap (λ (l : List ℕ). l ++ drop m list) (f.searched.written ∙ ap (λ (a : Answer). written_in a (take m list)) same) ∙ front_written m (second night us vs cols) list;
+        indices_cleared = ap (λ (l : List ℕ). l ++ drop (4 * n) indices) f.room_cleared;
+        numbers_cleared = ap (λ (l : List ℤ). l ++ drop n numbers) f.numbers_cleared;
       }

@@ -10,9 +10,9 @@ use lib.ListN.{length, set, length-set}
 use lib.Seq.{get_or-set_same, get_or-set_other, ext_get_or}
 use borrow.Author.Tests.{ne_eqb}
 use Rattle.lists.specs.Permutations.{at, table, Injective}
-use Rattle.lists.proofs.Runs.{first-none}
-use Rattle.lists.proofs.Tables.{length-table, getD-table}
-use Rattle.lists.proofs.Injections.{source, source_of, reached-or-not}
+use Rattle.lists.proofs.Runs.{first_none}
+use Rattle.lists.proofs.Tables.{length-table, get_d_table}
+use Rattle.lists.proofs.Injections.{source, source_of, reached_or_not}
 
 module _ (m n : ℕ) (cols : List ℕ) (inj : Injective m n (at cols)) where
   -- After i rows: each names itself at its column, and m stands at every other column.
@@ -21,11 +21,11 @@ module _ (m n : ℕ) (cols : List ℕ) (inj : Injective m n (at cols)) where
     pub named : (k : ℕ) → k < i → at rows (at cols k) ≡ k
     pub spare : (j : ℕ) → j < n → ((k : ℕ) → k < i → at cols k ≢ j) → at rows j ≡ m
 
-  pub listed-none : (rows : List ℕ) → rows ≡ table n (λ j. m) → Listed 0 rows
-  listed-none rows e = record {
+  pub listed_none : (rows : List ℕ) → rows ≡ table n (λ j. m) → Listed 0 rows
+  listed_none rows e = record {
     size = ap length e ∙ length-table n (λ j. m);
     named = λ k l. absurd (omega arith);
-    spare = λ j l u. ap (λ (r : List ℕ). at r j) e ∙ getD-table n (λ k. m) 0 j l;
+    spare = λ j l u. ap (λ (r : List ℕ). at r j) e ∙ get_d_table n (λ k. m) 0 j l;
   }
 
   pub listed_more : (i : ℕ) (rows : List ℕ) → i < m → Listed i rows → Listed (i + 1) (set rows (at cols i) i)
@@ -38,13 +38,13 @@ module _ (m n : ℕ) (cols : List ℕ) (inj : Injective m n (at cols)) where
     spare = λ j b u. get_or-set_other rows (at cols i) j i 0 (λ e. u i (omega arith) (sym e)) ∙ h.spare j b (λ k g. u k (omega arith));
   }
 
-  pub listed-all : (rows : List ℕ) → Listed m rows → rows ≡ table n (λ j. source (at cols) m j)
-  listed-all rows h =
+  pub listed_all : (rows : List ℕ) → Listed m rows → rows ≡ table n (λ j. source (at cols) m j)
+  listed_all rows h =
       ext_get_or 0 rows (table n (λ j. source (at cols) m j)) (h.size ∙ sym (length-table n (λ j. source (at cols) m j)))
-      (λ j l. at_row j (omega (arith, h.size)) ∙ sym (getD-table n (λ j. source (at cols) m j) 0 j (omega (arith, h.size))))
+      (λ j l. at_row j (omega (arith, h.size)) ∙ sym (get_d_table n (λ j. source (at cols) m j) 0 j (omega (arith, h.size))))
     where
       at_row : (j : ℕ) → j < n → at rows j ≡ source (at cols) m j
       at_row j l = ⊎_elim
           (λ r. ap (at rows) (sym r.2) ∙ h.named r.0 r.1 ∙ sym (ap (source (at cols) m) (sym r.2) ∙ source_of inj r.0 r.1))
-          (λ u. h.spare j l u ∙ sym (first-none (λ i. eqb (at cols i) j) m (λ i b. ne_eqb (at cols i) j (u i b))))
-          (reached-or-not (at cols) m j)
+          (λ u. h.spare j l u ∙ sym (first_none (λ i. eqb (at cols i) j) m (λ i b. ne_eqb (at cols i) j (u i b))))
+          (reached_or_not (at cols) m j)

@@ -12,17 +12,17 @@ use lib.ListN.{take}
 use borrow.Author.Tests.{lt-ltb, le-ltb}
 use Rattle.lists.specs.Runs.{Turn, on, left, upward}
 use Rattle.lists.specs.Permutations.{at}
-use Rattle.lists.proofs.Runs.{upward-cong}
-use Rattle.lists.proofs.Tables.{table-cong}
+use Rattle.lists.proofs.Runs.{upward_cong}
+use Rattle.lists.proofs.Tables.{table_cong}
 use Rattle.matrix.proofs.First.{first_cong}
-use Rattle.assignment.specs.Pairings.{Night, signedAt}
+use Rattle.assignment.specs.Pairings.{Night, signed_at}
 use Rattle.assignment.proofs.Longer.{at_first}
-use Rattle.swaps.specs.Walks.{Walk, Closed, onClosed, choice, walk}
+use Rattle.swaps.specs.Walks.{Walk, Closed, on_closed, choice, walk}
 use Rattle.swaps.specs.Second.{also, nodes, behind, higher, dearest, way, answer, second}
 
 module _ (night : Night) (us vs : List ℤ) (cols : List ℕ) where
   abbrev m : ℕ
-  m = night.rowCount
+  m = night.row_count
 
   abbrev firsts : List ℕ
   firsts = take m cols
@@ -33,9 +33,9 @@ module _ (night : Night) (us vs : List ℤ) (cols : List ℕ) where
   dearest-first : 0 < m → dearest night vs firsts ≡ dearest night vs cols
   unfolding dearest
   dearest-first h =
-      upward-cong 0 m (higher vs firsts) (higher vs cols) (signedAt vs (at firsts 0))
-      (λ k t a b. ap (λ (x : ℕ). cond (lt_z t (signedAt vs x)) (signedAt vs x) t) (at_first night cols k b))
-      ∙ ap (λ (x : ℕ). upward 0 m (higher vs cols) (signedAt vs x)) (at_first night cols 0 h)
+      upward_cong 0 m (higher vs firsts) (higher vs cols) (signed_at vs (at firsts 0))
+      (λ k t a b. ap (λ (x : ℕ). cond (lt_z t (signed_at vs x)) (signed_at vs x) t) (at_first night cols k b))
+      ∙ ap (λ (x : ℕ). upward 0 m (higher vs cols) (signed_at vs x)) (at_first night cols 0 h)
 
   way-first : (x j : ℕ) → way night us vs firsts x j ≡ way night us vs cols x j
   way-first x j = by (dec_lt x m) (dec_lt j m)
@@ -51,13 +51,13 @@ module _ (night : Night) (us vs : List ℤ) (cols : List ℕ) where
   pub second-first : second night us vs firsts ≡ second night us vs cols
   unfolding second
   second-first =
-      by (walk (nodes night) night.columnCount (way night us vs firsts))
-      ∙ ap (λ (f : ℕ → ℕ → ℕ). answer night us vs cols (walk (nodes night) night.columnCount f)) same_way
+      by (walk (nodes night) night.column_count (way night us vs firsts))
+      ∙ ap (λ (f : ℕ → ℕ → ℕ). answer night us vs cols (walk (nodes night) night.column_count f)) same_way
     where
       by : (t : Turn Walk Closed) → answer night us vs firsts t ≡ answer night us vs cols t
       by (on w) = refl
       by (left z) =
           ap also
-          (table-cong m (λ i. cond (onClosed z i) (choice (nodes night) night.columnCount (way night us vs firsts) z.walk i) (at firsts i))
-          (λ i. cond (onClosed z i) (choice (nodes night) night.columnCount (way night us vs cols) z.walk i) (at cols i))
-          (λ i l. ap₂ (cond (onClosed z i)) (ap (λ (f : ℕ → ℕ → ℕ). choice (nodes night) night.columnCount f z.walk i) same_way) (at_first night cols i l)))
+          (table_cong m (λ i. cond (on_closed z i) (choice (nodes night) night.column_count (way night us vs firsts) z.walk i) (at firsts i))
+          (λ i. cond (on_closed z i) (choice (nodes night) night.column_count (way night us vs cols) z.walk i) (at cols i))
+          (λ i l. ap₂ (cond (on_closed z i)) (ap (λ (f : ℕ → ℕ → ℕ). choice (nodes night) night.column_count f z.walk i) same_way) (at_first night cols i l)))

@@ -15,9 +15,9 @@ use Rattle.ints.specs.Parts.{Within}
 use Rattle.ints.proofs.Shapes.{zlin}
 use Rattle.lists.specs.Permutations.{at}
 use Rattle.lists.proofs.Injections.{source_of}
-use Rattle.lists.proofs.Tables.{length-table, getD-table}
+use Rattle.lists.proofs.Tables.{length-table, get_d_table}
 use Rattle.lists.specs.Permutations.{table}
-use Rattle.assignment.specs.Pairings.{Night, Pairing, signedAt}
+use Rattle.assignment.specs.Pairings.{Night, Pairing, signed_at}
 use Rattle.assignment.proofs.Pairings.{pairing-injective}
 use Rattle.matrix.specs.Limits.{near}
 use Rattle.matrix.proofs.SmallLimits.{K-small}
@@ -33,15 +33,15 @@ module _ (night : Night) (vs : List ℤ) (cols : List ℕ) where
   abbrev own : ℕ → ℕ
   own j = behind night cols j
 
-  pub lowered-start : (w : Walk) (ts : List ℤ) → ts ≡ table night.columnCount (signedAt vs) → Prices night.columnCount vs → Lowered night vs cols w ts
-  lowered-start w ts e p = record {
-    size = ap length e ∙ length-table night.columnCount (signedAt vs);
+  pub lowered_start : (w : Walk) (ts : List ℤ) → ts ≡ table night.column_count (signed_at vs) → Prices night.column_count vs → Lowered night vs cols w ts
+  lowered_start w ts e p = record {
+    size = ap length e ∙ length-table night.column_count (signed_at vs);
     bounded = λ j l. let s = p.within j l in rw (same j l) (omega (zlin, K-small));
     kept = λ j l q. same j l;
   }
     where
-      same : (j : ℕ) → j < night.columnCount → signedAt ts j ≡ signedAt vs j
-      same j l = ap (λ (t : List ℤ). signedAt t j) e ∙ getD-table night.columnCount (signedAt vs) (pos 0) j l
+      same : (j : ℕ) → j < night.column_count → signed_at ts j ≡ signed_at vs j
+      same j l = ap (λ (t : List ℤ). signed_at t j) e ∙ get_d_table night.column_count (signed_at vs) (pos 0) j l
 
   pub lowered-entered : (w : Walk) (ts : List ℤ) (x : ℕ) → mark w x ≡ 0 → Lowered night vs cols w ts → Lowered night vs cols (enter x w) ts
   lowered-entered w ts x new h = record {
@@ -60,15 +60,15 @@ module _ (night : Night) (vs : List ℤ) (cols : List ℕ) where
         let d : own j ≢ x = λ e. q (ap (mark (finish x w)) e ∙ get_or-set_same w.marks x 2 0 inside) in
         (d, λ e. q (get_or-set_other w.marks x (own j) 2 0 d ∙ e))
 
-    pub lowered-finished : Lowered night vs cols (finish x w) (cond (ltb x night.rowCount) (set ts (at cols x) lowest) ts)
-    lowered-finished = by (dec_lt x night.rowCount)
+    pub lowered-finished : Lowered night vs cols (finish x w) (cond (ltb x night.row_count) (set ts (at cols x) lowest) ts)
+    lowered-finished = by (dec_lt x night.row_count)
       where
-        by : Dec (x < night.rowCount) → Lowered night vs cols (finish x w) (cond (ltb x night.rowCount) (set ts (at cols x) lowest) ts)
-        by (no l) = rw (le-ltb x night.rowCount (omega arith)) (record { size = h.size; bounded = h.bounded; kept = λ j b q. h.kept j b (other j q).1 })
-        by (yes l) = rw (lt-ltb x night.rowCount l) (record {
+        by : Dec (x < night.row_count) → Lowered night vs cols (finish x w) (cond (ltb x night.row_count) (set ts (at cols x) lowest) ts)
+        by (no l) = rw (le-ltb x night.row_count (omega arith)) (record { size = h.size; bounded = h.bounded; kept = λ j b q. h.kept j b (other j q).1 })
+        by (yes l) = rw (lt-ltb x night.row_count l) (record {
           size = length-set ts (at cols x) lowest ∙ h.size;
           bounded = λ j b. elim (ℕ_discrete j (at cols x)) [
-            | yes e ↦ rw (ap (signedAt (set ts (at cols x) lowest)) e ∙ get_or-set_same ts (at cols x) lowest (pos 0) (omega (arith, h.size))) lowest-near
+            | yes e ↦ rw (ap (signed_at (set ts (at cols x) lowest)) e ∙ get_or-set_same ts (at cols x) lowest (pos 0) (omega (arith, h.size))) lowest-near
             | no d ↦ rw (get_or-set_other ts (at cols x) j lowest (pos 0) d) (h.bounded j b)
           ];
           kept = λ j b q.

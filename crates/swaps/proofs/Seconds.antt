@@ -15,19 +15,19 @@ use borrow.Author.Tests.{ltb-true, eqb-true, not-true, not-false, lt-ltb}
 use Rattle.ints.proofs.Ranges.{zarith}
 use Rattle.lists.specs.Runs.{Turn, on, left, first}
 use Rattle.lists.specs.Permutations.{at, Injective}
-use Rattle.lists.proofs.Runs.{first-le, first_holds, first-before}
-use Rattle.lists.proofs.Leaving.{Either, goes_on, is-left}
-use Rattle.lists.proofs.Injections.{source, source_of, Reached, reached, reached-or-not, injective-fewer, pigeonhole}
-use Rattle.assignment.specs.Pairings.{Night, Pairing, total, Least, Spare, signedAt}
+use Rattle.lists.proofs.Runs.{first_le, first_holds, first-before}
+use Rattle.lists.proofs.Leaving.{Either, goes_on, is_left_lem}
+use Rattle.lists.proofs.Injections.{source, source_of, Reached, reached, reached_or_not, injective-fewer, pigeonhole}
+use Rattle.assignment.specs.Pairings.{Night, Pairing, total, Least, Spare, signed_at}
 use Rattle.assignment.specs.Prices.{Feasible, Tight, SparesNotBelow}
 use Rattle.assignment.proofs.Pairings.{pairing-injective}
 use Rattle.assignment.proofs.Duality.{prices-least, least-tight, least-spares}
 use Rattle.swaps.specs.Walks.{Walk, Closed, walk}
 use Rattle.swaps.specs.Second.{Answer, only, also, Another, Right, nodes, behind, way, answer, second}
 use Rattle.swaps.proofs.Walks.{IsClosed}
-use Rattle.swaps.proofs.Turns.{walk-ok}
-use Rattle.swaps.proofs.Ways.{rows-nodes, spare-node, behind-le, behind-row, behind-spare, row-make, spare-make}
-use Rattle.swaps.proofs.Moved.{used-top, spare-top, moved-another}
+use Rattle.swaps.proofs.Turns.{walk_ok}
+use Rattle.swaps.proofs.Ways.{rows-nodes, spare_node, behind_le, behind-row, behind_spare, row_make, spare_make}
+use Rattle.swaps.proofs.Moved.{used_top, spare_top, moved-another}
 
 -- Of two injections, where g reaches something that f does not, f reaches something that g does not.
 unreached : {m n : ℕ} {f g : ℕ → ℕ} → Injective m n f → Injective m n g → (x : ℕ) → x < m → ((i : ℕ) → i < m → f i ≢ g x)
@@ -50,25 +50,25 @@ unreached {m} {n} {f} {g} p q x hx none = by (dec_lt lost m)
         true≢false (sym (lt-ltb (h lost) m (omega arith)) ∙ not-true (ltb (h lost) m) (first_holds test m l))
 
     below : (lost < m → ⊥) → (y : ℕ) → y < m → h y < m
-    below l y a = ltb-true (h y) m (not-false (ltb (h y) m) (first-before test m y (omega (arith, first-le test m))))
+    below l y a = ltb-true (h y) m (not-false (ltb (h y) m) (first-before test m y (omega (arith, first_le test m))))
 
-    at-h : (lost < m → ⊥) → (y : ℕ) → y < m → g (h y) ≡ f y
-    at-h l y a = eqb-true (g (h y)) (f y) (first_holds (λ i. eqb (g i) (f y)) m (below l y a))
+    at_h : (lost < m → ⊥) → (y : ℕ) → y < m → g (h y) ≡ f y
+    at_h l y a = eqb-true (g (h y)) (f y) (first_holds (λ i. eqb (g i) (f y)) m (below l y a))
 
     by : Dec (lost < m) → (y : ℕ) × (y < m) × ((i : ℕ) → i < m → g i ≢ f y)
-    by (yes l) = (lost, l, ⊎_elim (λ r. absurd (out l r)) (λ u. u) (reached-or-not g m (f lost)))
+    by (yes l) = (lost, l, ⊎_elim (λ r. absurd (out l r)) (λ u. u) (reached_or_not g m (f lost)))
     by (no l) =
-        let i : Injective m m h = record { below = below l; once = λ y b ly lb e. p.once y b ly lb (sym (at-h l y ly) ∙ ap g e ∙ at-h l b lb) } in
+        let i : Injective m m h = record { below = below l; once = λ y b ly lb e. p.once y b ly lb (sym (at_h l y ly) ∙ ap g e ∙ at_h l b lb) } in
         let r = reached i x hx in
-        absurd (none r.0 r.1 (sym (at-h l r.0 r.1) ∙ ap g r.2))
+        absurd (none r.0 r.1 (sym (at_h l r.0 r.1) ∙ ap g r.2))
 
 module _ (night : Night) (us vs : List ℤ) (fair : Feasible night us vs) (cols : List ℕ) (p : Pairing night cols) (tight : Tight night us vs cols)
     (spares : SparesNotBelow night vs cols) where
   abbrev m : ℕ
-  m = night.rowCount
+  m = night.row_count
 
   abbrev n : ℕ
-  n = night.columnCount
+  n = night.column_count
 
   abbrev N : ℕ
   N = nodes night
@@ -85,18 +85,18 @@ module _ (night : Night) (us vs : List ℤ) (fair : Feasible night us vs) (cols 
     least_other : Least night other
     least_other = record { pairing = q; least = λ o r. omega (zarith, (prices-least night us vs fair cols p tight spares).least o r) }
 
-    tight-other : Tight night us vs other
-    tight-other = least-tight night us vs fair cols p tight spares other least_other
+    tight_other : Tight night us vs other
+    tight_other = least-tight night us vs fair cols p tight spares other least_other
 
-    spares-other : SparesNotBelow night vs other
-    spares-other = least-spares night us vs fair cols p tight spares other least_other
+    spares_other : SparesNotBelow night vs other
+    spares_other = least-spares night us vs fair cols p tight spares other least_other
 
     -- Where the other uses a spare column, it leaves a used one, whose price is not lower.
     lost : (x : ℕ) → x < m → m ≤ own (at other x)
-        → (y : ℕ) × (y < m) × Spare night other (at cols y) × (signedAt vs (at other x) ≤ℤ signedAt vs (at cols y))
+        → (y : ℕ) × (y < m) × Spare night other (at cols y) × (signed_at vs (at other x) ≤ℤ signed_at vs (at cols y))
     lost x h s =
-        let u = unreached (pairing-injective night cols p) (pairing-injective night other q) x h (behind-spare night us vs cols (at other x) s) in
-        (u.0, u.1, u.2, spares-other.not-below x (at cols u.0) h (p.inside u.0 u.1) u.2)
+        let u = unreached (pairing-injective night cols p) (pairing-injective night other q) x h (behind_spare night us vs cols (at other x) s) in
+        (u.0, u.1, u.2, spares_other.not_below x (at cols u.0) h (p.inside u.0 u.1) u.2)
 
     -- A row has its column; the spare columns are spare.
     abbrev Kept : ℕ → Type 0
@@ -104,23 +104,23 @@ module _ (night : Night) (us vs : List ℤ) (fair : Feasible night us vs) (cols 
 
     module _ (x : ℕ) (all : (j : ℕ) → j < n → go x j < N → Kept (go x j)) where
       -- The other's column of row x is another, and used: then the row that uses it has moved too.
-      not-used : (h : x < m) → at other x ≢ at cols x → own (at other x) < m → ⊥
-      not-used h d l =
+      not_used : (h : x < m) → at other x ≢ at cols x → own (at other x) < m → ⊥
+      not_used h d l =
           let j = at other x in
           let b = behind-row night us vs cols j l in
-          let e = row-make night us vs cols x j h (λ o. d (sym b ∙ ap (at cols) o)) (q.permitted x h) (omega (zarith, tight-other.met x h)) (inl l) in
+          let e = row_make night us vs cols x j h (λ o. d (sym b ∙ ap (at cols) o)) (q.permitted x h) (omega (zarith, tight_other.met x h)) (inl l) in
           let k : Kept (own j) = rw e at (all j (q.inside x h) (omega (arith, e, rows-nodes night))) in
           d (sym b ∙ ap (at cols) (q.apart (own j) x l h (k.0 l ∙ b)))
 
       -- It is spare: then the spare columns are not.
-      not-spare : (h : x < m) → m ≤ own (at other x) → ⊥
-      not-spare h l =
+      not_spare : (h : x < m) → m ≤ own (at other x) → ⊥
+      not_spare h l =
           let j = at other x in
           let g = lost x h l in
-          let w : own j ≡ m = omega (arith, behind-le night us vs cols j) in
-          let e = row-make night us vs cols x j h (λ o. omega arith) (q.permitted x h) (omega (zarith, tight-other.met x h))
-          (inr (omega (zarith, g.3, used-top night us vs fair cols p tight spares g.0 g.1))) in
-          let k : Kept (own j) = rw e at (all j (q.inside x h) (omega (arith, e, spare-node night some))) in
+          let w : own j ≡ m = omega (arith, behind_le night us vs cols j) in
+          let e = row_make night us vs cols x j h (λ o. omega arith) (q.permitted x h) (omega (zarith, tight_other.met x h))
+          (inr (omega (zarith, g.3, used_top night us vs fair cols p tight spares g.0 g.1))) in
+          let k : Kept (own j) = rw e at (all j (q.inside x h) (omega (arith, e, spare_node night some))) in
           omega (arith, k.1 (omega arith) x h)
         where
           some : m < n
@@ -128,15 +128,15 @@ module _ (night : Night) (us vs : List ℤ) (fair : Feasible night us vs) (cols 
             | yes s ↦ s
             | no s ↦
                 let r = reached (injective-fewer {m = m} {n = n} {f = at cols} (omega arith) (pairing-injective night cols p)) (at other x) (q.inside x h) in
-                absurd (behind-spare night us vs cols (at other x) l r.0 (omega (arith, r.1)) r.2)
+                absurd (behind_spare night us vs cols (at other x) l r.0 (omega (arith, r.1)) r.2)
           ]
 
       -- A spare column is used: then a row whose column has the highest price has moved.
       spares-kept : m ≤ x → (i : ℕ) → i < m → m ≤ own (at other i) → ⊥
       spares-kept h i l s =
           let g = lost i l s in
-          let t = spare-top night us vs fair cols p tight spares (omega arith) (at other i) (q.inside i l) (behind-spare night us vs cols (at other i) s) in
-          let e = spare-make night us vs cols x g.0 h g.1 (omega (zarith, g.3, t)) in
+          let t = spare_top night us vs fair cols p tight spares (omega arith) (at other i) (q.inside i l) (behind_spare night us vs cols (at other i) s) in
+          let e = spare_make night us vs cols x g.0 h g.1 (omega (zarith, g.3, t)) in
           let k : Kept g.0 = rw e at (all g.0 (omega (arith, g.1, pigeonhole (pairing-injective night cols p))) (omega (arith, e, g.1, rows-nodes night))) in
           g.2 g.0 g.1 (k.0 g.1)
 
@@ -144,7 +144,7 @@ module _ (night : Night) (us vs : List ℤ) (fair : Feasible night us vs) (cols 
       kept = (
         λ h. elim (ℕ_discrete (at other x) (at cols x)) [
           | yes e ↦ e
-          | no d ↦ elim (dec_lt (own (at other x)) m) [ yes l ↦ absurd (not-used h d l) | no l ↦ absurd (not-spare h (omega arith)) ]
+          | no d ↦ elim (dec_lt (own (at other x)) m) [ yes l ↦ absurd (not_used h d l) | no l ↦ absurd (not_spare h (omega arith)) ]
         ],
         λ h i l. elim (dec_lt (own (at other i)) m) [ yes d ↦ d | no d ↦ absurd (spares-kept h i l (omega arith)) ],
       )
@@ -156,25 +156,25 @@ module _ (night : Night) (us vs : List ℤ) (fair : Feasible night us vs) (cols 
         (λ i l. let b : i < m = omega (arith, q.size) in (h i (omega (arith, rows-nodes night))).0 b)
 
   -- The answer keeps its promise: a second is another pairing with the same total, and where it is "only one" there is no other.
-  pub second-right : Right night cols (second night us vs cols)
+  pub second_right : Right night cols (second night us vs cols)
   unfolding second
-  second-right =
-      by (walk N n go) (λ other q same. walk-ok N n go (Kept other q same) (λ x h. kept other q same x)) (walk-ok N n go (λ x. Unit) (λ x h a. tt))
+  second_right =
+      by (walk N n go) (λ other q same. walk_ok N n go (Kept other q same) (λ x h. kept other q same x)) (walk_ok N n go (λ x. Unit) (λ x h a. tt))
     where
       by : (t : Turn Walk Closed)
           → ((other : List ℕ) (q : Pairing night other) (same : total night other ≡ total night cols)
           → Either (λ w. (x : ℕ) → x < N → Kept other q same x) (IsClosed N n go) t)
           → Either (λ w. (x : ℕ) → x < N → Unit) (IsClosed N n go) t → Right night cols (answer night us vs cols t)
       by (on w) f g = λ other q same. agrees other q same (f other q same)
-      by (left z) f (is-left c) = moved-another night us vs fair cols p tight spares z c
+      by (left z) f (is_left_lem c) = moved-another night us vs fair cols p tight spares z c
 
   -- "a second pairing with the same total"
   pub second-also : (other : List ℕ) → second night us vs cols ≡ also other → Another night cols other
-  second-also other e = subst (Right night cols) e second-right
+  second-also other e = subst (Right night cols) e second_right
 
   -- ""Only one" is given exactly if no other pairing reaches that total."
-  pub second-only-iff : (second night us vs cols ≡ only) ↔ ((other : List ℕ) → Pairing night other → total night other ≡ total night cols → other ≡ cols)
-  second-only-iff = (λ e. subst (Right night cols) e second-right, λ f. by f (second night us vs cols) second-right)
+  pub second_only_iff : (second night us vs cols ≡ only) ↔ ((other : List ℕ) → Pairing night other → total night other ≡ total night cols → other ≡ cols)
+  second_only_iff = (λ e. subst (Right night cols) e second_right, λ f. by f (second night us vs cols) second_right)
     where
       by : ((other : List ℕ) → Pairing night other → total night other ≡ total night cols → other ≡ cols) → (a : Answer) → Right night cols a → a ≡ only
       by f only r = refl

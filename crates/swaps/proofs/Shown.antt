@@ -9,10 +9,10 @@ use Rattle.assignment.proofs.Longer.{tight-first, spares-first}
 use Rattle.checker.specs.Proven.{Shown}
 use Rattle.swaps.specs.Second.{Right, second}
 use Rattle.swaps.proofs.Longer.{second-first}
-use Rattle.swaps.proofs.Seconds.{second-right}
+use Rattle.swaps.proofs.Seconds.{second_right}
 
-pub shown-right : (night : Night) (us vs : List ℤ) (cols : List ℕ) → Shown night cols us vs → Right night (take night.rowCount cols) (second night us vs cols)
-shown-right night us vs cols s =
-    let firsts = take night.rowCount cols in
+pub shown_right : (night : Night) (us vs : List ℤ) (cols : List ℕ) → Shown night cols us vs → Right night (take night.row_count cols) (second night us vs cols)
+shown_right night us vs cols s =
+    let firsts = take night.row_count cols in
     subst (Right night firsts) (second-first night us vs cols)
-    (second-right night us vs s.feasible firsts s.pairing ((tight-first night cols us vs).1 s.tight) ((spares-first night cols vs).1 s.spares))
+    (second_right night us vs s.feasible firsts s.pairing ((tight-first night cols us vs).1 s.tight) ((spares-first night cols vs).1 s.spares))

@@ -13,13 +13,13 @@ use lib.Seq.{get_or-set_same, get_or-set_other}
 use borrow.Author.Tests.{lt-ltb, le-ltb}
 use Rattle.lists.specs.Runs.{upward}
 use Rattle.lists.specs.Permutations.{at}
-use Rattle.lists.proofs.Runs.{upward-keeps}
-use Rattle.lists.proofs.Tables.{getD-table}
+use Rattle.lists.proofs.Runs.{upward_keeps}
+use Rattle.lists.proofs.Tables.{get_d_table}
 use Rattle.assignment.specs.Pairings.{Night}
-use Rattle.swaps.specs.Walks.{Closed, place, onClosed, choice}
+use Rattle.swaps.specs.Walks.{Closed, place, on_closed, choice}
 use Rattle.swaps.specs.Second.{nodes, way, moved}
 use Rattle.swaps.proofs.Walks.{IsClosed}
-use Rattle.swaps.proofs.Closed.{closed-true, closed-make}
+use Rattle.swaps.proofs.Closed.{closed_true, closed_make}
 
 -- At place k of a path: the value of its node, where that is below m.
 abbrev pub store : ℕ → (ℕ → ℕ) → (ℕ → ℕ) → ℕ → List ℕ → List ℕ
@@ -53,31 +53,31 @@ module _ (m from size : ℕ) (path value : ℕ → ℕ) (cols : List ℕ) (apart
 
   stores : Stored size (upward from size (store m path value) cols)
   stores =
-      upward-keeps Stored from size (store m path value) cols order
+      upward_keeps Stored from size (store m path value) cols order
       (record { long = refl; written = λ t f g e. absurd (omega arith); kept = λ i f. refl }) one
 
-module _ (night : Night) (us vs : List ℤ) (cols : List ℕ) (z : Closed) (c : IsClosed (nodes night) night.columnCount (way night us vs cols) z)
-    (enough : night.rowCount ≤ length cols) where
+module _ (night : Night) (us vs : List ℤ) (cols : List ℕ) (z : Closed) (c : IsClosed (nodes night) night.column_count (way night us vs cols) z)
+    (enough : night.row_count ≤ length cols) where
   abbrev chosen : ℕ → ℕ
-  chosen x = choice (nodes night) night.columnCount (way night us vs cols) z.walk x
+  chosen x = choice (nodes night) night.column_count (way night us vs cols) z.walk x
 
   abbrev written : List ℕ
-  written = upward z.from z.walk.size (store night.rowCount (place z.walk) chosen) cols
+  written = upward z.from z.walk.size (store night.row_count (place z.walk) chosen) cols
 
-  all : Stored night.rowCount z.from z.walk.size (place z.walk) chosen cols c.sound.apart (omega (arith, c.from-below)) enough z.walk.size written
-  all = stores night.rowCount z.from z.walk.size (place z.walk) chosen cols c.sound.apart (omega (arith, c.from-below)) enough
+  all : Stored night.row_count z.from z.walk.size (place z.walk) chosen cols c.sound.apart (omega (arith, c.from-below)) enough z.walk.size written
+  all = stores night.row_count z.from z.walk.size (place z.walk) chosen cols c.sound.apart (omega (arith, c.from-below)) enough
 
   pub stored-length : length written ≡ length cols
   stored-length = all.long
 
   -- The stores make the moved pairing.
-  pub stored_moved : (i : ℕ) → i < night.rowCount → at written i ≡ at (moved night us vs cols z) i
-  stored_moved i l = by (onClosed z i) refl ∙ sym (getD-table night.rowCount (λ k. cond (onClosed z k) (chosen k) (at cols k)) 0 i l)
+  pub stored_moved : (i : ℕ) → i < night.row_count → at written i ≡ at (moved night us vs cols z) i
+  stored_moved i l = by (on_closed z i) refl ∙ sym (get_d_table night.row_count (λ k. cond (on_closed z k) (chosen k) (at cols k)) 0 i l)
     where
-      by : (t : Bool) → onClosed z i ≡ t → at written i ≡ cond (onClosed z i) (chosen i) (at cols i)
+      by : (t : Bool) → on_closed z i ≡ t → at written i ≡ cond (on_closed z i) (chosen i) (at cols i)
       by true e =
-          let k = closed-true (nodes night) night.columnCount (way night us vs cols) z c i e in
+          let k = closed_true (nodes night) night.column_count (way night us vs cols) z c i e in
           rw e (subst (λ (x : ℕ). at written x ≡ chosen x) k.3 (all.written k.0 k.1 k.2 (omega (arith, k.3))))
       by false e =
           rw e
-          (all.kept i (λ t f g q. true≢false (sym (closed-make (nodes night) night.columnCount (way night us vs cols) z c i (t, f, g, q)) ∙ e)))
+          (all.kept i (λ t f g q. true≢false (sym (closed_make (nodes night) night.column_count (way night us vs cols) z c i (t, f, g, q)) ∙ e)))

@@ -12,30 +12,30 @@ use lib.ListN.{set}
 use borrow.Author.Tests.{lt-ltb, le-ltb, eq-eqb, ne_eqb, eqb-false}
 use Rattle.lists.specs.Runs.{Turn, on, left, first}
 use Rattle.lists.specs.Permutations.{at}
-use Rattle.lists.proofs.Runs.{first-le, first_holds}
+use Rattle.lists.proofs.Runs.{first_le, first_holds}
 use Rattle.lists.proofs.Parts.{part_at}
 use Rattle.lists.proofs.Injections.{pigeonhole}
 use Rattle.assignment.specs.Pairings.{Night}
-use Rattle.bars.specs.Barred.{nightOf}
+use Rattle.bars.specs.Barred.{night_of}
 use Rattle.matrix.proofs.First.{first_cong}
-use Rattle.swaps.specs.Walks.{Walk, Closed, mark, place, place_of, last, isDone, enter, finish, live, choice}
+use Rattle.swaps.specs.Walks.{Walk, Closed, mark, place, place_of, last, is_done, enter, finish, live, choice}
 use Rattle.swaps.specs.Second.{nodes, dearest, way}
-use Rattle.swaps.specs.Rooms.{Fair, CanChoose, CanGo, comeTo, entered, finished, advanced, firstOpen, place_in, overTo, goneTo, gone, Lowered, lowest, lowerAt, walk_of, turn_of, closed_in, Holds, Underway, TurnedTo}
+use Rattle.swaps.specs.Rooms.{Fair, CanChoose, CanGo, come_to, entered, finished, advanced, first_open, place_in, over_to, gone_to, gone, Lowered, lowest, lower_at, walk_of, turn_of, closed_in, Holds, Underway, TurnedTo}
 use Rattle.swaps.specs.declared.Turned.{Turned}
 use Rattle.swaps.specs.declared.Turned.TheVariants.{On, Back}
 use Rattle.swaps.proofs.Walks.{Sound, live-read, size_below, path-injective}
-use Rattle.swaps.proofs.Turns.{State, open-node, state-after}
-use Rattle.swaps.proofs.Ways.{row_read, spare-read}
+use Rattle.swaps.proofs.Turns.{State, open_node, state-after}
+use Rattle.swaps.proofs.Ways.{row_read, spare_read}
 use Rattle.swaps.proofs.Lowering.{lowered-entered, lowered-finished}
 use Rattle.swaps.proofs.Choosing.{nodes-columns, behind-node}
-use Rattle.swaps.proofs.Rooms.{walk-entered, walk-finished, walk-advanced, come-here, holds-advanced, holds-entered, holds-finished, come-chosen}
+use Rattle.swaps.proofs.Rooms.{walk-entered, walk-finished, walk-advanced, come_here, holds-advanced, holds-entered, holds-finished, come_chosen}
 
 module _ (m n : ℕ) (costs : List ℤ) (bars cols : List ℕ) (us vs ts : List ℤ) (fair : Fair m n costs bars cols us vs) (size : ℕ) (room : List ℕ)
-    (h : Holds (nightOf m n costs bars) us vs cols size room)
-    (lower : Lowered (nightOf m n costs bars) vs cols (walk_of (nightOf m n costs bars) us vs cols size room) ts)
-    (under : Underway (nightOf m n costs bars) us vs cols (walk_of (nightOf m n costs bars) us vs cols size room)) where
+    (h : Holds (night_of m n costs bars) us vs cols size room)
+    (lower : Lowered (night_of m n costs bars) vs cols (walk_of (night_of m n costs bars) us vs cols size room) ts)
+    (under : Underway (night_of m n costs bars) us vs cols (walk_of (night_of m n costs bars) us vs cols size room)) where
   abbrev night : Night
-  night = nightOf m n costs bars
+  night = night_of m n costs bars
 
   abbrev N : ℕ
   N = nodes night
@@ -74,16 +74,16 @@ module _ (m n : ℕ) (costs : List ℤ) (bars cols : List ℕ) (us vs ts : List 
 
   module _ (none : size ≡ 0) where
     abbrev x : ℕ
-    x = firstOpen n N room
+    x = first_open n N room
 
-    same-open : first N (λ y. not (isDone w y)) ≡ x
-    same-open = first_cong N (λ y. not (isDone w y)) (λ y. not (eqb (at room (n + n + y)) 2)) (λ y l. ap (λ (k : ℕ). not (eqb k 2)) (marked y l))
+    same_open : first N (λ y. not (is_done w y)) ≡ x
+    same_open = first_cong N (λ y. not (is_done w y)) (λ y. not (eqb (at room (n + n + y)) 2)) (λ y l. ap (λ (k : ℕ). not (eqb k 2)) (marked y l))
 
     opened : (x < N) × (mark w x ≡ 0)
-    opened = let o = open-node N n way_on under.0 w state under.1 none in (omega (arith, same-open, o.0), sym (ap (mark w) same-open) ∙ o.1)
+    opened = let o = open_node N n way_on under.0 w state under.1 none in (omega (arith, same_open, o.0), sym (ap (mark w) same_open) ∙ o.1)
 
-    pub open-below : x < N
-    open-below = opened.0
+    pub open_below : x < N
+    open_below = opened.0
 
     started : walk_of night us vs cols 1 (entered n size x room) ≡ enter x w
     started =
@@ -92,7 +92,7 @@ module _ (m n : ℕ) (costs : List ℤ) (bars cols : List ℕ) (us vs ts : List 
 
     pub begun : TurnedTo night us vs cols size room (On 1) (entered n size x room) ts
     begun = (
-      rw (eq-eqb size 0 none) (ap (λ (k : ℕ). on (enter k w)) same-open ∙ ap on (sym started)),
+      rw (eq-eqb size 0 none) (ap (λ (k : ℕ). on (enter k w)) same_open ∙ ap on (sym started)),
       (let one : suc size ≡ 1 = omega arith in
           subst (λ (k : ℕ). Holds night us vs cols k (entered n size x room)) one
           (holds-entered night us vs cols fewer size room h s x opened.0 opened.1 (λ g. absurd (omega arith)))),
@@ -106,7 +106,7 @@ module _ (m n : ℕ) (costs : List ℤ) (bars cols : List ℕ) (us vs ts : List 
     next = advanced n x c room
 
     abbrev y : ℕ
-    y = overTo m x c next
+    y = over_to m x c next
 
     same-walk : walk_of night us vs cols size next ≡ w
     same-walk = walk-advanced night us vs cols fewer size room x c
@@ -121,15 +121,15 @@ module _ (m n : ℕ) (costs : List ℤ) (bars cols : List ℕ) (us vs ts : List 
     sound : Sound N n way_on (walk_of night us vs cols size next)
     sound = subst (Sound N n way_on) (sym same-walk) s
 
-    come : comeTo n next x ≡ c
-    come = rw is-choice (come-here night us vs cols fewer size room h s x some is_last)
+    come : come_to n next x ≡ c
+    come = rw is-choice (come_here night us vs cols fewer size room h s x some is_last)
 
     -- How the turn ends where the choice leads to node k.
     abbrev onward : ℕ → Turn Walk Closed
     onward k = cond (eqb (mark w k) 1) (left (record { from = place_of w k; walk = w })) (on (enter k w))
 
-    turn-goes : turn_of night us vs cols w ≡ cond (ltb c n) (onward (way_on x c)) (on (finish x w))
-    turn-goes = rw (ne_eqb size 0 (λ e. omega arith), is-choice, is_last)
+    turn_goes : turn_of night us vs cols w ≡ cond (ltb c n) (onward (way_on x c)) (on (finish x w))
+    turn_goes = rw (ne_eqb size 0 (λ e. omega arith), is-choice, is_last)
 
     -- The node to which the choice leads.
     module _ (l : c < n) where
@@ -147,7 +147,7 @@ module _ (m n : ℕ) (costs : List ℤ) (bars cols : List ℕ) (us vs ts : List 
         where
           by : Dec (x < m) → y ≡ way_on x c
           by (yes b) = ap (λ (t : Bool). cond t (at next c) c) (lt-ltb x m b) ∙ held.columns c l ∙ sym (row_read night us vs cols x c b leads).leads
-          by (no b) = ap (λ (t : Bool). cond t (at next c) c) (le-ltb x m (omega arith)) ∙ sym (spare-read night us vs cols x c (omega arith) leads).0
+          by (no b) = ap (λ (t : Bool). cond t (at next c) c) (le-ltb x m (omega arith)) ∙ sym (spare_read night us vs cols x c (omega arith) leads).0
 
       node-mark : at next (n + n + y) ≡ mark w (way_on x c)
       node-mark =
@@ -159,9 +159,9 @@ module _ (m n : ℕ) (costs : List ℤ) (bars cols : List ℕ) (us vs ts : List 
     finished-walk : walk_of night us vs cols (size - 1) (finished n x next) ≡ finish x w
     finished-walk = walk-finished night us vs cols fewer size next x last-below ∙ ap (finish x) same-walk
 
-    gone-done : n ≤ c → TurnedTo night us vs cols size room (On (size - 1)) (finished n x next) (lowerAt m n cols x c ts)
-    gone-done l = (
-      turn-goes ∙ ap (λ (t : Bool). cond t (onward (way_on x c)) (on (finish x w))) (le-ltb c n l)
+    gone_done : n ≤ c → TurnedTo night us vs cols size room (On (size - 1)) (finished n x next) (lower_at m n cols x c ts)
+    gone_done l = (
+      turn_goes ∙ ap (λ (t : Bool). cond t (onward (way_on x c)) (on (finish x w))) (le-ltb c n l)
           ∙ ap on (sym finished-walk),
       holds-finished night us vs cols fewer size next held sound x some (is_last ∙ sym (ap last same-walk)),
       rw (le-ltb c n l)
@@ -180,8 +180,8 @@ module _ (m n : ℕ) (costs : List ℤ) (bars cols : List ℕ) (us vs ts : List 
       new : mark (walk_of night us vs cols size next) y ≡ 0
       new = ap₂ mark same-walk (same-node l) ∙ unseen
 
-      comes : (comeTo n next (last (walk_of night us vs cols size next)) < n)
-          × (way_on (last (walk_of night us vs cols size next)) (comeTo n next (last (walk_of night us vs cols size next))) ≡ y)
+      comes : (come_to n next (last (walk_of night us vs cols size next)) < n)
+          × (way_on (last (walk_of night us vs cols size next)) (come_to n next (last (walk_of night us vs cols size next))) ≡ y)
       comes =
           let e : last (walk_of night us vs cols size next) ≡ x = ap last same-walk ∙ sym is_last in
           rw (e, come) (l, sym (same-node l))
@@ -194,9 +194,9 @@ module _ (m n : ℕ) (costs : List ℤ) (bars cols : List ℕ) (us vs ts : List 
           walk-entered night us vs cols fewer size next y (size_below N n way_on (walk_of night us vs cols size next) sound y node-below new) node-below
           ∙ ap₂ enter (same-node l) same-walk
 
-      gone-on : TurnedTo night us vs cols size room (On (suc size)) (entered n size y next) (lowerAt m n cols x c ts)
+      gone-on : TurnedTo night us vs cols size room (On (suc size)) (entered n size y next) (lower_at m n cols x c ts)
       gone-on = (
-        turn-goes ∙ ap (λ (t : Bool). cond t (onward (way_on x c)) (on (finish x w))) (lt-ltb c n l)
+        turn_goes ∙ ap (λ (t : Bool). cond t (onward (way_on x c)) (on (finish x w))) (lt-ltb c n l)
             ∙ ap (λ (t : Bool). cond t (left (record { from = place_of w (way_on x c); walk = w })) (on (enter (way_on x c) w))) (ne_eqb (mark w (way_on x c)) 1 (λ e. omega (arith, unseen)))
             ∙ ap on (sym entered-walk),
         holds-entered night us vs cols fewer size next held sound y node-below new (λ g. comes),
@@ -210,62 +210,62 @@ module _ (m n : ℕ) (costs : List ℤ) (bars cols : List ℕ) (us vs ts : List 
           first_cong size (λ k. eqb (at next (n + k)) y) (λ k. eqb (place w k) (way_on x c))
           (λ k b. ap₂ eqb (sym (part_at n N next k 0 (omega (arith, path-below))) ∙ ap (λ (v : Walk). place v k) same-walk) (same-node l))
 
-      same-closed : closed_in night us vs cols (place_in n size y next) size next ≡ record { from = place_of w (way_on x c); walk = w }
-      same-closed = ap₂ closedAt same_place same-walk
+      same_closed : closed_in night us vs cols (place_in n size y next) size next ≡ record { from = place_of w (way_on x c); walk = w }
+      same_closed = ap₂ closed_at same_place same-walk
         where
-          closedAt : ℕ → Walk → Closed
-          closedAt from v = record { from = from; walk = v }
+          closed_at : ℕ → Walk → Closed
+          closed_at from v = record { from = from; walk = v }
 
       chosen : (t : ℕ) → t < size
-          → comeTo n next (place (walk_of night us vs cols size next) t) ≡ choice N n way_on (walk_of night us vs cols size next) (place (walk_of night us vs cols size next) t)
+          → come_to n next (place (walk_of night us vs cols size next) t) ≡ choice N n way_on (walk_of night us vs cols size next) (place (walk_of night us vs cols size next) t)
       chosen t b = elim (ℕ_discrete (suc t) size) [
         | yes e ↦
             let q : size - 1 ≡ t = omega arith in
             let z : place (walk_of night us vs cols size next) t ≡ x = ap (λ (v : Walk). place v t) same-walk ∙ ap (place w) (sym q) ∙ sym is_last in
-            ap (comeTo n next) z ∙ come ∙ is-choice ∙ ap₂ (choice N n way_on) (sym same-walk) (sym z)
-        | no d ↦ come-chosen night us vs cols fewer size next held sound t (omega arith)
+            ap (come_to n next) z ∙ come ∙ is-choice ∙ ap₂ (choice N n way_on) (sym same-walk) (sym z)
+        | no d ↦ come_chosen night us vs cols fewer size next held sound t (omega arith)
       ]
 
-      gone-back : TurnedTo night us vs cols size room (Back (place_in n size y next)) next (lowerAt m n cols x c ts)
+      gone-back : TurnedTo night us vs cols size room (Back (place_in n size y next)) next (lower_at m n cols x c ts)
       gone-back = (
-        turn-goes ∙ ap (λ (t : Bool). cond t (onward (way_on x c)) (on (finish x w))) (lt-ltb c n l)
+        turn_goes ∙ ap (λ (t : Bool). cond t (onward (way_on x c)) (on (finish x w))) (lt-ltb c n l)
             ∙ ap (λ (t : Bool). cond t (left (record { from = place_of w (way_on x c); walk = w })) (on (enter (way_on x c) w))) (eq-eqb (mark w (way_on x c)) 1 (sym (node-mark l) ∙ seen))
-            ∙ ap left (sym same-closed),
+            ∙ ap left (sym same_closed),
         record { room-size = held.room-size; at-choice = chosen },
       )
 
     -- What the stores of the turn leave.
-    pub gone-turned : (r : Turned) (after : List ℕ) → (r, after) ≡ gone m n size x c room → (ts' : List ℤ) → ts' ≡ lowerAt m n cols x c ts
+    pub gone_turned : (r : Turned) (after : List ℕ) → (r, after) ≡ gone m n size x c room → (ts' : List ℤ) → ts' ≡ lower_at m n cols x c ts
         → TurnedTo night us vs cols size room r after ts'
-    gone-turned r after e ts' d =
+    gone_turned r after e ts' d =
         subst (TurnedTo night us vs cols size room r after) (sym d)
-        (subst (λ (g : Turned × List ℕ). TurnedTo night us vs cols size room g.0 g.1 (lowerAt m n cols x c ts)) (sym e) (by (dec_lt c n) (ℕ_discrete (at next (n + n + y)) 1)))
+        (subst (λ (g : Turned × List ℕ). TurnedTo night us vs cols size room g.0 g.1 (lower_at m n cols x c ts)) (sym e) (by (dec_lt c n) (ℕ_discrete (at next (n + n + y)) 1)))
       where
         more : suc size ≡ size + 1
         more = omega arith
 
-        gone_at : {b : Bool} → ltb c n ≡ b → gone m n size x c room ≡ cond b (goneTo n size y next) (On (size - 1), finished n x next)
-        gone_at e = ap (λ (t : Bool). cond t (goneTo n size y next) (On (size - 1), finished n x next)) e
+        gone_at : {b : Bool} → ltb c n ≡ b → gone m n size x c room ≡ cond b (gone_to n size y next) (On (size - 1), finished n x next)
+        gone_at e = ap (λ (t : Bool). cond t (gone_to n size y next) (On (size - 1), finished n x next)) e
 
-        by : Dec (c < n) → Dec (at next (n + n + y) ≡ 1) → TurnedTo night us vs cols size room (gone m n size x c room).0 (gone m n size x c room).1 (lowerAt m n cols x c ts)
-        by (no l) d = subst (λ (g : Turned × List ℕ). TurnedTo night us vs cols size room g.0 g.1 (lowerAt m n cols x c ts)) (sym (gone_at (le-ltb c n (omega arith)))) (gone-done (omega arith))
+        by : Dec (c < n) → Dec (at next (n + n + y) ≡ 1) → TurnedTo night us vs cols size room (gone m n size x c room).0 (gone m n size x c room).1 (lower_at m n cols x c ts)
+        by (no l) d = subst (λ (g : Turned × List ℕ). TurnedTo night us vs cols size room g.0 g.1 (lower_at m n cols x c ts)) (sym (gone_at (le-ltb c n (omega arith)))) (gone_done (omega arith))
         by (yes l) (yes d) =
-            subst (λ (g : Turned × List ℕ). TurnedTo night us vs cols size room g.0 g.1 (lowerAt m n cols x c ts))
+            subst (λ (g : Turned × List ℕ). TurnedTo night us vs cols size room g.0 g.1 (lower_at m n cols x c ts))
             (sym (gone_at (lt-ltb c n l) ∙ ap (λ (t : Bool). cond t (Back (place_in n size y next), next) (On (size + 1), entered n size y next)) (eq-eqb (at next (n + n + y)) 1 d)))
             (gone-back l d)
         by (yes l) (no d) =
-            subst (λ (g : Turned × List ℕ). TurnedTo night us vs cols size room g.0 g.1 (lowerAt m n cols x c ts))
+            subst (λ (g : Turned × List ℕ). TurnedTo night us vs cols size room g.0 g.1 (lower_at m n cols x c ts))
             (sym (gone_at (lt-ltb c n l) ∙ ap (λ (t : Bool). cond t (Back (place_in n size y next), next) (On (size + 1), entered n size y next)) (ne_eqb (at next (n + n + y)) 1 d)))
-            (subst (λ (k : ℕ). TurnedTo night us vs cols size room (On k) (entered n size y next) (lowerAt m n cols x c ts)) more (gone-on l d))
+            (subst (λ (k : ℕ). TurnedTo night us vs cols size room (On k) (entered n size y next) (lower_at m n cols x c ts)) more (gone-on l d))
 
-    pub can-go : CanGo m n size x c room
-    can-go = record {
+    pub can_go : CanGo m n size x c room
+    can_go = record {
       small = fair.small;
       room-size = h.room-size;
       some = some;
       path-size = omega (arith, path-below, fewer);
       node = omega (arith, last-below, fewer);
-      choice-size = omega (arith, is-choice, first-le (λ k. live N w (way_on x k)) n);
+      choice-size = omega (arith, is-choice, first_le (λ k. live N w (way_on x k)) n);
       nodes-inside = λ j l. omega (arith, h.columns j l, behind-node night cols fair.pairing us vs j l, fewer);
       path_room = λ l e. path_room l (eqb-false (at next (n + n + y)) 1 e);
     }

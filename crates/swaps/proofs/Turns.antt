@@ -14,12 +14,12 @@ use Rattle.ints.proofs.Shapes.{zlin}
 use Rattle.lists.specs.Runs.{Turn, on, left, until, first}
 use Rattle.lists.specs.Sums.{sum}
 use Rattle.lists.proofs.Cases.{cond_cases}
-use Rattle.lists.proofs.Runs.{first-le, first_holds, first-before}
-use Rattle.lists.proofs.Leaving.{Either, goes_on, is-left, either-map, until-keeps}
-use Rattle.lists.proofs.Sums.{sum-zero, sum-cong, sum-le-tight}
+use Rattle.lists.proofs.Runs.{first_le, first_holds, first-before}
+use Rattle.lists.proofs.Leaving.{Either, goes_on, is_left_lem, either_map, until_keeps}
+use Rattle.lists.proofs.Sums.{sum_zero, sum_cong, sum_le_tight}
 use Rattle.lists.proofs.Injections.{source_of}
-use Rattle.swaps.specs.Walks.{Walk, Closed, mark, place_of, last, isDone, enter, finish, unseen, live, choice, begin, goFrom, turn, walk}
-use Rattle.swaps.proofs.Walks.{marked, Leads, Sound, IsClosed, live-read, live-make, path-injective, enter-sound, enter-marked, enter-done, last-inside, finish-sound, finish-marked, finish-done}
+use Rattle.swaps.specs.Walks.{Walk, Closed, mark, place_of, last, is_done, enter, finish, unseen, live, choice, begin, go_from, turn, walk}
+use Rattle.swaps.proofs.Walks.{marked, Leads, Sound, IsClosed, live-read, live_make, path-injective, enter_sound, enter-marked, enter_done, last-inside, finish_sound, finish-marked, finish_done}
 
 -- Twice as many as the numbers below n.
 twos : (n : ℕ) → sum n (λ i. pos 2) ≡ pos (n + n)
@@ -34,25 +34,25 @@ module _ (nodes width : ℕ) (way : ℕ → ℕ → ℕ) where
     pub turns : marked nodes w ≡ pos k
 
   -- An empty path: not all nodes are done, since each would have been marked twice.
-  pub open-node : (k : ℕ) (w : Walk) → State k w → k < nodes + nodes → w.size ≡ 0
-      → (first nodes (λ y. not (isDone w y)) < nodes) × (mark w (first nodes (λ y. not (isDone w y))) ≡ 0)
-  open-node k w S h z = by (dec_lt x nodes)
+  pub open_node : (k : ℕ) (w : Walk) → State k w → k < nodes + nodes → w.size ≡ 0
+      → (first nodes (λ y. not (is_done w y)) < nodes) × (mark w (first nodes (λ y. not (is_done w y))) ≡ 0)
+  open_node k w S h z = by (dec_lt x nodes)
     where
       s : Sound nodes width way w
       s = S.sound
 
       test : ℕ → Bool
-      test y = not (isDone w y)
+      test y = not (is_done w y)
 
       x : ℕ
       x = first nodes test
 
       all : (x < nodes → ⊥) → (y : ℕ) → y < nodes → mark w y ≡ 2
-      all l y m = eqb-true (mark w y) 2 (not-false (isDone w y) (first-before test nodes y (omega (arith, first-le test nodes))))
+      all l y m = eqb-true (mark w y) 2 (not-false (is_done w y) (first-before test nodes y (omega (arith, first_le test nodes))))
 
       by : Dec (x < nodes) → (x < nodes) × (mark w x ≡ 0)
       by (yes l) =
-          let a = eqb-false (mark w x) 2 (not-true (isDone w x) (first_holds test nodes l)) in
+          let a = eqb-false (mark w x) 2 (not-true (is_done w x) (first_holds test nodes l)) in
           let b : mark w x ≢ 1 = λ m. let p = s.placed x l m in omega (arith, p.1) in
           (l, omega (arith, s.known x l, a, b))
       by (no l) =
@@ -60,7 +60,7 @@ module _ (nodes width : ℕ) (way : ℕ → ℕ → ℕ) where
             zlin,
             S.turns,
             twos nodes,
-            sum-cong nodes (λ y. pos (mark w y)) (λ y. pos 2) (λ y m. ap pos (all l y m)),
+            sum_cong nodes (λ y. pos (mark w y)) (λ y. pos 2) (λ y m. ap pos (all l y m)),
           ))
 
   -- P holds of every node that is done.
@@ -82,22 +82,22 @@ module _ (nodes width : ℕ) (way : ℕ → ℕ → ℕ) where
       entered : (x : ℕ) → x < nodes → mark w x ≡ 0 → (0 < w.size → Leads nodes width way w (last w) x) → State (suc k) (enter x w) × Proved P (enter x w)
       entered x l new g = (
         record {
-          sound = enter-sound nodes width way w s x l new g;
+          sound = enter_sound nodes width way w s x l new g;
           turns = omega (zlin, S.turns, enter-marked nodes width way w s x l new);
         },
-        enter-done nodes width way w s x l new P proved,
+        enter_done nodes width way w s x l new P proved,
       )
 
       finished : 0 < w.size → P (last w) → State (suc k) (finish (last w) w) × Proved P (finish (last w) w)
       finished l p = (
-        record { sound = finish-sound nodes width way w s l; turns = omega (zlin, S.turns, finish-marked nodes width way w s l) },
-        finish-done nodes width way w s l P proved p,
+        record { sound = finish_sound nodes width way w s l; turns = omega (zlin, S.turns, finish-marked nodes width way w s l) },
+        finish_done nodes width way w s l P proved p,
       )
 
       begins : k < nodes + nodes → w.size ≡ 0 → State (suc k) (begin nodes w) × Proved P (begin nodes w)
-      begins h z = let o = open-node k w S h z in entered (first nodes (λ y. not (isDone w y))) o.0 o.1 (λ g. absurd (omega arith))
+      begins h z = let o = open_node k w S h z in entered (first nodes (λ y. not (is_done w y))) o.0 o.1 (λ g. absurd (omega arith))
 
-      goes : 0 < w.size → Next k (goFrom nodes width way (last w) w)
+      goes : 0 < w.size → Next k (go_from nodes width way (last w) w)
       goes h = by (dec_lt c width)
         where
           c : ℕ
@@ -120,35 +120,35 @@ module _ (nodes width : ℕ) (way : ℕ → ℕ → ℕ) where
             | yes e ↦ e
             | no d ↦
                 absurd (true≢false
-                (sym (live-make nodes width way w (way (last w) a) n d) ∙ first-before test width a (omega (arith, first-le test width))))
+                (sym (live_make nodes width way w (way (last w) a) n d) ∙ first-before test width a (omega (arith, first_le test width))))
           ]
 
-          by : Dec (c < width) → Next k (goFrom nodes width way (last w) w)
+          by : Dec (c < width) → Next k (go_from nodes width way (last w) w)
           by (yes l) =
               let r = live-read nodes width way w y (first_holds test width l) in
               let g : Leads nodes width way w (last w) y = record { below = l; there = refl } in
               rw (lt-ltb c width l)
               (cond_cases (eqb (mark w y) 1) (Next k) (left (record { from = place_of w y; walk = w })) (on (enter y w))
-              (λ e. is-left (closes r.0 (eqb-true (mark w y) 1 e) g))
+              (λ e. is_left_lem (closes r.0 (eqb-true (mark w y) 1 e) g))
               (λ e. goes_on (entered y r.0 (not_seen y r.0 r.1 (eqb-false (mark w y) 1 e)) (λ m. g))))
           by (no l) =
               rw (le-ltb c width (omega arith))
               (goes_on (finished h
               (step (last w) (last-inside nodes width way w s h) (λ a m n. proved (way (last w) a) n (dead l a m n)))))
 
-      turn-all : k < nodes + nodes → Next k (turn nodes width way w)
-      turn-all h =
-          cond_cases (eqb w.size 0) (Next k) (on (begin nodes w)) (goFrom nodes width way (last w) w)
+      turn_all : k < nodes + nodes → Next k (turn nodes width way w)
+      turn_all h =
+          cond_cases (eqb w.size 0) (Next k) (on (begin nodes w)) (go_from nodes width way (last w) w)
           (λ e. goes_on (begins h (eqb-true w.size 0 e))) (λ e. goes (let d = eqb-false w.size 0 e in omega arith))
 
   -- A turn goes on or closes the walk. (What code keeps in its loop.)
-  pub turn-ok : (k : ℕ) (w : Walk) → State k w → k < nodes + nodes → Either (State (suc k)) (IsClosed nodes width way) (turn nodes width way w)
-  turn-ok k w S h = either-map (turn-all (λ x. Unit) (λ x l a. tt) k w S (λ x l e. tt) h) (λ t a. a.0) (λ z c. c)
+  pub turn_ok : (k : ℕ) (w : Walk) → State k w → k < nodes + nodes → Either (State (suc k)) (IsClosed nodes width way) (turn nodes width way w)
+  turn_ok k w S h = either_map (turn_all (λ x. Unit) (λ x l a. tt) k w S (λ x l e. tt) h) (λ t a. a.0) (λ z c. c)
 
   -- ---- the whole walk
 
-  pub start-ok : State 0 (unseen nodes)
-  start-ok = record {
+  pub start_ok : State 0 (unseen nodes)
+  start_ok = record {
     sound = record {
       path-size = length-replicate {A = ℕ} nodes 0;
       marks-size = length-replicate {A = ℕ} nodes 0;
@@ -159,7 +159,7 @@ module _ (nodes width : ℕ) (way : ℕ → ℕ → ℕ) where
       placed = λ x l e. absurd (omega (arith, get_or-replicate {A = ℕ} nodes x 0 0 l));
       linked = λ k l. absurd (omega arith);
     };
-    turns = sum-zero nodes (λ x. pos (mark (unseen nodes) x)) (λ x l. ap pos (get_or-replicate {A = ℕ} nodes x 0 0 l));
+    turns = sum_zero nodes (λ x. pos (mark (unseen nodes) x)) (λ x l. ap pos (get_or-replicate {A = ℕ} nodes x 0 0 l));
   }
 
   -- What holds of a walk after so many turns.
@@ -167,23 +167,23 @@ module _ (nodes width : ℕ) (way : ℕ → ℕ → ℕ) where
   state-after k w h e =
       by
       (subst (Either (State k) (IsClosed nodes width way)) e
-      (until-keeps State (IsClosed nodes width way) 0 k (λ t. turn nodes width way) (unseen nodes) (omega arith) start-ok
-      (λ i t l m S. turn-ok i t S (omega arith))))
+      (until_keeps State (IsClosed nodes width way) 0 k (λ t. turn nodes width way) (unseen nodes) (omega arith) start_ok
+      (λ i t l m S. turn_ok i t S (omega arith))))
     where
       by : Either (State k) (IsClosed nodes width way) (on w) → State k w
       by (goes_on S) = S
 
   -- It is left with a closed walk; or P holds of every node.
-  pub walk-ok : (P : ℕ → Type 0) → ((x : ℕ) → x < nodes → ((c : ℕ) → c < width → way x c < nodes → P (way x c)) → P x)
+  pub walk_ok : (P : ℕ → Type 0) → ((x : ℕ) → x < nodes → ((c : ℕ) → c < width → way x c < nodes → P (way x c)) → P x)
       → Either (λ w. (x : ℕ) → x < nodes → P x) (IsClosed nodes width way) (walk nodes width way)
   unfolding walk
-  walk-ok P step =
-      either-map
-      (until-keeps (λ k w. State k w × Proved P w) (IsClosed nodes width way) 0 (nodes + nodes) (λ k. turn nodes width way) (unseen nodes) (omega arith)
-      (start-ok, λ x l e. absurd (omega (arith, get_or-replicate {A = ℕ} nodes x 0 0 l))) (λ k w l m a. turn-all P step k w a.0 a.1 m))
+  walk_ok P step =
+      either_map
+      (until_keeps (λ k w. State k w × Proved P w) (IsClosed nodes width way) 0 (nodes + nodes) (λ k. turn nodes width way) (unseen nodes) (omega arith)
+      (start_ok, λ x l e. absurd (omega (arith, get_or-replicate {A = ℕ} nodes x 0 0 l))) (λ k w l m a. turn_all P step k w a.0 a.1 m))
       (λ w a x l. a.1 x l (done w a.0 x l)) (λ z c. c)
     where
       done : (w : Walk) → State (nodes + nodes) w → (x : ℕ) → x < nodes → mark w x ≡ 2
       done w S x l =
-          let e = sum-le-tight nodes (λ y. pos (mark w y)) (λ y. pos 2) (λ y m. omega (zlin, S.sound.known y m)) (omega (zlin, twos nodes, S.turns)) x l in
+          let e = sum_le_tight nodes (λ y. pos (mark w y)) (λ y. pos 2) (λ y m. omega (zlin, S.sound.known y m)) (omega (zlin, twos nodes, S.turns)) x l in
           omega (zlin, e)

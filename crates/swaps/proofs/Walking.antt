@@ -35,7 +35,7 @@ module _ (night : Night) (us vs : List ℤ) (cols : List ℕ) where
   all_made w k q e = ap (answer night us vs cols) (sym (ap after q) ∙ e)
 
   -- A turn has left.
-  pub has_left : (z : Closed) (k : ℕ) → k ≤ N + N → after k ≡ left z → walk N night.columnCount (way night us vs cols) ≡ left z
+  pub has_left : (z : Closed) (k : ℕ) → k ≤ N + N → after k ≡ left z → walk N night.column_count (way night us vs cols) ≡ left z
   unfolding walk
   has_left z k h e = until-longer 0 k (λ i. turn_of night us vs cols) (unseen N) z (omega arith) e (N + N) h
 

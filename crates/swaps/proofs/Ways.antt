@@ -12,13 +12,13 @@ use lib.IntN.{ℤ}
 use lib.Signed.{◌≤ℤ◌, le_z, lt_z}
 use borrow.Author.Tests.{ltb-true, eqb-true, eqb-false, not-true, lt-ltb, le-ltb, ne_eqb}
 use Rattle.ints.proofs.Ranges.{zarith}
-use Rattle.ints.proofs.Tests.{le-leZ}
+use Rattle.ints.proofs.Tests.{le_le_z}
 use Rattle.lists.specs.Permutations.{at}
-use Rattle.lists.proofs.Cases.{or-either, or-second}
-use Rattle.lists.proofs.Runs.{upward-keeps, first-le, first_holds, first-before}
-use Rattle.assignment.specs.Pairings.{Night, Spare, signedAt}
+use Rattle.lists.proofs.Cases.{or_either, or_second}
+use Rattle.lists.proofs.Runs.{upward_keeps, first_le, first_holds, first-before}
+use Rattle.assignment.specs.Pairings.{Night, Spare, signed_at}
 use Rattle.assignment.specs.Prices.{priced}
-use Rattle.swaps.specs.Second.{nodes, behind, dearest, fits, rowWay, spareWay, way}
+use Rattle.swaps.specs.Second.{nodes, behind, dearest, fits, row_way, spare_way, way}
 
 -- ---- tests
 
@@ -29,19 +29,19 @@ picked false a b l = absurd (omega arith)
 
 -- ---- the nodes
 
-pub rows-nodes : (night : Night) → night.rowCount ≤ nodes night
+pub rows-nodes : (night : Night) → night.row_count ≤ nodes night
 rows-nodes night =
-    elim (dec_lt night.rowCount night.columnCount) [
-      | yes l ↦ rw (lt-ltb night.rowCount night.columnCount l) (omega arith)
-      | no l ↦ rw (le-ltb night.rowCount night.columnCount (omega arith)) (omega arith)
+    elim (dec_lt night.row_count night.column_count) [
+      | yes l ↦ rw (lt-ltb night.row_count night.column_count l) (omega arith)
+      | no l ↦ rw (le-ltb night.row_count night.column_count (omega arith)) (omega arith)
     ]
 
-pub spare-node : (night : Night) → night.rowCount < night.columnCount → night.rowCount < nodes night
-spare-node night l = rw (lt-ltb night.rowCount night.columnCount l) (omega arith)
+pub spare_node : (night : Night) → night.row_count < night.column_count → night.row_count < nodes night
+spare_node night l = rw (lt-ltb night.row_count night.column_count l) (omega arith)
 
 module _ (night : Night) (us vs : List ℤ) (cols : List ℕ) where
   abbrev m : ℕ
-  m = night.rowCount
+  m = night.row_count
 
   abbrev top : ℤ
   top = dearest night vs cols
@@ -52,28 +52,28 @@ module _ (night : Night) (us vs : List ℤ) (cols : List ℕ) where
   -- ---- the highest price of a used column
 
   abbrev Top : ℕ → ℤ → Type 0
-  Top k t = ((i : ℕ) → i < k → signedAt vs (at cols i) ≤ℤ t) × ((i : ℕ) × (i < m) × (t ≡ signedAt vs (at cols i)))
+  Top k t = ((i : ℕ) → i < k → signed_at vs (at cols i) ≤ℤ t) × ((i : ℕ) × (i < m) × (t ≡ signed_at vs (at cols i)))
 
-  pub dearest-ok : 0 < m → Top m top
+  pub dearest_ok : 0 < m → Top m top
   unfolding dearest
-  dearest-ok h =
-      upward-keeps Top 0 m (λ i t. cond (lt_z t (signedAt vs (at cols i))) (signedAt vs (at cols i)) t) (signedAt vs (at cols 0)) (omega arith)
+  dearest_ok h =
+      upward_keeps Top 0 m (λ i t. cond (lt_z t (signed_at vs (at cols i))) (signed_at vs (at cols i)) t) (signed_at vs (at cols 0)) (omega arith)
       (λ i l. absurd (omega arith), (0, h, refl)) more
     where
-      more : (k : ℕ) (t : ℤ) → 0 ≤ k → k < m → Top k t → Top (suc k) (cond (lt_z t (signedAt vs (at cols k))) (signedAt vs (at cols k)) t)
-      more k t a b s = by (lt_z t (signedAt vs (at cols k))) refl
+      more : (k : ℕ) (t : ℤ) → 0 ≤ k → k < m → Top k t → Top (suc k) (cond (lt_z t (signed_at vs (at cols k))) (signed_at vs (at cols k)) t)
+      more k t a b s = by (lt_z t (signed_at vs (at cols k))) refl
         where
-          by : (u : Bool) → lt_z t (signedAt vs (at cols k)) ≡ u → Top (suc k) (cond u (signedAt vs (at cols k)) t)
+          by : (u : Bool) → lt_z t (signed_at vs (at cols k)) ≡ u → Top (suc k) (cond u (signed_at vs (at cols k)) t)
           by true e = (
             λ i l. elim (ℕ_discrete i k) [
-              | yes q ↦ omega (zarith, ap (λ (x : ℕ). signedAt vs (at cols x)) q)
+              | yes q ↦ omega (zarith, ap (λ (x : ℕ). signed_at vs (at cols x)) q)
               | no d ↦ omega (zarith, s.0 i (omega arith))
             ],
             (k, b, refl),
           )
           by false e = (
             λ i l. elim (ℕ_discrete i k) [
-              | yes q ↦ omega (zarith, ap (λ (x : ℕ). signedAt vs (at cols x)) q)
+              | yes q ↦ omega (zarith, ap (λ (x : ℕ). signed_at vs (at cols x)) q)
               | no d ↦ s.0 i (omega arith)
             ],
             s.1,
@@ -81,14 +81,14 @@ module _ (night : Night) (us vs : List ℤ) (cols : List ℕ) where
 
   -- ---- the node behind a column
 
-  pub behind-le : (j : ℕ) → own j ≤ m
-  behind-le j = first-le (λ i. eqb (at cols i) j) m
+  pub behind_le : (j : ℕ) → own j ≤ m
+  behind_le j = first_le (λ i. eqb (at cols i) j) m
 
   pub behind-row : (j : ℕ) → own j < m → at cols (own j) ≡ j
   behind-row j l = eqb-true (at cols (own j)) j (first_holds (λ i. eqb (at cols i) j) m l)
 
-  pub behind-spare : (j : ℕ) → m ≤ own j → Spare night cols j
-  behind-spare j l i h = eqb-false (at cols i) j (first-before (λ k. eqb (at cols k) j) m i (omega arith))
+  pub behind_spare : (j : ℕ) → m ≤ own j → Spare night cols j
+  behind_spare j l i h = eqb-false (at cols i) j (first-before (λ k. eqb (at cols k) j) m i (omega arith))
 
   -- ---- the ways of a row
 
@@ -97,18 +97,18 @@ module _ (night : Night) (us vs : List ℤ) (cols : List ℕ) where
     pub other : own j ≢ x
     pub permitted : night.allowed x j ≡ true
     pub level : night.cost x j ≤ℤ priced us vs x j
-    pub not-above : (own j < m) ⊎ (signedAt vs j ≤ℤ top)
+    pub not_above : (own j < m) ⊎ (signed_at vs j ≤ℤ top)
 
   abbrev cheap : ℕ → ℕ → Bool
   cheap x j = le_z (night.cost x j) (priced us vs x j)
 
   abbrev low : ℕ → Bool
-  low j = ltb (own j) m || le_z (signedAt vs j) top
+  low j = ltb (own j) m || le_z (signed_at vs j) top
 
   pub row_read : (x j : ℕ) → x < m → way night us vs cols x j < nodes night → RowWay x j
   row_read x j h l = go (rw (lt-ltb x m h) at l)
     where
-      go : rowWay night us vs cols x j < nodes night → RowWay x j
+      go : row_way night us vs cols x j < nodes night → RowWay x j
       go l =
           let k = picked (not (eqb (own j) x) && fits night us vs cols x j) (own j) (nodes night) l in
           let a = (and-eq-true_iff (not (eqb (own j) x)) (fits night us vs cols x j)).0 k.0 in
@@ -119,32 +119,32 @@ module _ (night : Night) (us vs : List ℤ) (cols : List ℕ) where
             other = eqb-false (own j) x (not-true (eqb (own j) x) a.0);
             permitted = d.0;
             level = let e = d.1 in omega zarith;
-            not-above = ⊎_elim (λ e. inl (ltb-true (own j) m e)) (λ e. inr (omega zarith)) (or-either (ltb (own j) m) (le_z (signedAt vs j) top) b.1);
+            not_above = ⊎_elim (λ e. inl (ltb-true (own j) m e)) (λ e. inr (omega zarith)) (or_either (ltb (own j) m) (le_z (signed_at vs j) top) b.1);
           }
 
-  pub row-make : (x j : ℕ) → x < m → own j ≢ x → night.allowed x j ≡ true → night.cost x j ≤ℤ priced us vs x j
-      → (own j < m) ⊎ (signedAt vs j ≤ℤ top) → way night us vs cols x j ≡ own j
-  row-make x j h d a c o = rw (lt-ltb x m h, (and-eq-true_iff (not (eqb (own j) x)) (fits night us vs cols x j)).1 (ap not (ne_eqb (own j) x d), good))
+  pub row_make : (x j : ℕ) → x < m → own j ≢ x → night.allowed x j ≡ true → night.cost x j ≤ℤ priced us vs x j
+      → (own j < m) ⊎ (signed_at vs j ≤ℤ top) → way night us vs cols x j ≡ own j
+  row_make x j h d a c o = rw (lt-ltb x m h, (and-eq-true_iff (not (eqb (own j) x)) (fits night us vs cols x j)).1 (ap not (ne_eqb (own j) x d), good))
     where
       good : fits night us vs cols x j ≡ true
       good =
           (and-eq-true_iff (night.allowed x j && cheap x j) (low j)).1 (
-            (and-eq-true_iff (night.allowed x j) (cheap x j)).1 (a, le-leZ (night.cost x j) (priced us vs x j) c),
-            ⊎_elim (λ l. ap (λ (t : Bool). t || le_z (signedAt vs j) top) (lt-ltb (own j) m l)) (λ l. or-second (ltb (own j) m) (le-leZ (signedAt vs j) top l)) o,
+            (and-eq-true_iff (night.allowed x j) (cheap x j)).1 (a, le_le_z (night.cost x j) (priced us vs x j) c),
+            ⊎_elim (λ l. ap (λ (t : Bool). t || le_z (signed_at vs j) top) (lt-ltb (own j) m l)) (λ l. or_second (ltb (own j) m) (le_le_z (signed_at vs j) top l)) o,
           )
 
   -- ---- the ways of the spare columns
 
-  pub spare-read : (x i : ℕ) → m ≤ x → way night us vs cols x i < nodes night
-      → (way night us vs cols x i ≡ i) × (i < m) × (top ≤ℤ signedAt vs (at cols i))
-  spare-read x i h l = go (rw (le-ltb x m h) at l)
+  pub spare_read : (x i : ℕ) → m ≤ x → way night us vs cols x i < nodes night
+      → (way night us vs cols x i ≡ i) × (i < m) × (top ≤ℤ signed_at vs (at cols i))
+  spare_read x i h l = go (rw (le-ltb x m h) at l)
     where
-      go : spareWay night us vs cols i < nodes night → (way night us vs cols x i ≡ i) × (i < m) × (top ≤ℤ signedAt vs (at cols i))
+      go : spare_way night us vs cols i < nodes night → (way night us vs cols x i ≡ i) × (i < m) × (top ≤ℤ signed_at vs (at cols i))
       go l =
-          let k = picked (ltb i m && le_z top (signedAt vs (at cols i))) i (nodes night) l in
-          let a = (and-eq-true_iff (ltb i m) (le_z top (signedAt vs (at cols i)))).0 k.0 in
+          let k = picked (ltb i m && le_z top (signed_at vs (at cols i))) i (nodes night) l in
+          let a = (and-eq-true_iff (ltb i m) (le_z top (signed_at vs (at cols i)))).0 k.0 in
           (rw (le-ltb x m h) k.1, ltb-true i m a.0, (let e = a.1 in omega zarith))
 
-  pub spare-make : (x i : ℕ) → m ≤ x → i < m → top ≤ℤ signedAt vs (at cols i) → way night us vs cols x i ≡ i
-  spare-make x i h l c =
-      rw (le-ltb x m h, (and-eq-true_iff (ltb i m) (le_z top (signedAt vs (at cols i)))).1 (lt-ltb i m l, le-leZ top (signedAt vs (at cols i)) c))
+  pub spare_make : (x i : ℕ) → m ≤ x → i < m → top ≤ℤ signed_at vs (at cols i) → way night us vs cols x i ≡ i
+  spare_make x i h l c =
+      rw (le-ltb x m h, (and-eq-true_iff (ltb i m) (le_z top (signed_at vs (at cols i)))).1 (lt-ltb i m l, le_le_z top (signed_at vs (at cols i)) c))

@@ -1,36 +1,36 @@
 -- Nights on paper: document 01's N8 and N4, and small ones with bars and with spare columns. Which second is given, or that there is only one.
 use Rattle.std.specs.Prelude.{List, [], ◌∷◌, ℕ, ℤ, pos, negsuc}
-use Rattle.bars.specs.Barred.{nightOf}
+use Rattle.bars.specs.Barred.{night_of}
 use Rattle.swaps.specs.Second.{Answer, only, also, second}
 
 -- Rows and columns, costs, bars, the pairing, row prices, column prices, and what is answered.
 pub record Line : Type 0 where
-  pub rowCount : ℕ
-  pub columnCount : ℕ
+  pub row_count : ℕ
+  pub column_count : ℕ
   pub costs : List ℤ
   pub bars : List ℕ
   pub cols : List ℕ
-  pub rowPrices : List ℤ
-  pub columnPrices : List ℤ
+  pub prices_of_rows : List ℤ
+  pub prices_of_columns : List ℤ
   pub answer : Answer
 
 abbrev pub line : ℕ → ℕ → List ℤ → List ℕ → List ℕ → List ℤ → List ℤ → Answer → Line
 line m n costs bars cols us vs answer = record {
-  rowCount = m;
-  columnCount = n;
+  row_count = m;
+  column_count = n;
   costs = costs;
   bars = bars;
   cols = cols;
-  rowPrices = us;
-  columnPrices = vs;
+  prices_of_rows = us;
+  prices_of_columns = vs;
   answer = answer;
 }
 
 -- The line that the walk makes of a line's night, pairing and prices.
 abbrev pub answered : Line → Line
 answered l =
-    line l.rowCount l.columnCount l.costs l.bars l.cols l.rowPrices l.columnPrices
-    (second (nightOf l.rowCount l.columnCount l.costs l.bars) l.rowPrices l.columnPrices l.cols)
+    line l.row_count l.column_count l.costs l.bars l.cols l.prices_of_rows l.prices_of_columns
+    (second (night_of l.row_count l.column_count l.costs l.bars) l.prices_of_rows l.prices_of_columns l.cols)
 
 abbrev pub nights : List Line
 nights =

@@ -5,9 +5,9 @@ use Rattle.std.specs.Prelude.{◌≡◌, Bool, cond, not, ◌&&◌, ◌||◌, �
 use Rattle.std.specs.Int.Signed.{le_z, lt_z}
 use Rattle.lists.specs.Runs.{Turn, on, left, upward, first}
 use Rattle.lists.specs.Permutations.{at, table}
-use Rattle.assignment.specs.Pairings.{Night, Pairing, total, signedAt}
+use Rattle.assignment.specs.Pairings.{Night, Pairing, total, signed_at}
 use Rattle.assignment.specs.Prices.{priced}
-use Rattle.swaps.specs.Walks.{Walk, Closed, onClosed, choice, walk}
+use Rattle.swaps.specs.Walks.{Walk, Closed, on_closed, choice, walk}
 
 -- "either "only one" or a second pairing with the same total"
 pub data Answer : Type 0 where
@@ -27,18 +27,18 @@ Right night cols (also other) = Another night cols other
 
 -- The rows, and one node more where there are spare columns.
 abbrev pub nodes : Night → ℕ
-nodes night = cond (ltb night.rowCount night.columnCount) (suc night.rowCount) night.rowCount
+nodes night = cond (ltb night.row_count night.column_count) (suc night.row_count) night.row_count
 
 -- The node behind a column: the row that uses it; the number of rows where it is spare.
 abbrev pub behind : Night → List ℕ → ℕ → ℕ
-behind night cols j = first night.rowCount (λ i. eqb (at cols i) j)
+behind night cols j = first night.row_count (λ i. eqb (at cols i) j)
 
 -- The highest price of a used column: the first row's, and then that of each row where it is higher.
 abbrev pub higher : List ℤ → List ℕ → ℕ → ℤ → ℤ
-higher vs cols i t = cond (lt_z t (signedAt vs (at cols i))) (signedAt vs (at cols i)) t
+higher vs cols i t = cond (lt_z t (signed_at vs (at cols i))) (signed_at vs (at cols i)) t
 
 unfoldable pub dearest : Night → List ℤ → List ℕ → ℤ
-dearest night vs cols = upward 0 night.rowCount (higher vs cols) (signedAt vs (at cols 0))
+dearest night vs cols = upward 0 night.row_count (higher vs cols) (signed_at vs (at cols 0))
 
 module _ (night : Night) (us vs : List ℤ) (cols : List ℕ) where
   -- Row i could be paired with column j: the place is allowed and its prices are not below its cost; and where j is spare, its price is not above
@@ -46,22 +46,22 @@ module _ (night : Night) (us vs : List ℤ) (cols : List ℕ) where
   abbrev pub fits : ℕ → ℕ → Bool
   fits i j =
       night.allowed i j && le_z (night.cost i j) (priced us vs i j)
-      && (ltb (behind night cols j) night.rowCount || le_z (signedAt vs j) (dearest night vs cols))
+      && (ltb (behind night cols j) night.row_count || le_z (signed_at vs j) (dearest night vs cols))
 
   -- From row i over column j to the node behind it, unless that is row i itself.
-  abbrev pub rowWay : ℕ → ℕ → ℕ
-  rowWay i j = cond (not (eqb (behind night cols j) i) && fits i j) (behind night cols j) (nodes night)
+  abbrev pub row_way : ℕ → ℕ → ℕ
+  row_way i j = cond (not (eqb (behind night cols j) i) && fits i j) (behind night cols j) (nodes night)
 
   -- From the spare columns to a row whose column's price is not below the highest of a used one.
-  abbrev pub spareWay : ℕ → ℕ
-  spareWay i = cond (ltb i night.rowCount && le_z (dearest night vs cols) (signedAt vs (at cols i))) i (nodes night)
+  abbrev pub spare_way : ℕ → ℕ
+  spare_way i = cond (ltb i night.row_count && le_z (dearest night vs cols) (signed_at vs (at cols i))) i (nodes night)
 
   abbrev pub way : ℕ → ℕ → ℕ
-  way x j = cond (ltb x night.rowCount) (rowWay x j) (spareWay j)
+  way x j = cond (ltb x night.row_count) (row_way x j) (spare_way j)
 
   -- Each row of a closed walk moves to the column that it chose.
   abbrev pub moved : Closed → List ℕ
-  moved z = table night.rowCount (λ i. cond (onClosed z i) (choice (nodes night) night.columnCount way z.walk i) (at cols i))
+  moved z = table night.row_count (λ i. cond (on_closed z i) (choice (nodes night) night.column_count way z.walk i) (at cols i))
 
   abbrev pub answer : Turn Walk Closed → Answer
   answer (on w) = only
@@ -69,4 +69,4 @@ module _ (night : Night) (us vs : List ℤ) (cols : List ℕ) where
 
   -- A second pairing with the total of this one, or that no other has it.
   unfoldable pub second : Answer
-  second = answer (walk (nodes night) night.columnCount way)
+  second = answer (walk (nodes night) night.column_count way)

@@ -31,8 +31,8 @@ place_of w x = first w.size (λ k. eqb (place w k) x)
 abbrev pub last : Walk → ℕ
 last w = place w (w.size - 1)
 
-abbrev pub isDone : Walk → ℕ → Bool
-isDone w x = eqb (mark w x) 2
+abbrev pub is_done : Walk → ℕ → Bool
+is_done w x = eqb (mark w x) 2
 
 -- Node x joins the path.
 abbrev pub enter : ℕ → Walk → Walk
@@ -43,8 +43,8 @@ abbrev pub finish : ℕ → Walk → Walk
 finish x w = record { size = w.size - 1; path = w.path; marks = set w.marks x 2 }
 
 -- Whether x is a node of the closed walk.
-abbrev pub onClosed : Closed → ℕ → Bool
-onClosed z x = leb z.from (place_of z.walk x) && ltb (place_of z.walk x) z.walk.size
+abbrev pub on_closed : Closed → ℕ → Bool
+on_closed z x = leb z.from (place_of z.walk x) && ltb (place_of z.walk x) z.walk.size
 
 -- No node has been seen.
 abbrev pub unseen : ℕ → Walk
@@ -52,15 +52,15 @@ unseen nodes = record { size = 0; path = replicate nodes 0; marks = replicate no
 
 -- Whether y is a node that is not done.
 abbrev pub live : ℕ → Walk → ℕ → Bool
-live nodes w y = ltb y nodes && not (isDone w y)
+live nodes w y = ltb y nodes && not (is_done w y)
 
 -- An empty path starts at the first node that is not done. (That there is one whenever a turn starts with an empty path is a law.)
 abbrev pub begin : ℕ → Walk → Walk
-begin nodes w = enter (first nodes (λ y. not (isDone w y))) w
+begin nodes w = enter (first nodes (λ y. not (is_done w y))) w
 
 -- The way leads to node y: the path has come back to it, or it joins the path.
-abbrev pub goTo : ℕ → Walk → Turn Walk Closed
-goTo y w = cond (eqb (mark w y) 1) (left (record { from = place_of w y; walk = w })) (on (enter y w))
+abbrev pub go_to : ℕ → Walk → Turn Walk Closed
+go_to y w = cond (eqb (mark w y) 1) (left (record { from = place_of w y; walk = w })) (on (enter y w))
 
 module _ (nodes width : ℕ) (way : ℕ → ℕ → ℕ) where
   -- The first choice at x that leads to a node which is not done; the width where none does.
@@ -68,11 +68,11 @@ module _ (nodes width : ℕ) (way : ℕ → ℕ → ℕ) where
   choice w x = first width (λ c. live nodes w (way x c))
 
   -- From x, the last node of the path.
-  abbrev pub goFrom : ℕ → Walk → Turn Walk Closed
-  goFrom x w = let c = choice w x in cond (ltb c width) (goTo (way x c) w) (on (finish x w))
+  abbrev pub go_from : ℕ → Walk → Turn Walk Closed
+  go_from x w = let c = choice w x in cond (ltb c width) (go_to (way x c) w) (on (finish x w))
 
   abbrev pub turn : Walk → Turn Walk Closed
-  turn w = cond (eqb w.size 0) (on (begin nodes w)) (goFrom (last w) w)
+  turn w = cond (eqb w.size 0) (on (begin nodes w)) (go_from (last w) w)
 
   -- The whole walk. A turn that does not leave marks a node once more, so that after twice as many turns as nodes all are done.
   unfoldable pub walk : Turn Walk Closed

@@ -4,10 +4,10 @@ ghost use Rattle.std.specs.Int.Signed.{le_z};
 ghost use Rattle.ints.specs.Parts.{Within};
 ghost use Rattle.lists.specs.Permutations.{at};
 ghost use Rattle.lists.specs.Counts.{bit_of};
-ghost use Rattle.assignment.specs.Pairings.{signedAt};
+ghost use Rattle.assignment.specs.Pairings.{signed_at};
 ghost use Rattle.matrix.specs.Limits.{K, near};
-ghost use Rattle.swaps.specs.Places.{firstFrom, free, goesOver, comesDown};
-ghost use Rattle.swaps.specs.Rooms.{CanChoose, chosenIn};
+ghost use Rattle.swaps.specs.Places.{first_from, free, goes_over, comes_down};
+ghost use Rattle.swaps.specs.Rooms.{CanChoose, chosen_in};
 
 use bars::bits::has;
 
@@ -109,8 +109,8 @@ fn first_way(
     marks: &[u32],
     from: usize,
 ) -> usize
-    requires { Within (10 * K) u × (length row.now ≤ length vs.now) × ((j : ℕ) → j < length row.now → Within near (signedAt vs.now j)) × (length row.now ≤ length rows.now) × ((j : ℕ) → j < length row.now → at rows.now j < length marks.now) × (from ≤ length row.now) }
-    ensures { result ≡ firstFrom from (length row.now) (goesOver m top bits i row.now u vs.now rows.now marks.now) }
+    requires { Within (10 * K) u × (length row.now ≤ length vs.now) × ((j : ℕ) → j < length row.now → Within near (signed_at vs.now j)) × (length row.now ≤ length rows.now) × ((j : ℕ) → j < length row.now → at rows.now j < length marks.now) × (from ≤ length row.now) }
+    ensures { result ≡ first_from from (length row.now) (goes_over m top bits i row.now u vs.now rows.now marks.now) }
 {
     let mut j = from;
     while j < row.len() {
@@ -143,7 +143,7 @@ fn first_down(
     from: usize,
 ) -> usize
     requires { (m ≤ n) × (m ≤ length cols.now) × (m ≤ length marks.now) × ((i : ℕ) → i < m → at cols.now i < length vs.now) }
-    ensures { result ≡ firstFrom from n (comesDown m top cols.now vs.now marks.now) }
+    ensures { result ≡ first_from from n (comes_down m top cols.now vs.now marks.now) }
 {
     let mut i = from;
     while i < m {
@@ -181,7 +181,7 @@ pub fn choose(
     x: usize,
 ) -> usize
     requires { CanChoose m n costs.now bars.now cols.now us.now vs.now ts.now top room.now x }
-    ensures { result ≡ chosenIn m n costs.now bars.now cols.now us.now vs.now room.now x }
+    ensures { result ≡ chosen_in m n costs.now bars.now cols.now us.now vs.now room.now x }
 {
     let n2 = n + n;
     let n3 = n2 + n;

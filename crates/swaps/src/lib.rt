@@ -1,10 +1,10 @@
 // A second pairing with the same total, or that there is only one. What is promised is said in specs/.
 ghost use Rattle.std.specs.Prelude.{◌≡◌, ◌≤◌};
-ghost use Rattle.bars.specs.Barred.{nightOf};
+ghost use Rattle.bars.specs.Barred.{night_of};
 ghost use Rattle.matrix.specs.Limits.{side};
 ghost use Rattle.matrix.specs.Verdicts.{Passes, ◌then◌};
 ghost use Rattle.swaps.specs.Found.{CanFindIn};
-ghost use Rattle.swaps.specs.Entries.{lent_of, outcomeOf, outcome, toldOf, lentLong, secondTests, secondSquare, secondBarredTests, secondBarred, secondOblongTests, secondOblong};
+ghost use Rattle.swaps.specs.Entries.{lent_of, outcome_of, outcome, told_of, lent_long, second_tests, second_square, second_barred_tests, second_barred, second_oblong_tests, second_oblong};
 
 use crate::search::find_second;
 use checker::choices::spares_not_below;
@@ -55,7 +55,7 @@ fn lent_long(
     numbers: &[i64],
 ) -> Verdict
     requires { Passes before → n ≤ side }
-    ensures { result ≡ (before then lentLong m n (lent_of list.now indices.now numbers.now)) }
+    ensures { result ≡ (before then lent_long m n (lent_of list.now indices.now numbers.now)) }
 {
     let listed = tests::list_long(before, 6, m, list.len());
     tests::rooms_long(listed, n, indices.len(), numbers.len())
@@ -76,7 +76,7 @@ fn answered(
     numbers: &mut [i64],
 ) -> Seconded
     requires { Passes verdict → CanFindIn m n costs.now bars.now cols.now us.now vs.now list.old indices.old numbers.old }
-    ensures { toldOf (outcomeOf result (lent_of list.new indices.new numbers.new)) ≡ toldOf (outcome (nightOf m n costs.now bars.now) cols.now us.now vs.now (lent_of list.old indices.old numbers.old) verdict) }
+    ensures { told_of (outcome_of result (lent_of list.new indices.new numbers.new)) ≡ told_of (outcome (night_of m n costs.now bars.now) cols.now us.now vs.now (lent_of list.old indices.old numbers.old) verdict) }
 {
     match verdict {
         Verdict::Fails(refusal) => {
@@ -101,7 +101,7 @@ fn tested(
     indices: &[u32],
     numbers: &[i64],
 ) -> Verdict
-    ensures { result ≡ secondTests n costs.now cols.now rows.now us.now vs.now (lent_of list.now indices.now numbers.now) }
+    ensures { result ≡ second_tests n costs.now cols.now rows.now us.now vs.now (lent_of list.now indices.now numbers.now) }
 {
     let shaped = tests::shaped(n, costs, cols.len(), rows.len(), us.len(), vs.len());
     let roomy = lent_long(shaped, n, n, list, indices, numbers);
@@ -121,7 +121,7 @@ pub fn second(
     indices: &mut [u32],
     numbers: &mut [i64],
 ) -> Seconded
-    ensures { toldOf (outcomeOf result (lent_of list.new indices.new numbers.new)) ≡ toldOf (secondSquare n costs.now cols.now rows.now us.now vs.now (lent_of list.old indices.old numbers.old)) }
+    ensures { told_of (outcome_of result (lent_of list.new indices.new numbers.new)) ≡ told_of (second_square n costs.now cols.now rows.now us.now vs.now (lent_of list.old indices.old numbers.old)) }
 {
     let verdict = tested(n, costs, cols, rows, us, vs, list, indices, numbers);
     answered(
@@ -152,7 +152,7 @@ fn tested_barred(
     indices: &[u32],
     numbers: &[i64],
 ) -> Verdict
-    ensures { result ≡ secondBarredTests n costs.now cols.now rows.now us.now vs.now bars.now (lent_of list.now indices.now numbers.now) }
+    ensures { result ≡ second_barred_tests n costs.now cols.now rows.now us.now vs.now bars.now (lent_of list.now indices.now numbers.now) }
 {
     let shaped = checker::shaped_barred(
         n,
@@ -181,7 +181,7 @@ pub fn second_barred(
     indices: &mut [u32],
     numbers: &mut [i64],
 ) -> Seconded
-    ensures { toldOf (outcomeOf result (lent_of list.new indices.new numbers.new)) ≡ toldOf (secondBarred n costs.now cols.now rows.now us.now vs.now bars.now (lent_of list.old indices.old numbers.old)) }
+    ensures { told_of (outcome_of result (lent_of list.new indices.new numbers.new)) ≡ told_of (second_barred n costs.now cols.now rows.now us.now vs.now bars.now (lent_of list.old indices.old numbers.old)) }
 {
     let verdict = tested_barred(n, costs, cols, rows, us, vs, bars, list, indices, numbers);
     answered(
@@ -201,7 +201,7 @@ fn tested_oblong(
     indices: &[u32],
     numbers: &[i64],
 ) -> Verdict
-    ensures { result ≡ secondOblongTests m n costs.now cols.now us.now vs.now (lent_of list.now indices.now numbers.now) }
+    ensures { result ≡ second_oblong_tests m n costs.now cols.now us.now vs.now (lent_of list.now indices.now numbers.now) }
 {
     let shaped = checker::shaped_oblong(m, n, costs, cols.len(), us.len(), vs.len());
     let roomy = lent_long(shaped, m, n, list, indices, numbers);
@@ -222,7 +222,7 @@ pub fn second_oblong(
     indices: &mut [u32],
     numbers: &mut [i64],
 ) -> Seconded
-    ensures { toldOf (outcomeOf result (lent_of list.new indices.new numbers.new)) ≡ toldOf (secondOblong m n costs.now cols.now us.now vs.now (lent_of list.old indices.old numbers.old)) }
+    ensures { told_of (outcome_of result (lent_of list.new indices.new numbers.new)) ≡ told_of (second_oblong m n costs.now cols.now us.now vs.now (lent_of list.old indices.old numbers.old)) }
 {
     let verdict = tested_oblong(m, n, costs, cols, us, vs, list, indices, numbers);
     answered(

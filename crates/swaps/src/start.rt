@@ -3,7 +3,7 @@ ghost use Rattle.std.specs.Prelude.{◌≡◌, cond, ℕ, suc, ◌≤◌, ◌<�
 ghost use Rattle.std.specs.Int.Signed.{lt_z};
 ghost use Rattle.lists.specs.Runs.{upward, first};
 ghost use Rattle.lists.specs.Permutations.{at, table, Injective};
-ghost use Rattle.assignment.specs.Pairings.{signedAt};
+ghost use Rattle.assignment.specs.Pairings.{signed_at};
 ghost use Rattle.matrix.specs.Limits.{side};
 ghost use Rattle.swaps.specs.Second.{higher};
 
@@ -30,7 +30,7 @@ fn higher(t: i64, v: i64) -> i64
 // The highest price of a used column.
 pub fn dearest(m: usize, cols: &[u32], vs: &[i64]) -> i64
     requires { (0 < m) × (m ≤ length cols.now) × ((i : ℕ) → i < m → at cols.now i < length vs.now) }
-    ensures { result ≡ upward 0 m (higher vs.now cols.now) (signedAt vs.now (at cols.now 0)) }
+    ensures { result ≡ upward 0 m (higher vs.now cols.now) (signed_at vs.now (at cols.now 0)) }
 {
     let first = cols[0] as usize;
     let mut top = vs[first];
@@ -60,7 +60,7 @@ pub fn list_rows(m: usize, cols: &[u32], rows: &mut [u32])
 // The first prices, as many as there is room for.
 pub fn copy_prices(vs: &[i64], numbers: &mut [i64])
     requires { length numbers.old ≤ length vs.now }
-    ensures { numbers.new ≡ table (length numbers.old) (signedAt vs.now) }
+    ensures { numbers.new ≡ table (length numbers.old) (signed_at vs.now) }
 {
     let mut k = 0;
     while k < numbers.len() {

@@ -1,8 +1,8 @@
 // The walk: turn by turn, over a room of four parts: the node behind each column, the path, the marks, and the choice that each node has come to.
 ghost use Rattle.std.specs.Prelude.{◌≡◌, ◌+◌, ◌≤◌, ◌<◌, ◌^◌, length};
 ghost use Rattle.lists.specs.Permutations.{at};
-ghost use Rattle.bars.specs.Barred.{nightOf};
-ghost use Rattle.swaps.specs.Rooms.{firstOpen, place_in, entered, overTo, gone, CanGo, CanTurn, CanWalk, TurnedTo, WalkedTo, lowerAt};
+ghost use Rattle.bars.specs.Barred.{night_of};
+ghost use Rattle.swaps.specs.Rooms.{first_open, place_in, entered, over_to, gone, CanGo, CanTurn, CanWalk, TurnedTo, WalkedTo, lower_at};
 
 use crate::choices::choose;
 use crate::{Turned, Walked};
@@ -10,7 +10,7 @@ use crate::{Turned, Walked};
 // The first node that is not done, or `nodes`.
 fn first_open(n: usize, nodes: usize, room: &[u32]) -> usize
     requires { n + n + nodes ≤ length room.now }
-    ensures { result ≡ firstOpen n nodes room.now }
+    ensures { result ≡ first_open n nodes room.now }
 {
     let n2 = n + n;
     let mut y = 0;
@@ -51,7 +51,7 @@ fn enter(n: usize, size: usize, x: usize, room: &mut [u32])
 // The node to which choice c of node x leads.
 fn over_to(m: usize, x: usize, c: usize, room: &[u32]) -> usize
     requires { c < length room.now }
-    ensures { result ≡ overTo m x c room.now }
+    ensures { result ≡ over_to m x c room.now }
 {
     if x < m {
         return room[c] as usize;
@@ -85,7 +85,7 @@ const LOWEST: i64 = -1099511627776;
 // Where node x has no choice left and is a row, the price of its column is lowered, so that its places are passed by.
 fn lower(m: usize, n: usize, cols: &[u32], x: usize, c: usize, ts: &mut [i64])
     requires { x < m → (x < length cols.now) × (at cols.now x < length ts.old) }
-    ensures { ts.new ≡ lowerAt m n cols.now x c ts.old }
+    ensures { ts.new ≡ lower_at m n cols.now x c ts.old }
 {
     if c < n {
         return;
@@ -113,7 +113,7 @@ fn turn(
     room: &mut [u32],
 ) -> Turned
     requires { CanTurn m n costs.now bars.now cols.now us.now vs.now ts.old top count size room.old }
-    ensures { TurnedTo (nightOf m n costs.now bars.now) us.now vs.now cols.now size room.old result room.new ts.new }
+    ensures { TurnedTo (night_of m n costs.now bars.now) us.now vs.now cols.now size room.old result room.new ts.new }
 {
     if size == 0 {
         let x = first_open(n, count, room);
@@ -142,7 +142,7 @@ pub fn walk(
     room: &mut [u32],
 ) -> Walked
     requires { CanWalk m n costs.now bars.now cols.now us.now vs.now ts.old top count room.old }
-    ensures { WalkedTo (nightOf m n costs.now bars.now) us.now vs.now cols.now result room.new }
+    ensures { WalkedTo (night_of m n costs.now bars.now) us.now vs.now cols.now result room.new }
 {
     let turns = count + count;
     let mut size = 0;

@@ -6,28 +6,28 @@ use Prim.Native.Nat.{ℕ, ◌≤◌}
 use native.Mathlib.Omega.{arith}
 use lib.IntN.{ℤ}
 use lib.ListN.{length, take}
-use Rattle.layout.specs.Slips.{slipLength, slipColumns, slipRowPrices, slipColumnPrices}
+use Rattle.layout.specs.Slips.{slip_length, slip_columns, slip_row_prices, slip_column_prices}
 use Rattle.assignment.specs.Pairings.{Night}
 use Rattle.matrix.specs.Limits.{K}
 use Rattle.matrix.specs.Verdicts.{Passes}
 use Rattle.rules.specs.Run.{Result}
 use Rattle.rules.specs.Right.{Right}
-use Rattle.rules.proofs.Run.{right-within-ten}
+use Rattle.rules.proofs.Run.{right_within_ten}
 use Rattle.checker.specs.Proven.{Fair}
 use Rattle.sheet.specs.Reading.{Laid, night, read}
-use Rattle.sheet.specs.Settle.{solvedCosts, found, barredRow, pair}
+use Rattle.sheet.specs.Settle.{solved_costs, found, barred_row, pair}
 use Rattle.sheet.proofs.Pairing.{Readable}
-use Rattle.sheet.proofs.Nights.{sheetNight, readable, owed, night-feasible, night-pairing, night-tight, night-spares}
-use Rattle.audit.specs.Audit.{unlike, slipTests, audit}
+use Rattle.sheet.proofs.Nights.{sheet_night, readable, owed, night-feasible, night-pairing, night-tight, night-spares}
+use Rattle.audit.specs.Audit.{unlike, slip_tests, audit}
 use Rattle.audit.specs.declared.Audited.TheVariants.{Holds}
-use Rattle.audit.proofs.Checking.{proof-tests-iff}
-use Rattle.audit.proofs.Holding.{slip-like, read-edition, read-larger, accepted-holds}
-use Rattle.theorems.proofs.Slips.{cols-size, row-prices-size, row-price, near, slip-is, columns-are, row-prices-are, column-prices-are, total-is, slip-states-total}
+use Rattle.audit.proofs.Checking.{proof_tests_iff}
+use Rattle.audit.proofs.Holding.{slip_like, read-edition, read_larger, accepted-holds}
+use Rattle.theorems.proofs.Slips.{cols-size, row_prices_size, row_price, near, slip_is, columns_are, row_prices_are, column_prices_are, total_is, slip_states_total}
 
 -- A sheet that reads as a night with a pairing.
-module _ (sheet room : List ℕ) (laid : Laid) (e : read (length room) sheet ≡ night laid) (free : laid.side ≤ barredRow laid) where
+module _ (sheet room : List ℕ) (laid : Laid) (e : read (length room) sheet ≡ night laid) (free : laid.side ≤ barred_row laid) where
   abbrev m : ℕ
-  m = laid.rowCount
+  m = laid.row_count
 
   abbrev n : ℕ
   n = laid.side
@@ -38,51 +38,51 @@ module _ (sheet room : List ℕ) (laid : Laid) (e : read (length room) sheet ≡
   abbrev fits : Readable (length room) laid
   fits = readable sheet (length room) laid e
 
-  abbrev right : Right n (solvedCosts laid) K a
+  abbrev right : Right n (solved_costs laid) K a
   right = owed sheet (length room) laid e
 
   abbrev its : Night
-  its = sheetNight sheet (length room) laid e
+  its = sheet_night sheet (length room) laid e
 
   abbrev cols : List ℕ
   cols = take m a.cols
 
-  abbrev rowPrices : List ℤ
-  rowPrices = take m a.rowPrices
+  abbrev prices_of_rows : List ℤ
+  prices_of_rows = take m a.prices_of_rows
 
   -- The bytes that are written: the front of the room.
   abbrev slip : List ℕ
-  slip = take (slipLength laid.edition m n) (pair sheet room).slip
+  slip = take (slip_length laid.edition m n) (pair sheet room).slip
 
   like : unlike laid.edition m n slip ≡ false
   like =
-      ap (unlike laid.edition m n) (slip-is sheet room laid e free)
-      ∙ slip-like laid.edition m n cols rowPrices a.columnPrices a.total fits.fewer fits.few (read-edition (length room) sheet laid e)
-      (cols-size sheet room laid e free) (row-prices-size sheet room laid e free) right.column-prices-size
+      ap (unlike laid.edition m n) (slip_is sheet room laid e free)
+      ∙ slip_like laid.edition m n cols prices_of_rows a.prices_of_columns a.total fits.fewer fits.few (read-edition (length room) sheet laid e)
+      (cols-size sheet room laid e free) (row_prices_size sheet room laid e free) right.column_prices_size
 
-  fair : Fair its rowPrices a.columnPrices
+  fair : Fair its prices_of_rows a.prices_of_columns
   fair =
       let feasible = night-feasible sheet (length room) laid e free in
       record {
-        row-prices = record { enough = omega (arith, row-prices-size sheet room laid e free); within = near sheet room laid e free };
-        column-prices = record { enough = omega (arith, right.column-prices-size); within = (right-within-ten n (solvedCosts laid) K a right).1 };
-        feasible = record { under = λ i j hi hj h. rw (row-price sheet room laid e free i hi) (feasible.under i j hi hj h) };
+        row-prices = record { enough = omega (arith, row_prices_size sheet room laid e free); within = near sheet room laid e free };
+        column-prices = record { enough = omega (arith, right.column_prices_size); within = (right_within_ten n (solved_costs laid) K a right).1 };
+        feasible = record { under = λ i j hi hj h. rw (row_price sheet room laid e free i hi) (feasible.under i j hi hj h) };
       }
 
-  passed : Passes (slipTests m n laid.costs laid.bars slip)
+  passed : Passes (slip_tests m n laid.costs laid.bars slip)
   passed =
-      rw (columns-are sheet room laid e free, row-prices-are sheet room laid e free, column-prices-are sheet room laid e free)
+      rw (columns_are sheet room laid e free, row_prices_are sheet room laid e free, column_prices_are sheet room laid e free)
       (let tight = night-tight sheet (length room) laid e free in
-      (proof-tests-iff m n laid.costs laid.bars cols rowPrices a.columnPrices (cols-size sheet room laid e free) (row-prices-size sheet room laid e free)
-      right.column-prices-size).1 (
+      (proof_tests_iff m n laid.costs laid.bars cols prices_of_rows a.prices_of_columns (cols-size sheet room laid e free) (row_prices_size sheet room laid e free)
+      right.column_prices_size).1 (
         night-pairing sheet (length room) laid e free,
         fair,
-        record { met = λ i l. rw (row-price sheet room laid e free i l) (tight.met i l) },
+        record { met = λ i l. rw (row_price sheet room laid e free i l) (tight.met i l) },
         night-spares sheet (length room) laid e free,
       ))
 
   -- "it accepts every slip that the sheet entry wrote".
   pub slip-holds : audit sheet slip ≡ Holds n a.total
   slip-holds =
-      accepted-holds sheet slip laid (read-larger (length room) sheet laid e) like passed (slip-states-total sheet room laid e free)
-      ∙ ap (Holds n) (total-is sheet room laid e free)
+      accepted-holds sheet slip laid (read_larger (length room) sheet laid e) like passed (slip_states_total sheet room laid e free)
+      ∙ ap (Holds n) (total_is sheet room laid e free)

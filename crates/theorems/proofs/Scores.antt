@@ -9,42 +9,42 @@ use native.Mathlib.Omega.{arith}
 use borrow.Author.Tests.{le-ltb}
 use lib.IntN.{pos}
 use lib.ListN.{length, take, replicate, length-replicate, get_or-replicate}
-use Rattle.ints.proofs.Ranges.{within-mono}
+use Rattle.ints.proofs.Ranges.{within_mono}
 use Rattle.lists.specs.Permutations.{at}
-use Rattle.lists.proofs.Tables.{length-table, getD-table}
-use Rattle.bars.proofs.Barred.{no-pair-barred}
-use Rattle.layout.specs.Slips.{slipLength}
-use Rattle.matrix.proofs.SmallLimits.{K-large}
-use Rattle.score.specs.ScoreSheet.{referenceCount, reference, sheetLength, scoreAt, scores, scoreSheet}
+use Rattle.lists.proofs.Tables.{length-table, get_d_table}
+use Rattle.bars.proofs.Barred.{no_pair_barred}
+use Rattle.layout.specs.Slips.{slip_length}
+use Rattle.matrix.proofs.SmallLimits.{K_large}
+use Rattle.score.specs.ScoreSheet.{reference_count, reference, sheet_length, score_at, scores, score_sheet}
 use Rattle.score.proofs.Metric.{sum-small}
-use Rattle.score.proofs.Accepted.{accepted-lists, sheet-written}
+use Rattle.score.proofs.Accepted.{accepted_lists, sheet-written}
 use Rattle.sheet.specs.Reading.{Laid, Read, night, read, Printable, Layable}
-use Rattle.sheet.specs.Settle.{found, barredRow, blockedAs, slipAs, pairedAs, pair}
+use Rattle.sheet.specs.Settle.{found, barred_row, blocked_as, slip_as, paired_as, pair}
 use Rattle.sheet.proofs.Sheets.{read-sheet}
 
-module _ (firsts seconds room : List ℕ) (e : (scoreSheet firsts seconds room).number ≡ 0) where
+module _ (firsts seconds room : List ℕ) (e : (score_sheet firsts seconds room).number ≡ 0) where
   abbrev n : ℕ
-  n = referenceCount firsts
+  n = reference_count firsts
 
   -- The bytes that are written.
   abbrev sheet : List ℕ
-  sheet = take (sheetLength n) (scoreSheet firsts seconds room).sheet
+  sheet = take (sheet_length n) (score_sheet firsts seconds room).sheet
 
   size : length (scores n firsts seconds) ≡ n * n
-  size = length-table (n * n) (scoreAt n firsts seconds)
+  size = length-table (n * n) (score_at n firsts seconds)
 
   -- The night as it lies on the sheet: edition 1, nothing barred.
   abbrev laid : Laid
-  laid = record { edition = 1; rowCount = n; side = n; costs = scores n firsts seconds; bars = replicate n 0 }
+  laid = record { edition = 1; row_count = n; side = n; costs = scores n firsts seconds; bars = replicate n 0 }
 
   layable : Layable laid
   layable = record {
     known = refl;
-    small = (accepted-lists firsts seconds room e).few;
+    small = (accepted_lists firsts seconds room e).few;
     fewer = omega arith;
     square = λ h. refl;
     filled = size;
-    inside = λ k l. rw (getD-table (n * n) (scoreAt n firsts seconds) (pos 0) k l) (within-mono (omega (arith, K-large)) (sum-small (reference (k / n) firsts) (reference (k % n) seconds)));
+    inside = λ k l. rw (get_d_table (n * n) (score_at n firsts seconds) (pos 0) k l) (within_mono (omega (arith, K_large)) (sum-small (reference (k / n) firsts) (reference (k % n) seconds)));
     rows = length-replicate n 0;
     clear = λ i l. rw (get_or-replicate {A = ℕ} n i 0 0 l) (pow_pos n);
     unbarred = λ h. refl;
@@ -53,11 +53,11 @@ module _ (firsts seconds room : List ℕ) (e : (scoreSheet firsts seconds room).
   no_note : Printable []
   no_note = record { short = omega arith; printed = λ k l. absurd (omega arith) }
 
-  pub scores-read : (slip : ℕ) → slipLength 1 n n ≤ slip → read slip sheet ≡ night laid
+  pub scores-read : (slip : ℕ) → slip_length 1 n n ≤ slip → read slip sheet ≡ night laid
   scores-read slip roomy = ap (read slip) (sheet-written firsts seconds room e) ∙ read-sheet [] laid slip no_note layable roomy
 
-  pub scores-paired : (slip : List ℕ) → slipLength 1 n n ≤ length slip → (pair sheet slip).number ≡ 0
+  pub scores-paired : (slip : List ℕ) → slip_length 1 n n ≤ length slip → (pair sheet slip).number ≡ 0
   unfolding pair
   scores-paired slip roomy =
-      ap (λ (r : Read). (pairedAs slip r).number) (scores-read (length slip) roomy)
-      ∙ ap (λ (t : Bool). (cond t (blockedAs slip laid) (slipAs slip laid)).number) (le-ltb (barredRow laid) n (omega (arith, no-pair-barred n (found laid).cols)))
+      ap (λ (r : Read). (paired_as slip r).number) (scores-read (length slip) roomy)
+      ∙ ap (λ (t : Bool). (cond t (blocked_as slip laid) (slip_as slip laid)).number) (le-ltb (barred_row laid) n (omega (arith, no_pair_barred n (found laid).cols)))

@@ -10,21 +10,21 @@ use Rattle.lapjv.specs.declared.Solved.TheVariants.{Paired}
 use Rattle.lapjv.specs.Answers.{answer}
 use Rattle.lapjv.specs.Solve.{Lent, solve}
 use Rattle.lapjv.specs.WithinLimits.{WithinLimits}
-use Rattle.lapjv.proofs.Owed.{answer-owes}
+use Rattle.lapjv.proofs.Owed.{answer_owes}
 use Rattle.plain.specs.Engine.{plain}
-use Rattle.plain.proofs.Entry.{fit-plain, square-same}
-use Rattle.theorems.proofs.Accepted.{solved-answer}
+use Rattle.plain.proofs.Entry.{fit_plain, square-same}
+use Rattle.theorems.proofs.Accepted.{solved_answer}
 
 module _ (n : ℕ) (costs : List ℤ) (lent : Lent) (p : WithinLimits n costs lent) (cols : List ℕ) (small : n ≤ 8) (listed : n ≤ length cols) where
   pub plain-total : (plain n costs cols).0 ≡ Total (answer n costs).total
   plain-total =
-      let r = answer-owes n costs p.small p.costs-within in
-      ap (λ (o : Answer × List ℕ). o.0) (fit-plain n costs cols (record { small = small; squared = p.squared; listed = listed; within = p.costs-within }))
-      ∙ ap Total (square-same n costs (answer n costs).cols r.least ∙ sym r.total-is)
+      let r = answer_owes n costs p.small p.costs-within in
+      ap (λ (o : Answer × List ℕ). o.0) (fit_plain n costs cols (record { small = small; squared = p.squared; listed = listed; within = p.costs-within }))
+      ∙ ap Total (square-same n costs (answer n costs).cols r.least ∙ sym r.total_is)
 
   -- The solver's answer has the total that the plain engine gives.
-  pub second-opinion : (total : ℤ) → (plain n costs cols).0 ≡ Total total → (solve n costs lent).answer ≡ Paired (record { total = total; counts = (answer n costs).counts })
-  second-opinion total e =
+  pub second_opinion : (total : ℤ) → (plain n costs cols).0 ≡ Total total → (solve n costs lent).answer ≡ Paired (record { total = total; counts = (answer n costs).counts })
+  second_opinion total e =
       let same : Total total ≡ Total (answer n costs).total = sym e ∙ plain-total in
       let t : (answer n costs).total ≡ total = sym (cc same) in
-      solved-answer n costs lent p ∙ ap (λ (z : ℤ). Paired (record { total = z; counts = (answer n costs).counts })) t
+      solved_answer n costs lent p ∙ ap (λ (z : ℤ). Paired (record { total = z; counts = (answer n costs).counts })) t

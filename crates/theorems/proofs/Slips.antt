@@ -12,44 +12,44 @@ use lib.ListN.{length, take, drop, get_or-replicate}
 use lib.Seq.{take_at, take_all, length-take-le, get_or-take}
 use lib.Signed.{mag}
 use Rattle.ints.specs.Parts.{Within}
-use Rattle.ints.proofs.Ranges.{within-mono}
+use Rattle.ints.proofs.Ranges.{within_mono}
 use Rattle.lists.specs.Permutations.{at}
 use Rattle.lists.specs.Counts.{bit_of}
-use Rattle.lists.proofs.BitSets.{bit-none}
-use Rattle.layout.specs.Trailers.{slipMark, trailer, hasRowCount}
-use Rattle.layout.specs.Slips.{rowCount, slipDistance, slipOf, slipLength, slipColumns, slipRowPrices, slipColumnPrices, slipTotal, Held}
-use Rattle.layout.proofs.Slips.{length-slipOf, slip-columns, slip-row-prices, slip-column-prices, slip-total}
-use Rattle.assignment.specs.Pairings.{Night, Least, Named, total, signedAt}
+use Rattle.lists.proofs.BitSets.{bit_none}
+use Rattle.layout.specs.Trailers.{slip_mark, trailer, has_row_count}
+use Rattle.layout.specs.Slips.{row_count, slip_distance, slip_of, slip_length, slip_columns, slip_row_prices, slip_column_prices, slip_total, Held}
+use Rattle.layout.proofs.Slips.{length-slip_of, slip-columns, slip_row_prices_lem, slip_column_prices_lem, slip-total}
+use Rattle.assignment.specs.Pairings.{Night, Least, Named, total, signed_at}
 use Rattle.assignment.specs.Pairings as pairings
-use Rattle.bars.specs.Tests.{barredMost}
-use Rattle.bars.proofs.FilledCosts.{filled-costs-length}
+use Rattle.bars.specs.Tests.{barred_most}
+use Rattle.bars.proofs.FilledCosts.{filled_costs_length}
 use Rattle.bars.proofs.Passed.{bars-clear}
 use Rattle.matrix.specs.Limits.{K}
 use Rattle.matrix.specs.declared.Answer.TheVariants.{Total}
-use Rattle.matrix.proofs.SmallLimits.{sheetSide-within, K-small}
-use Rattle.matrix.proofs.Verdicts.{then-iff}
+use Rattle.matrix.proofs.SmallLimits.{sheet_side-within, K-small}
+use Rattle.matrix.proofs.Verdicts.{then_iff}
 use Rattle.rules.specs.Run.{Result}
 use Rattle.rules.specs.Right.{Right}
-use Rattle.rules.proofs.Run.{right-within-ten}
-use Rattle.checker.specs.Check.{check, checkBarred, checkOblong}
-use Rattle.checker.proofs.Oblong.{accepted-oblong-iff}
-use Rattle.sheet.specs.Reading.{hasBars, Laid, night, read}
-use Rattle.sheet.specs.Settle.{solvedCosts, found, barredRow, Delivery, blockedAs, slipAs, pairedAs, pair}
+use Rattle.rules.proofs.Run.{right_within_ten}
+use Rattle.checker.specs.Check.{check, check_barred, check_oblong}
+use Rattle.checker.proofs.Oblong.{accepted_oblong_iff}
+use Rattle.sheet.specs.Reading.{has_bars, Laid, night, read}
+use Rattle.sheet.specs.Settle.{solved_costs, found, barred_row, Delivery, blocked_as, slip_as, paired_as, pair}
 use Rattle.sheet.proofs.Solver as solver
-use Rattle.sheet.proofs.Editions.{costMost-within}
+use Rattle.sheet.proofs.Editions.{cost_most-within}
 use Rattle.sheet.proofs.Pairing.{Readable}
-use Rattle.sheet.proofs.Nights.{sheetNight, readable, owed, costs-near, night-feasible, night-pairing, night-tight, night-spares, night-least, night-total}
-use Rattle.theorems.proofs.Accepted.{run-accepted, run-barred-accepted}
+use Rattle.sheet.proofs.Nights.{sheet_night, readable, owed, costs-near, night-feasible, night-pairing, night-tight, night-spares, night-least, night-total}
+use Rattle.theorems.proofs.Accepted.{run-accepted, run_barred_accepted}
 
 -- What lies within a bound below 2^63 fits eight bytes.
-fits-eight : (B : ℕ) (z : ℤ) → B < 2 ^ 63 → Within B z → mag z < 256 ^ 8 / 2
-fits-eight B (pos m) h w = omega arith
-fits-eight B (negsuc m) h w = omega arith
+fits_eight : (B : ℕ) (z : ℤ) → B < 2 ^ 63 → Within B z → mag z < 256 ^ 8 / 2
+fits_eight B (pos m) h w = omega arith
+fits_eight B (negsuc m) h w = omega arith
 
 -- A sheet that reads as a night with a pairing: no pair of the K-filled square is barred.
-module _ (sheet room : List ℕ) (laid : Laid) (e : read (length room) sheet ≡ night laid) (free : laid.side ≤ barredRow laid) where
+module _ (sheet room : List ℕ) (laid : Laid) (e : read (length room) sheet ≡ night laid) (free : laid.side ≤ barred_row laid) where
   abbrev m : ℕ
-  m = laid.rowCount
+  m = laid.row_count
 
   abbrev n : ℕ
   n = laid.side
@@ -63,132 +63,132 @@ module _ (sheet room : List ℕ) (laid : Laid) (e : read (length room) sheet ≡
   abbrev fits : Readable (length room) laid
   fits = readable sheet (length room) laid e
 
-  abbrev right : Right n (solvedCosts laid) K a
+  abbrev right : Right n (solved_costs laid) K a
   right = owed sheet (length room) laid e
 
   abbrev its : Night
-  its = sheetNight sheet (length room) laid e
+  its = sheet_night sheet (length room) laid e
 
   -- The columns and row prices of the night's rows.
   abbrev cols : List ℕ
   cols = take m a.cols
 
-  abbrev rowPrices : List ℤ
-  rowPrices = take m a.rowPrices
+  abbrev prices_of_rows : List ℤ
+  prices_of_rows = take m a.prices_of_rows
 
   pub cols-size : length cols ≡ m
   cols-size = length-take-le m a.cols (omega (arith, right.cols-size, fits.fewer))
 
-  pub row-prices-size : length rowPrices ≡ m
-  row-prices-size = length-take-le m a.rowPrices (omega (arith, right.row-prices-size, fits.fewer))
+  pub row_prices_size : length prices_of_rows ≡ m
+  row_prices_size = length-take-le m a.prices_of_rows (omega (arith, right.row_prices_size, fits.fewer))
 
-  pub row-price : (i : ℕ) → i < m → signedAt rowPrices i ≡ signedAt a.rowPrices i
-  row-price i l = get_or-take m a.rowPrices i (pos 0) l
+  pub row_price : (i : ℕ) → i < m → signed_at prices_of_rows i ≡ signed_at a.prices_of_rows i
+  row_price i l = get_or-take m a.prices_of_rows i (pos 0) l
 
-  pub near : (i : ℕ) → i < m → Within (10 * K) (signedAt rowPrices i)
-  near i l = rw (row-price i l) ((right-within-ten n (solvedCosts laid) K a right).0 i (omega (arith, fits.fewer)))
+  pub near : (i : ℕ) → i < m → Within (10 * K) (signed_at prices_of_rows i)
+  near i l = rw (row_price i l) ((right_within_ten n (solved_costs laid) K a right).0 i (omega (arith, fits.fewer)))
 
-  held : Held m n cols rowPrices a.columnPrices a.total
+  held : Held m n cols prices_of_rows a.prices_of_columns a.total
   held = record {
     columns = cols-size;
-    rows = row-prices-size;
-    prices = right.column-prices-size;
+    rows = row_prices_size;
+    prices = right.column_prices_size;
     column_fits = λ i l. rw (get_or-take m a.cols i 0 l) (omega (arith, right.named.inside i (omega (arith, fits.fewer)), fits.few));
-    row-price-fits = λ i l. fits-eight (10 * K) _ (omega (arith, K-small)) (near i l);
-    column-price-fits = λ j l. fits-eight (10 * K) _ (omega (arith, K-small)) ((right-within-ten n (solvedCosts laid) K a right).1 j l);
-    total-fits = fits-eight (n * K) _ (omega (arith, K-small, mul-le-mul_right K fits.few)) right.total-near;
+    row_price_fits = λ i l. fits_eight (10 * K) _ (omega (arith, K-small)) (near i l);
+    column_price_fits = λ j l. fits_eight (10 * K) _ (omega (arith, K-small)) ((right_within_ten n (solved_costs laid) K a right).1 j l);
+    total-fits = fits_eight (n * K) _ (omega (arith, K-small, mul-le-mul_right K fits.few)) right.total-near;
   }
 
   -- What follows the slip's body.
   abbrev end : List ℕ
-  end = rowCount edition m ++ trailer (slipDistance edition m n) n edition slipMark
+  end = row_count edition m ++ trailer (slip_distance edition m n) n edition slip_mark
 
   -- The bytes that are written: the front of the room.
   abbrev slip : List ℕ
-  slip = take (slipLength edition m n) (pair sheet room).slip
+  slip = take (slip_length edition m n) (pair sheet room).slip
 
-  pub slip-is : slip ≡ slipOf edition m n cols rowPrices a.columnPrices a.total
+  pub slip_is : slip ≡ slip_of edition m n cols prices_of_rows a.prices_of_columns a.total
   unfolding pair
-  slip-is =
-      ap (λ (o : Delivery). take (slipLength edition m n) o.slip) (ap (pairedAs room) e ∙ ap (λ (t : Bool). cond t (blockedAs room laid) (slipAs room laid)) (le-ltb (barredRow laid) n free))
-      ∙ take_at (slipOf edition m n cols rowPrices a.columnPrices a.total) (drop (slipLength edition m n) room) (slipLength edition m n)
-      (length-slipOf edition m n cols rowPrices a.columnPrices a.total cols-size row-prices-size right.column-prices-size)
+  slip_is =
+      ap (λ (o : Delivery). take (slip_length edition m n) o.slip) (ap (paired_as room) e ∙ ap (λ (t : Bool). cond t (blocked_as room laid) (slip_as room laid)) (le-ltb (barred_row laid) n free))
+      ∙ take_at (slip_of edition m n cols prices_of_rows a.prices_of_columns a.total) (drop (slip_length edition m n) room) (slip_length edition m n)
+      (length-slip_of edition m n cols prices_of_rows a.prices_of_columns a.total cols-size row_prices_size right.column_prices_size)
 
-  pub columns-are : slipColumns m slip ≡ cols
-  columns-are = ap (slipColumns m) slip-is ∙ slip-columns m n cols rowPrices a.columnPrices a.total held end
+  pub columns_are : slip_columns m slip ≡ cols
+  columns_are = ap (slip_columns m) slip_is ∙ slip-columns m n cols prices_of_rows a.prices_of_columns a.total held end
 
-  pub row-prices-are : slipRowPrices m slip ≡ rowPrices
-  row-prices-are = ap (slipRowPrices m) slip-is ∙ slip-row-prices m n cols rowPrices a.columnPrices a.total held end
+  pub row_prices_are : slip_row_prices m slip ≡ prices_of_rows
+  row_prices_are = ap (slip_row_prices m) slip_is ∙ slip_row_prices_lem m n cols prices_of_rows a.prices_of_columns a.total held end
 
-  pub column-prices-are : slipColumnPrices m n slip ≡ a.columnPrices
-  column-prices-are = ap (slipColumnPrices m n) slip-is ∙ slip-column-prices m n cols rowPrices a.columnPrices a.total held end
+  pub column_prices_are : slip_column_prices m n slip ≡ a.prices_of_columns
+  column_prices_are = ap (slip_column_prices m n) slip_is ∙ slip_column_prices_lem m n cols prices_of_rows a.prices_of_columns a.total held end
 
-  pub total-is : slipTotal m n slip ≡ a.total
-  total-is = ap (slipTotal m n) slip-is ∙ slip-total m n cols rowPrices a.columnPrices a.total held end
+  pub total_is : slip_total m n slip ≡ a.total
+  total_is = ap (slip_total m n) slip_is ∙ slip-total m n cols prices_of_rows a.prices_of_columns a.total held end
 
   -- No pairing of the sheet's night has a smaller total than the slip's.
-  pub slip-least : Least its (slipColumns m slip)
-  slip-least = rw columns-are (night-least sheet (length room) laid e free)
+  pub slip-least : Least its (slip_columns m slip)
+  slip-least = rw columns_are (night-least sheet (length room) laid e free)
 
-  pub slip-states-total : slipTotal m n slip ≡ total its (slipColumns m slip)
-  slip-states-total = total-is ∙ night-total sheet (length room) laid e free ∙ ap (total its) (sym columns-are)
+  pub slip_states_total : slip_total m n slip ≡ total its (slip_columns m slip)
+  slip_states_total = total_is ∙ night-total sheet (length room) laid e free ∙ ap (total its) (sym columns_are)
 
   -- As many rows as columns: the checker accepts what the slip says on the costs with K on barred places, with the total that it says, under any rows
   -- that the slip's columns name back; and the checker with bars on the sheet's own costs and bars, where the edition has some.
-  module _ (uncounted : hasRowCount edition ≡ false) where
+  module _ (uncounted : has_row_count edition ≡ false) where
     square : m ≡ n
     square = fits.square uncounted
 
-    all-columns : cols ≡ a.cols
-    all-columns = take_all m a.cols (omega (arith, right.cols-size, square))
+    all_columns : cols ≡ a.cols
+    all_columns = take_all m a.cols (omega (arith, right.cols-size, square))
 
-    all-row-prices : rowPrices ≡ a.rowPrices
-    all-row-prices = take_all m a.rowPrices (omega (arith, right.row-prices-size, square))
+    all_row_prices : prices_of_rows ≡ a.prices_of_rows
+    all_row_prices = take_all m a.prices_of_rows (omega (arith, right.row_prices_size, square))
 
-    pub slip-accepted : (rows : List ℕ) → n ≤ length rows → Named (pairings.square n (solvedCosts laid)) (slipColumns m slip) rows
-        → check n (solvedCosts laid) (slipColumns m slip) rows (slipRowPrices m slip) (slipColumnPrices m n slip) ≡ Total (slipTotal m n slip)
+    pub slip-accepted : (rows : List ℕ) → n ≤ length rows → Named (pairings.square n (solved_costs laid)) (slip_columns m slip) rows
+        → check n (solved_costs laid) (slip_columns m slip) rows (slip_row_prices m slip) (slip_column_prices m n slip) ≡ Total (slip_total m n slip)
     slip-accepted =
-        rw (columns-are, row-prices-are, column-prices-are, total-is, all-columns, all-row-prices)
-        (run-accepted n (solvedCosts laid) (omega (arith, fits.small, sheetSide-within)) (filled-costs-length n (pos K) laid.costs laid.bars)
-        (solver.filled-within-all edition m n laid.costs laid.bars fits.filled fits.rows fits.fewer fits.small fits.passes))
+        rw (columns_are, row_prices_are, column_prices_are, total_is, all_columns, all_row_prices)
+        (run-accepted n (solved_costs laid) (omega (arith, fits.small, sheet_side-within)) (filled_costs_length n (pos K) laid.costs laid.bars)
+        (solver.filled_within_all edition m n laid.costs laid.bars fits.filled fits.rows fits.fewer fits.small fits.passes))
 
-    pub slip-barred-accepted : hasBars edition ≡ true → (rows : List ℕ) → n ≤ length rows → Named (pairings.square n (solvedCosts laid)) (slipColumns m slip) rows
-        → checkBarred n laid.costs (slipColumns m slip) rows (slipRowPrices m slip) (slipColumnPrices m n slip) laid.bars ≡ Total (slipTotal m n slip)
-    slip-barred-accepted bars =
-        rw (columns-are, row-prices-are, column-prices-are, total-is, all-columns, all-row-prices)
-        (run-barred-accepted n laid.costs laid.bars fits.small (fits.filled ∙ ap (λ (k : ℕ). k * n) square) (omega (arith, fits.rows))
-        (λ k l. subst (λ (c : ℕ). Within c (signedAt laid.costs k)) (ap (λ (t : Bool). cond t barredMost K) bars) (costs-near sheet (length room) laid e k l))
-        ((bars-clear n laid.bars).0 ((then-iff _ _).0 fits.passes).1) free)
+    pub slip_barred_accepted : has_bars edition ≡ true → (rows : List ℕ) → n ≤ length rows → Named (pairings.square n (solved_costs laid)) (slip_columns m slip) rows
+        → check_barred n laid.costs (slip_columns m slip) rows (slip_row_prices m slip) (slip_column_prices m n slip) laid.bars ≡ Total (slip_total m n slip)
+    slip_barred_accepted bars =
+        rw (columns_are, row_prices_are, column_prices_are, total_is, all_columns, all_row_prices)
+        (run_barred_accepted n laid.costs laid.bars fits.small (fits.filled ∙ ap (λ (k : ℕ). k * n) square) (omega (arith, fits.rows))
+        (λ k l. subst (λ (c : ℕ). Within c (signed_at laid.costs k)) (ap (λ (t : Bool). cond t barred_most K) bars) (costs-near sheet (length room) laid e k l))
+        ((bars-clear n laid.bars).0 ((then_iff _ _).0 fits.passes).1) free)
 
   -- Without bars, and with as many columns as rows or more: the checker of oblong nights accepts it.
-  module _ (unbarred : hasBars edition ≡ false) where
+  module _ (unbarred : has_bars edition ≡ false) where
     plain : (i j : ℕ) → i < m → its.allowed i j ≡ true
     plain i j l =
         let none : at laid.bars i ≡ 0 = ap (λ (b : List ℕ). at b i) (fits.unbarred unbarred) ∙ get_or-replicate {A = ℕ} n i 0 0 (omega (arith, fits.fewer)) in
-        ap (λ (b : ℕ). not (bit_of b j)) none ∙ ap not (bit-none j)
+        ap (λ (b : ℕ). not (bit_of b j)) none ∙ ap not (bit_none j)
 
-    pub slip-oblong-accepted : checkOblong m n laid.costs (slipColumns m slip) (slipRowPrices m slip) (slipColumnPrices m n slip) ≡ Total (slipTotal m n slip)
-    slip-oblong-accepted =
-        rw (columns-are, row-prices-are, column-prices-are, total-is)
+    pub slip_oblong_accepted : check_oblong m n laid.costs (slip_columns m slip) (slip_row_prices m slip) (slip_column_prices m n slip) ≡ Total (slip_total m n slip)
+    slip_oblong_accepted =
+        rw (columns_are, row_prices_are, column_prices_are, total_is)
         (let p = night-pairing sheet (length room) laid e free in
         let tight = night-tight sheet (length room) laid e free in
         let fair = night-feasible sheet (length room) laid e free in
-        (accepted-oblong-iff m n laid.costs cols rowPrices a.columnPrices).1 (
+        (accepted_oblong_iff m n laid.costs cols prices_of_rows a.prices_of_columns).1 (
           record {
             small = fits.small;
             fits = fits.fewer;
             filled = fits.filled;
             columns-listed = omega (arith, cols-size);
-            within = λ k l. within-mono (costMost-within edition) (costs-near sheet (length room) laid e k l);
+            within = λ k l. within_mono (cost_most-within edition) (costs-near sheet (length room) laid e k l);
             inside = p.inside;
             once = p.apart;
           },
           record {
-            row-prices = record { enough = omega (arith, row-prices-size); within = near };
-            column-prices = record { enough = omega (arith, right.column-prices-size); within = (right-within-ten n (solvedCosts laid) K a right).1 };
-            feasible = record { under = λ i j hi hj h. rw (row-price i hi) (fair.under i j hi hj (plain i j hi)) };
+            row-prices = record { enough = omega (arith, row_prices_size); within = near };
+            column-prices = record { enough = omega (arith, right.column_prices_size); within = (right_within_ten n (solved_costs laid) K a right).1 };
+            feasible = record { under = λ i j hi hj h. rw (row_price i hi) (fair.under i j hi hj (plain i j hi)) };
           },
-          record { met = λ i l. rw (row-price i l) (tight.met i l) },
-          record { not-below = (night-spares sheet (length room) laid e free).not-below },
+          record { met = λ i l. rw (row_price i l) (tight.met i l) },
+          record { not_below = (night-spares sheet (length room) laid e free).not_below },
           night-total sheet (length room) laid e free,
         ))

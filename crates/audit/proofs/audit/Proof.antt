@@ -5,27 +5,27 @@ use native.Mathlib.Nat.{mul-le-mul}
 use native.Mathlib.Omega.{arith}
 use lib.IntN.{pos}
 use lib.ListN.{replicate, length-replicate}
-use Rattle.layout.specs.Slips.{slipLength}
-use Rattle.layout.specs.Trailers.{editionOf, side_of}
-use Rattle.matrix.specs.Limits.{sheetSide}
-use Rattle.matrix.proofs.SmallLimits.{sheetSide-small}
-use Rattle.sheet.specs.Reading.{Laid, rows_of, sheetTests, laidAt, distanceDue, nightTested}
-use Rattle.sheet.proofs.Passing.{SheetPassed, tests-passed, laid-found}
-use Rattle.audit.specs.Audit.{auditedAs}
-use Rattle.audit.specs.Values.{auditedValues}
+use Rattle.layout.specs.Slips.{slip_length}
+use Rattle.layout.specs.Trailers.{edition_of, side_of}
+use Rattle.matrix.specs.Limits.{sheet_side}
+use Rattle.matrix.proofs.SmallLimits.{sheet_side-small}
+use Rattle.sheet.specs.Reading.{Laid, rows_of, sheet_tests, laid_at, distance_due, night_tested}
+use Rattle.sheet.proofs.Passing.{SheetPassed, tests_passed, laid_found}
+use Rattle.audit.specs.Audit.{audited_as}
+use Rattle.audit.specs.Values.{audited_values}
 use Rattle.audit.proofs.Checking.{part-size, zeros-part}
-use Rattle.audit.proofs.Nights.{sheet-fails, sheet-passes}
+use Rattle.audit.proofs.Nights.{sheet_fails, sheet_passes}
 use borrow.Author.Rules.{rules}
 use Rattle.audit.proofs.audit.Statement.{statement}
 use Rattle.audit.proofs.audit.Tie as tie
 
 -- a slip room that is long enough for every edition and side
 abbrev room : ℕ
-room = slipLength 3 sheetSide sheetSide
+room = slip_length 3 sheet_side sheet_side
 
-room-is : 1174 ≡ room
-unfolding sheetSide
-room-is = refl
+room_is : 1174 ≡ room
+unfolding sheet_side
+room_is = refl
 
 tests-requires : tie.Need-tests-requires
 tests-requires c κs = search rules
@@ -33,8 +33,8 @@ tests-requires c κs = search rules
 abbrev start : tie.After-tests → tie.Start
 start c = c.before.before.before
 
-tested : (c : tie.After-tests) → c.tests.result ≡ sheetTests room (start c).args.sheet.now
-tested c = c.tests.ensures ∙ ap (λ (k : ℕ). sheetTests k (start c).args.sheet.now) room-is
+tested : (c : tie.After-tests) → c.tests.result ≡ sheet_tests room (start c).args.sheet.now
+tested c = c.tests.ensures ∙ ap (λ (k : ℕ). sheet_tests k (start c).args.sheet.now) room_is
 
 enum-known-refusal : tie.Need-enum-known-refusal
 enum-known-refusal c = search rules
@@ -42,13 +42,13 @@ enum-known-refusal c = search rules
 returns : tie.Need-returns
 returns c =
     let t = c.before.before.before in
-    ap auditedValues (sheet-fails (start t).args.sheet.now (start t).args.slip.now (sym (tested t) ∙ c.before.refusal.given.1))
+    ap audited_values (sheet_fails (start t).args.sheet.now (start t).args.slip.now (sym (tested t) ∙ c.before.refusal.given.1))
 
 enum_told : tie.Need-enum-told
 enum_told c = search rules
 
 passed : (c : tie.After-enum-told) → SheetPassed room (start c.before.before).args.sheet.now
-passed c = tests-passed room (start c.before.before).args.sheet.now (sym (tested c.before.before) ∙ c.enum_told.given.1)
+passed c = tests_passed room (start c.before.before).args.sheet.now (sym (tested c.before.before) ∙ c.enum_told.given.1)
 
 edition-of-requires : tie.Need-edition-of-requires
 edition-of-requires c κs = (passed c).counted.ended.long
@@ -67,11 +67,11 @@ at_told c = c.before.before.before
 fewer : (c : tie.After-side-of) → c.before.rows_of_lem.result ≤ c.side-of.result
 fewer c = omega (arith, c.before.rows_of_lem.ensures.0, c.side-of.ensures.0, (passed (at_told c)).counted.fewer)
 
-small : (c : tie.After-side-of) → c.side-of.result ≤ sheetSide
+small : (c : tie.After-side-of) → c.side-of.result ≤ sheet_side
 small c = omega (arith, c.side-of.ensures.0, (passed (at_told c)).counted.small)
 
 few : (c : tie.After-side-of) → c.side-of.result ≤ 64
-few c = omega (arith, small c, sheetSide-small)
+few c = omega (arith, small c, sheet_side-small)
 
 places : (c : tie.After-side-of) → c.before.rows_of_lem.result * c.side-of.result ≤ 4096
 places c = let h : c.before.rows_of_lem.result ≤ 64 = omega (arith, fewer c, few c) in mul-le-mul h (few c)
@@ -118,11 +118,11 @@ returns-2 c =
     let u = (start t).args in
     let sheet = u.sheet.now in
     let n = s.side-of.result in
-    ap auditedValues (a.audit-night.ensures
-    ∙ ap₂ (λ (d m : ℕ). auditedAs u.slip.now (nightTested (laidAt d m n (distanceDue d m n) sheet))) s.before.before.edition-of.ensures s.before.rows_of_lem.ensures.0
-    ∙ ap (λ (k : ℕ). auditedAs u.slip.now (nightTested (laidAt (editionOf sheet) (rows_of sheet) k (distanceDue (editionOf sheet) (rows_of sheet) k) sheet))) s.side-of.ensures.0
-    ∙ ap (λ (l : Laid). auditedAs u.slip.now (nightTested l)) (sym (laid-found room sheet (passed e)))
-    ∙ sym (sheet-passes sheet u.slip.now (sym (tested t) ∙ e.enum_told.given.1)))
+    ap audited_values (a.audit-night.ensures
+    ∙ ap₂ (λ (d m : ℕ). audited_as u.slip.now (night_tested (laid_at d m n (distance_due d m n) sheet))) s.before.before.edition-of.ensures s.before.rows_of_lem.ensures.0
+    ∙ ap (λ (k : ℕ). audited_as u.slip.now (night_tested (laid_at (edition_of sheet) (rows_of sheet) k (distance_due (edition_of sheet) (rows_of sheet) k) sheet))) s.side-of.ensures.0
+    ∙ ap (λ (l : Laid). audited_as u.slip.now (night_tested l)) (sym (laid_found room sheet (passed e)))
+    ∙ sym (sheet_passes sheet u.slip.now (sym (tested t) ∙ e.enum_told.given.1)))
 
 pub audit-spec : {M : Type 1} → statement M
 audit-spec =

@@ -6,13 +6,13 @@ use native.Mathlib.Nat.{mul-le-mul}
 use native.Mathlib.Omega.{arith}
 use lib.IntN.{ℤ}
 use lib.ListN.{length, replicate, length-replicate}
-use Rattle.layout.specs.Values.{signedValue}
+use Rattle.layout.specs.Values.{signed_value}
 use Rattle.layout.specs.Fields.{fields}
-use Rattle.layout.specs.Sheets.{costsAt}
+use Rattle.layout.specs.Sheets.{costs_at}
 use Rattle.layout.proofs.Fields.{length_fields}
-use Rattle.sheet.specs.Reading.{barsIn, distanceDue, nightTested}
+use Rattle.sheet.specs.Reading.{bars_in, distance_due, night_tested}
 use Rattle.audit.specs.Asked.{Lies}
-use Rattle.audit.specs.Audit.{auditedAs}
+use Rattle.audit.specs.Audit.{audited_as}
 use Rattle.audit.proofs.Checking.{read_whole}
 use borrow.Author.Rules.{rules}
 use Rattle.audit.proofs.audit_night.Statement.{statement}
@@ -58,22 +58,22 @@ module _ (c : tie.After-bars) where
   sheet = (start c).args.sheet.now
 
   abbrev due : ℕ
-  due = distanceDue (start c).args.edition m n
+  due = distance_due (start c).args.edition m n
 
-  costs-are : (at-costs c).before.read-costs.new.1.1.1.0 ≡ costsAt due (m * n) sheet
-  costs-are =
+  costs_are : (at-costs c).before.read-costs.new.1.1.1.0 ≡ costs_at due (m * n) sheet
+  costs_are =
       (at-costs c).before.read-costs.ensures
-      ∙ read_whole (m * n) _ (start c).args.costs.now (length_fields (signedValue 4) _ 4 (m * n) sheet) (start c).requires.3
-      ∙ ap (λ (d : ℕ). fields (signedValue 4) (length sheet - 12 - d) 4 (m * n) sheet) (at-due c).distance-due.ensures
+      ∙ read_whole (m * n) _ (start c).args.costs.now (length_fields (signed_value 4) _ 4 (m * n) sheet) (start c).requires.3
+      ∙ ap (λ (d : ℕ). fields (signed_value 4) (length sheet - 12 - d) 4 (m * n) sheet) (at-due c).distance-due.ensures
 
-  bars-are : c.before.read-bars.new.1.1.1.1.0 ≡ barsIn (start c).args.edition n sheet
-  bars-are = c.before.read-bars.ensures
+  bars_are : c.before.read-bars.new.1.1.1.1.0 ≡ bars_in (start c).args.edition n sheet
+  bars_are = c.before.read-bars.ensures
 
   lies : Lies m n (at-costs c).before.read-costs.new.1.1.1.0 c.before.read-bars.new.1.1.1.1.0
   lies = record {
     fewer = (start c).requires.0;
     small = (start c).requires.1;
-    filled = ap length costs-are ∙ length_fields (signedValue 4) _ 4 (m * n) sheet;
+    filled = ap length costs_are ∙ length_fields (signed_value 4) _ 4 (m * n) sheet;
     rows = c.bars.given ∙ ap length (start c).requires.4 ∙ length-replicate {A = ℕ} n 0;
   }
 
@@ -91,7 +91,7 @@ returns c =
     let b = c.before.before.before.before in
     let u = (start b).args in
     c.night-held.ensures
-    ∙ ap₂ (λ (l : List ℤ) (k : List ℕ). auditedAs u.slip.now (nightTested (record { edition = u.edition; rowCount = u.m; side = u.n; costs = l; bars = k }))) (costs-are b) (bars-are b)
+    ∙ ap₂ (λ (l : List ℤ) (k : List ℕ). audited_as u.slip.now (night_tested (record { edition = u.edition; row_count = u.m; side = u.n; costs = l; bars = k }))) (costs_are b) (bars_are b)
 
 pub audit-night-spec : {M : Type 1} → statement M
 audit-night-spec =

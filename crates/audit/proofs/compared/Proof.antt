@@ -7,11 +7,11 @@ use mir.Syntax.{w64}
 use mir.Facts.{to_z-of_z}
 use mir.Val.{to_z, of_z}
 use Rattle.ints.proofs.Bits.{read_back}
-use Rattle.layout.specs.Slips.{slipTotal}
-use Rattle.matrix.specs.Verdicts.{failsIf}
+use Rattle.layout.specs.Slips.{slip_total}
+use Rattle.matrix.specs.Verdicts.{fails_if}
 use Rattle.checker.specs.Tests.{differ}
 use Rattle.audit.specs.Audit.{SlipWrong}
-use Rattle.audit.proofs.Slips.{audited-fails, audited-passes}
+use Rattle.audit.proofs.Slips.{audited_fails, audited_passes}
 use borrow.Author.Rules.{rules}
 use Rattle.audit.proofs.compared.Statement.{statement}
 use Rattle.audit.proofs.compared.Tie as tie
@@ -32,18 +32,18 @@ abbrev start : tie.After-fails-if → tie.Start
 start c = c.before.before.before.before.before.before.before.before.before.before.before.before.before.before
 
 -- the total that is said, and the plain engine's
-said-is : (c : tie.After-fails-if) → to_z w64 (of_z w64 c.before.before.total_of.result) ≡ slipTotal (start c).args.m (start c).args.n (start c).args.slip.now
+said-is : (c : tie.After-fails-if) → to_z w64 (of_z w64 c.before.before.total_of.result) ≡ slip_total (start c).args.m (start c).args.n (start c).args.slip.now
 said-is c = let t = c.before.before.total_of in read_back w64 t.result t.type-inv ∙ t.ensures
 
-least-is : (c : tie.After-fails-if) → to_z w64 (of_z w64 c.before.before.before.before.before.before.before.second.result) ≡ (start c).args.total
-least-is c =
+least_is : (c : tie.After-fails-if) → to_z w64 (of_z w64 c.before.before.before.before.before.before.before.second.result) ≡ (start c).args.total
+least_is c =
     let s = c.before.before.before.before.before.before.before.second in
     read_back w64 s.result s.type-inv ∙ s.ensures ∙ to_z-of_z (start c).ranges.total
 
 -- what the total's test says
 verdict : (c : tie.After-fails-if)
-    → c.fails-if.result ≡ failsIf SlipWrong 0 (differ (slipTotal (start c).args.m (start c).args.n (start c).args.slip.now) (start c).args.total)
-verdict c = c.fails-if.ensures ∙ ap (failsIf SlipWrong 0) (c.before.differ.ensures ∙ ap₂ differ (said-is c) (least-is c))
+    → c.fails-if.result ≡ fails_if SlipWrong 0 (differ (slip_total (start c).args.m (start c).args.n (start c).args.slip.now) (start c).args.total)
+verdict c = c.fails-if.ensures ∙ ap (fails_if SlipWrong 0) (c.before.differ.ensures ∙ ap₂ differ (said-is c) (least_is c))
 
 enum-known-refusal : tie.Need-enum-known-refusal
 enum-known-refusal c = search rules
@@ -60,7 +60,7 @@ same-length-2 c = search rules
 returns : tie.Need-returns
 returns c =
     let f = c.before.before.before in
-    audited-fails (start f).args.m (start f).args.n (start f).args.slip.now (sym (verdict f) ∙ c.before.refusal.given.1)
+    audited_fails (start f).args.m (start f).args.n (start f).args.slip.now (sym (verdict f) ∙ c.before.refusal.given.1)
 
 same-length-3 : tie.Need-same-length-3
 same-length-3 c = search rules
@@ -71,7 +71,7 @@ same-length-4 c = search rules
 returns-2 : tie.Need-returns-2
 returns-2 c =
     let f = c.before.before in
-    audited-passes (start f).args.m (start f).args.n (start f).args.slip.now (sym (verdict f) ∙ c.enum_told.given.1) (said-is f)
+    audited_passes (start f).args.m (start f).args.n (start f).args.slip.now (sym (verdict f) ∙ c.enum_told.given.1) (said-is f)
 
 pub compared-spec : {M : Type 1} → statement M
 compared-spec =

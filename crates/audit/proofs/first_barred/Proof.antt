@@ -8,7 +8,7 @@ use borrow.Author.Count.{below_none, below_more}
 use borrow.Author.Rules.{rules}
 use Rattle.lists.specs.Permutations.{at}
 use Rattle.lists.specs.Counts.{bit_of}
-use Rattle.lists.proofs.Runs.{first-at, first-none}
+use Rattle.lists.proofs.Runs.{first-at, first_none}
 use Rattle.audit.proofs.first_barred.Statement.{statement}
 use Rattle.audit.proofs.first_barred.Tie as tie
 
@@ -73,7 +73,7 @@ returns-2 c =
     let l = c.before.loop in
     let u = c.before.before.before.before.args in
     let e : l.i ≡ u.m = omega (arith, l.invariant.0, c.loop-test.false) in
-    e ∙ sym (first-none (test u.bars.now u.cols.now) u.m (λ k h. l.invariant.1 k (omega arith)))
+    e ∙ sym (first_none (test u.bars.now u.cols.now) u.m (λ k h. l.invariant.1 k (omega arith)))
 
 pub first-barred-spec : {M : Type 1} → statement M
 first-barred-spec =

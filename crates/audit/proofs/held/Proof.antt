@@ -9,17 +9,17 @@ use lib.ListN.{length}
 use mir.Syntax.{w64}
 use mir.Val.{to_z, of_z}
 use Rattle.ints.proofs.Bits.{read_back}
-use Rattle.layout.specs.Slips.{slipColumns, slipRowPrices, slipColumnPrices, slipTotal}
+use Rattle.layout.specs.Slips.{slip_columns, slip_row_prices, slip_column_prices, slip_total}
 use Rattle.assignment.specs.Pairings.{total}
-use Rattle.bars.specs.Barred.{nightOf}
+use Rattle.bars.specs.Barred.{night_of}
 use Rattle.matrix.specs.Asked.{ColumnsListed}
-use Rattle.matrix.specs.Cost.{totalOf}
+use Rattle.matrix.specs.Cost.{total_of}
 use Rattle.matrix.specs.Limits.{side}
-use Rattle.matrix.specs.Verdicts.{Passes, failsIf}
-use Rattle.matrix.proofs.SmallLimits.{sheetSide-small, sheetSide-within}
+use Rattle.matrix.specs.Verdicts.{Passes, fails_if}
+use Rattle.matrix.proofs.SmallLimits.{sheet_side-small, sheet_side-within}
 use Rattle.checker.specs.Tests.{differ}
-use Rattle.audit.specs.Audit.{SlipWrong, proofTests, slipTests, auditedBy}
-use Rattle.audit.proofs.Checking.{said-size, columns-read, row-prices-read, column-prices-read, slip-least, slip-least-total, refused-slip, accepted-slip}
+use Rattle.audit.specs.Audit.{SlipWrong, proof_tests, slip_tests, audited_by}
+use Rattle.audit.proofs.Checking.{said_size, columns-read, row_prices_read, column_prices_read, slip-least, slip_least_total, refused-slip, accepted-slip}
 use borrow.Author.Rules.{rules}
 use Rattle.audit.proofs.held.Statement.{statement}
 use Rattle.audit.proofs.held.Tie as tie
@@ -75,26 +75,26 @@ module _ (c : tie.After-proof-tests) where
   abbrev cols : List ℕ
   cols = (at-cols c).before.read-columns.new.1.1.0
 
-  cols-are : cols ≡ slipColumns m slip
-  cols-are = (at-cols c).before.read-columns.ensures ∙ columns-read m n costs bars slip (start c).args.cols.now (start c).requires.1.cols-size
+  cols_are : cols ≡ slip_columns m slip
+  cols_are = (at-cols c).before.read-columns.ensures ∙ columns-read m n costs bars slip (start c).args.cols.now (start c).requires.1.cols-size
 
-  us-are : (at-us c).before.read-prices.new.1.1.1.0 ≡ slipRowPrices m slip
-  us-are = (at-us c).before.read-prices.ensures ∙ row-prices-read m n costs bars slip (start c).args.us.now (start c).requires.1.us-size
+  us-are : (at-us c).before.read-prices.new.1.1.1.0 ≡ slip_row_prices m slip
+  us-are = (at-us c).before.read-prices.ensures ∙ row_prices_read m n costs bars slip (start c).args.us.now (start c).requires.1.us-size
 
-  vs-are : (at_vs c).before.read-prices2.new.1.1.1.0 ≡ slipColumnPrices m n slip
-  vs-are = (at_vs c).before.read-prices2.ensures ∙ column-prices-read m n costs bars slip (start c).args.vs.now (start c).requires.1.vs-size
+  vs-are : (at_vs c).before.read-prices2.new.1.1.1.0 ≡ slip_column_prices m n slip
+  vs-are = (at_vs c).before.read-prices2.ensures ∙ column_prices_read m n costs bars slip (start c).args.vs.now (start c).requires.1.vs-size
 
-  tested : c.proof-tests.result ≡ slipTests m n costs bars slip
+  tested : c.proof-tests.result ≡ slip_tests m n costs bars slip
   tested =
       c.proof-tests.ensures
-      ∙ ap (λ (l : List ℕ). proofTests m n costs bars l (at-us c).before.read-prices.new.1.1.1.0 (at_vs c).before.read-prices2.new.1.1.1.0) cols-are
-      ∙ ap₂ (λ (u v : List ℤ). proofTests m n costs bars (slipColumns m slip) u v) us-are vs-are
+      ∙ ap (λ (l : List ℕ). proof_tests m n costs bars l (at-us c).before.read-prices.new.1.1.1.0 (at_vs c).before.read-prices2.new.1.1.1.0) cols_are
+      ∙ ap₂ (λ (u v : List ℤ). proof_tests m n costs bars (slip_columns m slip) u v) us-are vs-are
 
   -- a slip that passes has a column below n for each row
   listed : Passes c.proof-tests.result → ColumnsListed m n cols
   listed e =
       let p = (slip-least m n costs bars slip (sym tested ∙ e)).pairing in
-      subst (ColumnsListed m n) (sym cols-are) (record { listed = omega (arith, said-size m n costs bars slip); inside = p.inside })
+      subst (ColumnsListed m n) (sym cols_are) (record { listed = omega (arith, said_size m n costs bars slip); inside = p.inside })
 
 enum-known-refusal : tie.Need-enum-known-refusal
 enum-known-refusal c = search rules
@@ -120,7 +120,7 @@ total-of-requires : tie.Need-total-of-requires
 total-of-requires c κs =
     let k = c.before.before.before in
     let p = (start k).requires.0 in
-    let within : n k ≤ side = le_trans p.small sheetSide-within in
+    let within : n k ≤ side = le_trans p.small sheet_side-within in
     (le_trans p.fewer within, within, omega (arith, p.filled), listed k c.before.enum_told.given.1)
 
 -- ---- the total of the pairing
@@ -129,20 +129,20 @@ abbrev at-tests : tie.After-total-of → tie.After-proof-tests
 at-tests c = c.before.before.before.before
 
 module _ (c : tie.After-total-of) where
-  passed : let k = at-tests c in Passes (slipTests (m k) (n k) (costs k) (bars k) (slip k))
+  passed : let k = at-tests c in Passes (slip_tests (m k) (n k) (costs k) (bars k) (slip k))
   passed = let k = at-tests c in sym (tested k) ∙ c.before.before.enum_told.given.1
 
-  total-is : let k = at-tests c in to_z w64 (of_z w64 c.total_of.result) ≡ total (nightOf (m k) (n k) (costs k) (bars k)) (slipColumns (m k) (slip k))
-  total-is =
+  total_is : let k = at-tests c in to_z w64 (of_z w64 c.total_of.result) ≡ total (night_of (m k) (n k) (costs k) (bars k)) (slip_columns (m k) (slip k))
+  total_is =
       let k = at-tests c in
-      read_back w64 c.total_of.result c.total_of.type-inv ∙ c.total_of.ensures ∙ ap (totalOf (n k) (costs k) (m k)) (cols-are k)
+      read_back w64 c.total_of.result c.total_of.type-inv ∙ c.total_of.ensures ∙ ap (total_of (n k) (costs k) (m k)) (cols_are k)
 
 compared-requires : tie.Need-compared-requires
 compared-requires c κs =
     let t = c.before.before in
     let k = at-tests t in
     let p = (start k).pre in
-    (slip-least-total (m k) (n k) (costs k) (bars k) (slip k) (passed t) _ (total-is t), p.0.fewer, omega (arith, p.0.small, sheetSide-small), p.0.filled, p.1.list-size, (at-cols k).cols.given ∙ p.1.cols-size, p.2)
+    (slip_least_total (m k) (n k) (costs k) (bars k) (slip k) (passed t) _ (total_is t), p.0.fewer, omega (arith, p.0.small, sheet_side-small), p.0.filled, p.1.list-size, (at-cols k).cols.given ∙ p.1.cols-size, p.2)
 
 same-length-4 : tie.Need-same-length-4
 same-length-4 c = search rules
@@ -161,7 +161,7 @@ returns-2 c =
     let r = c.before.before.before.before in
     let t = r.before.before.before in
     let k = at-tests t in
-    accepted-slip (m k) (n k) (costs k) (bars k) (slip k) (passed t) _ (total-is t) r.compared.result r.compared.ensures
+    accepted-slip (m k) (n k) (costs k) (bars k) (slip k) (passed t) _ (total_is t) r.compared.result r.compared.ensures
 
 pub held_spec : {M : Type 1} → statement M
 held_spec =

@@ -8,12 +8,12 @@ use lib.Dec.{eqb}
 use lib.ListN.{length}
 use borrow.Author.Tests.{eq-eqb, ne_eqb}
 use Rattle.layout.specs.Values.{value_of}
-use Rattle.layout.specs.Trailers.{slipMark, distance_of, side_of, editionOf, rowCountOf, unmarked}
-use Rattle.layout.specs.Slips.{slipDistance, slipLength}
+use Rattle.layout.specs.Trailers.{slip_mark, distance_of, side_of, edition_of, row_count_of, unmarked}
+use Rattle.layout.specs.Slips.{slip_distance, slip_length}
 use Rattle.layout.proofs.Trailers.{counted, uncounted}
 use Rattle.sheet.proofs.Editions.{count-short}
 use Rattle.audit.specs.Audit.{unlike}
-use Rattle.audit.proofs.Slips.{or-here, or-next}
+use Rattle.audit.proofs.Slips.{or_here, or_next}
 use borrow.Author.Rules.{rules}
 use Rattle.audit.proofs.unlike.Statement.{statement}
 use Rattle.audit.proofs.unlike.Tie as tie
@@ -52,37 +52,37 @@ abbrev slip : tie.After-row-count-length → List ℕ
 slip c = (start c).args.slip.now
 
 due : (c : tie.After-row-count-length) → let u = (start c).args in
-    10 * u.m + 8 * u.n + 8 + c.row-count-length.result ≡ slipDistance u.edition u.m u.n
+    10 * u.m + 8 * u.n + 8 + c.row-count-length.result ≡ slip_distance u.edition u.m u.n
 due c = let u = (start c).args in ap (λ (k : ℕ). 10 * u.m + 8 * u.n + 8 + k) c.row-count-length.ensures
 
-whole : (c : tie.Else1) → let u = (start c.before).args in not (eqb (length (slip c.before)) (slipLength u.edition u.m u.n)) ≡ false
+whole : (c : tie.Else1) → let u = (start c.before).args in not (eqb (length (slip c.before)) (slip_length u.edition u.m u.n)) ≡ false
 whole c = ap not (eq-eqb _ _ (c.if1.false ∙ ap (λ (k : ℕ). k + 12) (due c.before)))
 
-marked : (c : tie.Else2) → unmarked (value_of slipMark) (slip c.before.before.before) ≡ false
+marked : (c : tie.Else2) → unmarked (value_of slip_mark) (slip c.before.before.before) ≡ false
 unfolding value_of
 marked c = sym c.before.unmarked.ensures ∙ c.if2.false
 
 far : (c : tie.Else3) → let r = c.before.before.before.before.before in let u = (start r).args in
-    not (eqb (distance_of (slip r)) (slipDistance u.edition u.m u.n)) ≡ false
+    not (eqb (distance_of (slip r)) (slip_distance u.edition u.m u.n)) ≡ false
 far c = ap not (eq-eqb _ _ (sym c.before.distance-of.ensures.0 ∙ c.if3.false ∙ due c.before.before.before.before.before))
 
 wide : (c : tie.Else4) → let r = c.before.before.before.before.before.before.before in not (eqb (side_of (slip r)) (start r).args.n) ≡ false
 wide c = ap not (eq-eqb _ _ (sym c.before.side-of.ensures.0 ∙ c.if4.false))
 
 printed : (c : tie.Else5) → let r = c.before.before.before.before.before.before.before.before.before in
-    not (eqb (editionOf (slip r)) (start r).args.edition) ≡ false
+    not (eqb (edition_of (slip r)) (start r).args.edition) ≡ false
 printed c = ap not (eq-eqb _ _ (sym c.before.edition-of.ensures ∙ c.if5.false))
 
 returns : tie.Need-returns
 unfolding unlike
-returns c = or-here _ _ (ap not (ne_eqb _ _ (λ e. c.if1.true (e ∙ sym (ap (λ (k : ℕ). k + 12) (due c.before))))))
+returns c = or_here _ _ (ap not (ne_eqb _ _ (λ e. c.if1.true (e ∙ sym (ap (λ (k : ℕ). k + 12) (due c.before))))))
 
 unmarked-requires : tie.Need-unmarked-requires
 unmarked-requires c κs = search rules
 
 returns-2 : tie.Need-returns-2
 unfolding unlike value_of
-returns-2 c = or-next _ _ _ (whole c.before.before) (or-here _ _ (sym c.before.unmarked.ensures ∙ c.if2.true))
+returns-2 c = or_next _ _ _ (whole c.before.before) (or_here _ _ (sym c.before.unmarked.ensures ∙ c.if2.true))
 
 distance-of-requires : tie.Need-distance-of-requires
 distance-of-requires c κs = search rules
@@ -92,8 +92,8 @@ unfolding unlike
 returns-3 c =
     let e2 = c.before.before in
     let e1 = e2.before.before in
-    or-next _ _ _ (whole e1) (or-next _ _ _ (marked e2)
-    (or-here _ _ (ap not (ne_eqb _ _ (λ e. c.if3.true (c.before.distance-of.ensures.0 ∙ e ∙ sym (due e1.before)))))))
+    or_next _ _ _ (whole e1) (or_next _ _ _ (marked e2)
+    (or_here _ _ (ap not (ne_eqb _ _ (λ e. c.if3.true (c.before.distance-of.ensures.0 ∙ e ∙ sym (due e1.before)))))))
 
 side-of-requires : tie.Need-side-of-requires
 side-of-requires c κs = search rules
@@ -103,8 +103,8 @@ unfolding unlike
 returns-4 c =
     let e3 = c.before.before in
     let e2 = e3.before.before in
-    or-next _ _ _ (whole e2.before.before) (or-next _ _ _ (marked e2) (or-next _ _ _ (far e3)
-    (or-here _ _ (ap not (ne_eqb _ _ (λ e. c.if4.true (c.before.side-of.ensures.0 ∙ e)))))))
+    or_next _ _ _ (whole e2.before.before) (or_next _ _ _ (marked e2) (or_next _ _ _ (far e3)
+    (or_here _ _ (ap not (ne_eqb _ _ (λ e. c.if4.true (c.before.side-of.ensures.0 ∙ e)))))))
 
 edition-of-requires : tie.Need-edition-of-requires
 edition-of-requires c κs = search rules
@@ -115,8 +115,8 @@ returns-5 c =
     let e4 = c.before.before in
     let e3 = e4.before.before in
     let e2 = e3.before.before in
-    or-next _ _ _ (whole e2.before.before) (or-next _ _ _ (marked e2) (or-next _ _ _ (far e3) (or-next _ _ _ (wide e4)
-    (or-here _ _ (ap not (ne_eqb _ _ (λ e. c.if5.true (c.before.edition-of.ensures ∙ e))))))))
+    or_next _ _ _ (whole e2.before.before) (or_next _ _ _ (marked e2) (or_next _ _ _ (far e3) (or_next _ _ _ (wide e4)
+    (or_here _ _ (ap not (ne_eqb _ _ (λ e. c.if5.true (c.before.edition-of.ensures ∙ e))))))))
 
 row-count-of-requires : tie.Need-row-count-of-requires
 row-count-of-requires c κs = search rules
@@ -130,9 +130,9 @@ returns-6 c =
     let e2 = e3.before.before in
     let e1 = e2.before.before in
     let u = (start e1.before).args in
-    or-next _ _ _ (whole e1) (or-next _ _ _ (marked e2) (or-next _ _ _ (far e3) (or-next _ _ _ (wide e4) (or-next _ _ _ (printed e5)
+    or_next _ _ _ (whole e1) (or_next _ _ _ (marked e2) (or_next _ _ _ (far e3) (or_next _ _ _ (wide e4) (or_next _ _ _ (printed e5)
     (ap (λ (k : ℕ). not (eqb k u.m)) c.row-count-of.ensures.0
-    ∙ ap (λ (t : Bool). t && not (eqb (rowCountOf (slip e1.before)) u.m)) (sym (counted c.before.if6.true)))))))
+    ∙ ap (λ (t : Bool). t && not (eqb (row_count_of (slip e1.before)) u.m)) (sym (counted c.before.if6.true)))))))
 
 returns-7 : tie.Need-returns-7
 unfolding unlike
@@ -143,9 +143,9 @@ returns-7 c =
     let e2 = e3.before.before in
     let e1 = e2.before.before in
     let u = (start e1.before).args in
-    or-next _ _ _ (whole e1) (or-next _ _ _ (marked e2) (or-next _ _ _ (far e3) (or-next _ _ _ (wide e4) (or-next _ _ _ (printed e5)
+    or_next _ _ _ (whole e1) (or_next _ _ _ (marked e2) (or_next _ _ _ (far e3) (or_next _ _ _ (wide e4) (or_next _ _ _ (printed e5)
     (ne_eqb u.edition 3 c.if6.false
-    ∙ ap (λ (t : Bool). t && not (eqb (rowCountOf (slip e1.before)) u.m)) (sym (uncounted c.if6.false)))))))
+    ∙ ap (λ (t : Bool). t && not (eqb (row_count_of (slip e1.before)) u.m)) (sym (uncounted c.if6.false)))))))
 
 pub unlike-spec : {M : Type 1} → statement M
 unlike-spec =

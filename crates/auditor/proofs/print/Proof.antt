@@ -6,10 +6,10 @@ use mir.Syntax.{w64}
 use mir.Facts.{to_z-of_z}
 use mir.Val.{SFits}
 use Rattle.lines.specs.Put.{Put}
-use Rattle.lines.specs.Lines.{acceptedLine}
+use Rattle.lines.specs.Lines.{accepted_line}
 use Rattle.audit.specs.Audit.{audit}
-use Rattle.audit.proofs.Determined.{audited-values-determine}
-use Rattle.auditor.specs.Line.{auditLine}
+use Rattle.audit.proofs.Determined.{audited_values_determine}
+use Rattle.auditor.specs.Line.{audit_line}
 use borrow.Author.Rules.{rules}
 use Rattle.auditor.proofs.print.Statement.{statement}
 use Rattle.auditor.proofs.print.Tie as tie
@@ -39,8 +39,8 @@ returns c =
     let a = r.before.before in
     let u = a.before.before.before.before.args in
     let o = u.out.now in
-    let told = audited-values-determine a.audit.result (audit u.sheet.now u.slip.now) a.audit.ensures in
-    let e = ap auditLine (sym told ∙ r.refusal.given.1) in
+    let told = audited_values_determine a.audit.result (audit u.sheet.now u.slip.now) a.audit.ensures in
+    let e = ap audit_line (sym told ∙ r.refusal.given.1) in
     (subst (λ (l : List ℕ). Put o 0 l p.Put-refused.new.0 p.Put-refused.result) (sym e) p.Put-refused.ensures.0, p.Put-refused.ensures.1)
 
 same-length-2 : tie.Need-same-length-2
@@ -54,11 +54,11 @@ returns-2 c =
     let a = r.before.before in
     let u = a.before.before.before.before.args in
     let o = u.out.now in
-    let told = audited-values-determine a.audit.result (audit u.sheet.now u.slip.now) a.audit.ensures in
+    let told = audited_values_determine a.audit.result (audit u.sheet.now u.slip.now) a.audit.ensures in
     let g = r.side.given in
     let t = k.known-told2.given in
     let f : SFits w64 g.0.1.0 = search rules in
-    let e = ap (acceptedLine g.0.0) (to_z-of_z f) ∙ ap auditLine (sym g.1 ∙ told) in
+    let e = ap (accepted_line g.0.0) (to_z-of_z f) ∙ ap audit_line (sym g.1 ∙ told) in
     (subst (λ (l : List ℕ). Put o 0 l p.put-accepted.new.0 p.put-accepted.result) e p.put-accepted.ensures.0, p.put-accepted.ensures.1)
 
 pub print-spec : {M : Type 1} → statement M

@@ -2,7 +2,7 @@
 use native.Mathlib.Omega.{arith}
 use borrow.Author.Rules.{rules}
 use Rattle.matrix.proofs.SmallLimits.{side-small}
-use Rattle.augmentation.proofs.OneRow.{can-search, way_back, searched-row, hit-row}
+use Rattle.augmentation.proofs.OneRow.{can-search, way_back, searched-row, hit_row}
 use Rattle.augmentation.proofs.augment_row.Statement.{statement}
 use Rattle.augmentation.proofs.augment_row.Tie as tie
 
@@ -38,7 +38,7 @@ same-length-3 : tie.Need-same-length-3
 same-length-3 c = search rules
 
 returns : tie.Need-returns
-returns c = hit-row (start c.before).requires c.before.hit.ensures c.if1.true
+returns c = hit_row (start c.before).requires c.before.hit.ensures c.if1.true
 
 add-n2 : tie.Need-overflow-add-n2
 add-n2 c = search rules

@@ -5,7 +5,7 @@ use native.Mathlib.Omega.{arith}
 use borrow.Author.Rules.{rules}
 use lib.ListN.{length}
 use Rattle.matrix.proofs.SmallLimits.{side-small}
-use Rattle.augmentation.proofs.Augmentation.{Augmenting, first-turn, augmented, can-augment-row, next-turn}
+use Rattle.augmentation.proofs.Augmentation.{Augmenting, first-turn, augmented, can_augment_row, next_turn}
 use Rattle.augmentation.proofs.ca_dense.Statement.{statement}
 use Rattle.augmentation.proofs.ca_dense.Tie as tie
 
@@ -36,7 +36,7 @@ row_of c = c.before.before.before.before.before.before.before.before
 augment-row-requires : tie.Need-augment-row-requires invariant-loop decreases-loop
 augment-row-requires c κs =
     let t = c.before.before.before.before.before.before in
-    can-augment-row t.before.loop.invariant.0 t.loop-test.true
+    can_augment_row t.before.loop.invariant.0 t.loop-test.true
 
 add-scanned : tie.Need-overflow-add-scanned invariant-loop decreases-loop
 add-scanned c =
@@ -54,7 +54,7 @@ loop-again : tie.Need-loop-preserved invariant-loop decreases-loop
 loop-again c =
     let x = row_of c in
     let t = turn-of x in (
-      next-turn t.before.loop.inv.0 t.loop-test.taken x.augment-row.ensures (search rules) (search rules),
+      next_turn t.before.loop.inv.0 t.loop-test.taken x.augment-row.ensures (search rules) (search rules),
       search rules,
       search rules,
       search rules,

@@ -9,9 +9,9 @@ use mir.Syntax.{w64}
 use mir.Val.{to_z}
 use Rattle.ints.proofs.Bits.{read_back}
 use Rattle.lists.specs.Permutations.{at}
-use Rattle.assignment.specs.Pairings.{signedAt}
+use Rattle.assignment.specs.Pairings.{signed_at}
 use Rattle.matrix.proofs.SmallLimits.{side-small}
-use Rattle.augmentation.proofs.Prices.{Changing, first-change, size, changed, column-below, sub-fits, add-fits, next}
+use Rattle.augmentation.proofs.Prices.{Changing, first_change, size, changed, column-below, sub_fits, add_fits, next}
 use Rattle.augmentation.proofs.change_prices.Statement.{statement}
 use Rattle.augmentation.proofs.change_prices.Tie as tie
 
@@ -42,7 +42,7 @@ shared-slice-copy-out-minimum c = omega (arith, first_below c, c.before.requires
 loop-holds : tie.Need-loop-init invariant-loop decreases-loop
 loop-holds c =
     let s = c.before.before in
-    first-change _ _ _ _ _ _ s.requires refl (read_back w64 (signedAt s.args.d.now (at s.args.list.now s.args.lo)) c.minimum.given)
+    first_change _ _ _ _ _ _ s.requires refl (read_back w64 (signed_at s.args.d.now (at s.args.list.now s.args.lo)) c.minimum.given)
 
 -- what every index need asks of a turn
 record Facts (n j d v : ℕ) : Type 0 where
@@ -87,10 +87,10 @@ shared-slice-copy-out-v : tie.Need-shared-slice-copy-out-v invariant-loop decrea
 shared-slice-copy-out-v c = omega (arith, facts c.before.before)
 
 sub-v : tie.Need-overflow-sub-v invariant-loop decreases-loop
-sub-v c = sub-fits c.before.before.before.before.loop.invariant c.before.before.before.loop-test.true
+sub-v c = sub_fits c.before.before.before.before.loop.invariant c.before.before.before.loop-test.true
 
 add-v : tie.Need-overflow-add-v invariant-loop decreases-loop
-add-v c = add-fits c.before.before.before.before.loop.invariant c.before.before.before.loop-test.true
+add-v c = add_fits c.before.before.before.before.loop.invariant c.before.before.before.loop-test.true
 
 mul-t25 : tie.Need-overflow-mul-t25 invariant-loop decreases-loop
 mul-t25 c = omega (arith, facts c.before.before.before)
@@ -114,7 +114,7 @@ returns : tie.Need-returns invariant-loop decreases-loop
 returns c =
     let s = c.before.before.before.before in
     changed c.before.loop.invariant (omega (arith, c.loop-test.false))
-    (read_back w64 (signedAt s.args.d.now (at s.args.list.now s.args.lo)) c.before.before.minimum.given)
+    (read_back w64 (signed_at s.args.d.now (at s.args.list.now s.args.lo)) c.before.before.minimum.given)
 
 pub change-prices-spec : {M : Type 1} → statement M
 change-prices-spec =

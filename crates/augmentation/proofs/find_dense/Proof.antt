@@ -13,7 +13,7 @@ use Rattle.ints.proofs.Bits.{read_back}
 use Rattle.lists.specs.Permutations.{exchange}
 use Rattle.rules.specs.Block.{Block}
 use Rattle.augmentation.specs.Near.{distance_at}
-use Rattle.augmentation.proofs.Block.{blocked-at, Blocked, first_block, whole-block, here-below, restart, join, pass-by}
+use Rattle.augmentation.proofs.Block.{blocked_at, Blocked, first_block, whole-block, here_below, restart, join, pass_by}
 use Rattle.augmentation.proofs.find_dense.Statement.{statement}
 use Rattle.augmentation.proofs.find_dense.Tie as tie
 
@@ -53,7 +53,7 @@ loop-holds c =
     let m = c.before.before in
     let s = m.before.before.before in
     let B = first_block _ _ _ _ _ s.requires.2 s.requires.0 (read_back w64 (distance_at s.args.d.now s.args.list.now s.args.lo) m.minimum.given) in
-    (pass-by B c.next-near.ensures, c.next-near.ensures.near)
+    (pass_by B c.next-near.ensures, c.next-near.ensures.near)
 
 abbrev start : tie.At-loop invariant-loop decreases-loop → tie.Start invariant-loop decreases-loop
 start c = c.before.before.before.before.before.before
@@ -68,10 +68,10 @@ cast-j : tie.Need-overflow-cast-j invariant-loop decreases-loop
 cast-j c = omega (arith, c.slice-known3.given c.before.before.loop.k)
 
 mul-h : tie.Need-overflow-mul-h invariant-loop decreases-loop
-mul-h c = omega (arith, here-below c.before.before.loop.invariant.0 c.before.loop-test.true)
+mul-h c = omega (arith, here_below c.before.before.loop.invariant.0 c.before.loop-test.true)
 
 shared-slice-copy-out-h : tie.Need-shared-slice-copy-out-h invariant-loop decreases-loop
-shared-slice-copy-out-h c = omega (arith, here-below c.before.before.loop.invariant.0 c.before.loop-test.true)
+shared-slice-copy-out-h c = omega (arith, here_below c.before.before.loop.invariant.0 c.before.loop-test.true)
 
 -- where the block ends before its new column
 end_below : (c : tie.Joined1 invariant-loop decreases-loop) → c.if1.hi < (start c.before.before.before.before).args.n
@@ -95,9 +95,9 @@ turn c =
     let hz : to_z w64 (of_z w64 z) ≡ z = read_back w64 z j.before.h.given in
     let le = l.invariant.1 t in
     ⊎_elim
-    (λ a. blocked-at (restart B t (rw hz at a.0.taken) le) (c.exchange.ensures ∙ ap (exchange l.list l.k) a.1) (ap (λ (m : ℕ). m + 1) a.1)
+    (λ a. blocked_at (restart B t (rw hz at a.0.taken) le) (c.exchange.ensures ∙ ap (exchange l.list l.k) a.1) (ap (λ (m : ℕ). m + 1) a.1)
     (ap (to_z w64) a.2 ∙ hz))
-    (λ a. blocked-at (join B t (rw hz at a.0.left) le) (c.exchange.ensures ∙ ap (exchange l.list l.k) a.1) (ap (λ (m : ℕ). m + 1) a.1)
+    (λ a. blocked_at (join B t (rw hz at a.0.left) le) (c.exchange.ensures ∙ ap (exchange l.list l.k) a.1) (ap (λ (m : ℕ). m + 1) a.1)
     (ap (to_z w64) a.2))
     j.if1.branch
 
@@ -123,7 +123,7 @@ loop-less c =
     omega (arith, c.next-near2.ensures.on, i.loop-test.true)
 
 loop-again : tie.Need-loop-preserved invariant-loop decreases-loop
-loop-again c = let N = c.next-near2.ensures in (pass-by (turn c.before.before.before.before.before) N, N.near)
+loop-again c = let N = c.next-near2.ensures in (pass_by (turn c.before.before.before.before.before) N, N.near)
 
 same_length : tie.Need-same-length invariant-loop decreases-loop
 same_length c = search rules

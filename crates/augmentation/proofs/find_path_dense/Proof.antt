@@ -5,7 +5,7 @@ use Prim.Native.Nat.{◌-◌}
 use native.Mathlib.Omega.{arith}
 use borrow.Author.Rules.{rules}
 use Rattle.rules.specs.declared.Cursor.{Cursor}
-use Rattle.augmentation.proofs.Loops.{Between, InScan, Leaving, leaving-at}
+use Rattle.augmentation.proofs.Loops.{Between, InScan, Leaving, leaving_at}
 use Rattle.augmentation.proofs.ScanLoop as scans
 use Rattle.augmentation.proofs.Search as laws
 use Rattle.augmentation.proofs.Leave as leave
@@ -47,7 +47,7 @@ search-holds c =
     let b = c.before.before.before in
     let s = entry b in
     let S = b.start-search.ensures in
-    laws.first-between _ _ _ _ _ s.pre.0 _ _ _ S (laws.started-size _ _ _ _ _ s.pre.0 _ _ _ S s.pre.2)
+    laws.first-between _ _ _ _ _ s.pre.0 _ _ _ S (laws.started_size _ _ _ _ _ s.pre.0 _ _ _ S s.pre.2)
 
 mul-find-dense : tie.Need-overflow-mul-find-dense invariant-loop decreases-loop invariant-search decreases-search
 mul-find-dense c = search rules
@@ -69,7 +69,7 @@ find-dense-requires c κs =
     let h = c.before.before in
     let s = entry (begun h) in
     let B = h.search.invariant in
-    (laws.lo-below _ _ _ _ _ s.pre.0 B, B.head.sound.distances-size, laws.lent-listed _ _ _ _ _ s.pre.0 B)
+    (laws.lo_below _ _ _ _ _ s.pre.0 B, B.head.sound.distances-size, laws.lent-listed _ _ _ _ _ s.pre.0 B)
 
 mul-last-free : tie.Need-overflow-mul-last-free invariant-loop decreases-loop invariant-search decreases-search
 mul-last-free c = search rules
@@ -92,7 +92,7 @@ last-free-requires c κs =
     let f = c.before.before.before.before in
     let h = head f in
     let s = entry (begun h) in
-    let i = laws.hi-in _ _ _ _ _ s.pre.0 h.search.inv _ _ f.find-dense.ensures.0 f.find-dense.ensures.1 in
+    let i = laws.hi_in _ _ _ _ _ s.pre.0 h.search.inv _ _ f.find-dense.ensures.0 f.find-dense.ensures.1 in
     (omega arith, i.1, s.pre.0.rows-size, laws.fresh-listed _ _ _ _ _ s.pre.0 h.search.inv _ _ f.find-dense.ensures.0 f.find-dense.ensures.1)
 
 enum-known-j : tie.Need-enum-known-j invariant-loop decreases-loop invariant-search decreases-search
@@ -145,7 +145,7 @@ search-again c =
     let f = c.before.before.before.before.before.before.before.before.before.before in
     let h = head f in
     let s = entry (begun h) in
-    (laws.next-between _ _ _ _ _ s.pre.0 h.search.inv _ _ f.find-dense.ensures.0 f.find-dense.ensures.1 (sym e.enum_told.given.1 ∙ e.before.before.last-free.ensures) c.before.before.loop.invariant c.if1.false).0
+    (laws.next_between _ _ _ _ _ s.pre.0 h.search.inv _ _ f.find-dense.ensures.0 f.find-dense.ensures.1 (sym e.enum_told.given.1 ∙ e.before.before.last-free.ensures) c.before.before.loop.invariant c.if1.false).0
 
 -- where the search is left, at a free column of a fresh block or in a scan: the cursor is that of the last block
 exit : (c : tie.At-match-branch invariant-loop decreases-loop invariant-search decreases-search)
@@ -162,11 +162,11 @@ exit c =
     ⊎_elim
     (λ a.
     let lo : c.match.cursor.lo ≡ h.search.cursor.hi = omega (arith, ap (λ (x : Cursor). x.lo) a.5) in
-    leaving-at (laws.leave-fresh _ _ _ _ _ s.pre.0 h.search.inv _ _ f.find-dense.ensures.0 f.find-dense.ensures.1 _ (sym a.1.given.1 ∙ o)) a.3 a.4 lo a.6 a.7)
+    leaving_at (laws.leave_fresh _ _ _ _ _ s.pre.0 h.search.inv _ _ f.find-dense.ensures.0 f.find-dense.ensures.1 _ (sym a.1.given.1 ∙ o)) a.3 a.4 lo a.6 a.7)
     (λ a.
     let lo : c.match.cursor.lo ≡ h.search.cursor.hi = omega (arith, ap (λ (x : Cursor). x.lo) a.18) in
     let k = scans.scan-left _ _ _ _ _ s.pre.0 a.2.inv a.4.taken _ a.14.given.1 a.9.ensures in
-    leaving-at (laws.leave-scan _ _ _ _ _ s.pre.0 h.search.inv _ _ f.find-dense.ensures.0 f.find-dense.ensures.1 (sym a.1.given.1 ∙ o) k.0 _ _ k.1 k.2 k.3 k.4)
+    leaving_at (laws.leave_scan _ _ _ _ _ s.pre.0 h.search.inv _ _ f.find-dense.ensures.0 f.find-dense.ensures.1 (sym a.1.given.1 ∙ o) k.0 _ _ k.1 k.2 k.3 k.4)
     a.16 a.17 lo a.19 a.20)
     c.match.branch
 
@@ -184,14 +184,14 @@ part-change-prices-end c =
     let m = c.before in
     let b = begun (head c.before.before.before.before.before.before.before) in
     let s = entry b in
-    omega (arith, leave.leave-long _ _ _ _ _ s.pre.0 s.pre.2 b.start-search.ensures (exit m))
+    omega (arith, leave.leave_long _ _ _ _ _ s.pre.0 s.pre.2 b.start-search.ensures (exit m))
 
 change-prices-requires : tie.Need-change-prices-requires invariant-loop decreases-loop invariant-search decreases-search
 change-prices-requires c κs =
     let m = c.before.before.before.before in
     let b = begun (head c.before.before.before.before.before.before.before.before.before.before) in
     let s = entry b in
-    leave.can-change _ _ _ _ _ s.pre.0 s.pre.2 b.start-search.ensures (exit m)
+    leave.can_change _ _ _ _ _ s.pre.0 s.pre.2 b.start-search.ensures (exit m)
 
 same_length : tie.Need-same-length invariant-loop decreases-loop invariant-search decreases-search
 same_length c = search rules
@@ -201,14 +201,14 @@ same-length-2 c =
     let m = c.before.before.before.before.before.before in
     let b = begun (head c.before.before.before.before.before.before.before.before.before.before.before.before) in
     let s = entry b in
-    leave.leave-distances _ _ _ _ _ s.pre.0 s.pre.2 b.start-search.ensures (exit m) ∙ sym s.pre.1
+    leave.leave_distances _ _ _ _ _ s.pre.0 s.pre.2 b.start-search.ensures (exit m) ∙ sym s.pre.1
 
 same-length-3 : tie.Need-same-length-3 invariant-loop decreases-loop invariant-search decreases-search
 same-length-3 c =
     let m = c.before.before.before.before.before.before in
     let b = begun (head c.before.before.before.before.before.before.before.before.before.before.before.before) in
     let s = entry b in
-    leave.leave-long _ _ _ _ _ s.pre.0 s.pre.2 b.start-search.ensures (exit m) ∙ sym s.pre.2
+    leave.leave_long _ _ _ _ _ s.pre.0 s.pre.2 b.start-search.ensures (exit m) ∙ sym s.pre.2
 
 returns : tie.Need-returns invariant-loop decreases-loop invariant-search decreases-search
 returns c =

@@ -11,14 +11,14 @@ use mir.Val.{to_z, of_z}
 use Rattle.ints.specs.Parts.{Within}
 use Rattle.ints.proofs.Bits.{read_back}
 use Rattle.lists.specs.Permutations.{table}
-use Rattle.lists.proofs.Tables.{filled_none, filled_more, filled-length, filled-all}
-use Rattle.assignment.specs.Pairings.{signedAt}
+use Rattle.lists.proofs.Tables.{filled_none, filled_more, filled-length, filled_all}
+use Rattle.assignment.specs.Pairings.{signed_at}
 use Rattle.matrix.specs.Limits.{near}
 use Rattle.augmentation.proofs.first_distances.Statement.{statement}
 use Rattle.augmentation.proofs.first_distances.Tie as tie
 
 abbrev invariant-loop : tie.invariant-loop
-invariant-loop n row v d₀ j₀ d j = (j ≤ n) × (d ≡ table j (λ i. signedAt row i -ℤ signedAt v i) ++ drop j d₀)
+invariant-loop n row v d₀ j₀ d j = (j ≤ n) × (d ≡ table j (λ i. signed_at row i -ℤ signed_at v i) ++ drop j d₀)
 
 abbrev decreases-loop : tie.decreases-loop
 decreases-loop n row v d₀ j₀ d j = n - j
@@ -50,7 +50,7 @@ reduced-cost-requires : tie.Need-reduced-cost-requires invariant-loop decreases-
 reduced-cost-requires c κs =
     let s = c.before.before.before.before in
     let l = c.before.before.before.loop in
-    subst (Within near) (sym (read_back w64 (signedAt s.args.v.now l.j) c.reduced-cost-arg2.given)) (s.requires.3 l.j)
+    subst (Within near) (sym (read_back w64 (signed_at s.args.v.now l.j) c.reduced-cost-arg2.given)) (s.requires.3 l.j)
 
 mul-t14 : tie.Need-overflow-mul-t14 invariant-loop decreases-loop
 mul-t14 c = search rules
@@ -69,11 +69,11 @@ loop-again c =
     let s = c.before.before.before.before.before in
     let l = c.before.before.before.before.loop in
     let h : l.j < length s.args.d.now = omega arith in
-    let x : to_z w64 (of_z w64 c.reduced-cost.result) ≡ signedAt s.args.row.now l.j -ℤ signedAt s.args.v.now l.j =
+    let x : to_z w64 (of_z w64 c.reduced-cost.result) ≡ signed_at s.args.row.now l.j -ℤ signed_at s.args.v.now l.j =
     read_back w64 c.reduced-cost.result c.reduced-cost.type-inv ∙ c.reduced-cost.ensures
-    ∙ ap₂ ◌-ℤ◌ (read_back w32 (signedAt s.args.row.now l.j) c.before.before.reduced-cost-arg.given)
-    (read_back w64 (signedAt s.args.v.now l.j) c.before.reduced-cost-arg2.given) in
-    (omega arith, rw (x, l.invariant.1) (filled_more l.j (λ i. signedAt s.args.row.now i -ℤ signedAt s.args.v.now i) s.args.d.now h))
+    ∙ ap₂ ◌-ℤ◌ (read_back w32 (signed_at s.args.row.now l.j) c.before.before.reduced-cost-arg.given)
+    (read_back w64 (signed_at s.args.v.now l.j) c.before.reduced-cost-arg2.given) in
+    (omega arith, rw (x, l.invariant.1) (filled_more l.j (λ i. signed_at s.args.row.now i -ℤ signed_at s.args.v.now i) s.args.d.now h))
 
 same_length : tie.Need-same-length invariant-loop decreases-loop
 same_length c = size c.before ∙ sym c.before.before.requires.2
@@ -83,7 +83,7 @@ returns c =
     let s = c.before.before in
     let l = c.before.loop in
     let e : l.j ≡ length s.args.d.now = omega (arith, l.invariant.0) in
-    l.invariant.1 ∙ filled-all l.j _ s.args.d.now e ∙ ap (λ (m : ℕ). table m (λ i. signedAt s.args.row.now i -ℤ signedAt s.args.v.now i)) s.requires.2
+    l.invariant.1 ∙ filled_all l.j _ s.args.d.now e ∙ ap (λ (m : ℕ). table m (λ i. signed_at s.args.row.now i -ℤ signed_at s.args.v.now i)) s.requires.2
 
 pub first-distances-spec : {M : Type 1} → statement M
 first-distances-spec =

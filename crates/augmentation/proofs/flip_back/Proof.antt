@@ -6,7 +6,7 @@ use lib.ListN.{length, length-set}
 use Rattle.lists.specs.Permutations.{at}
 use Rattle.matrix.proofs.SmallLimits.{side-small}
 use Rattle.augmentation.specs.Augmentation.{open_at}
-use Rattle.augmentation.proofs.Flips.{togo, Flipping, first-flip, row_below, last-flip, next-flip, fewer}
+use Rattle.augmentation.proofs.Flips.{togo, Flipping, first-flip, row_below, last-flip, next_flip, fewer}
 use Rattle.augmentation.proofs.flip_back.Statement.{statement}
 use Rattle.augmentation.proofs.flip_back.Tie as tie
 
@@ -78,7 +78,7 @@ loop-less : tie.Need-loop-smaller invariant-loop decreases-loop
 loop-less c = fewer c.before.before.before.loop.invariant c.if1.false
 
 loop-again : tie.Need-loop-preserved invariant-loop decreases-loop
-loop-again c = next-flip c.before.before.before.loop.invariant c.if1.false
+loop-again c = next_flip c.before.before.before.loop.invariant c.if1.false
 
 same_length : tie.Need-same-length invariant-loop decreases-loop
 same_length c =

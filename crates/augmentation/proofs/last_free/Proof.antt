@@ -4,13 +4,13 @@ use Prim.Native.Nat.{◌-◌, ◌≤◌, ◌<◌}
 use native.Mathlib.Omega.{arith}
 use borrow.Author.Rules.{rules}
 use Rattle.lists.specs.Permutations.{at}
-use Rattle.rules.specs.Search.{lastFree}
+use Rattle.rules.specs.Search.{last_free}
 use Rattle.augmentation.proofs.Block.{last_none, last_more}
 use Rattle.augmentation.proofs.last_free.Statement.{statement}
 use Rattle.augmentation.proofs.last_free.Tie as tie
 
 abbrev invariant-loop : tie.invariant-loop
-invariant-loop n lo hi list rows last₀ k₀ last k = (lo ≤ k) × (k ≤ hi) × (last ≡ lastFree n (at rows) list lo k)
+invariant-loop n lo hi list rows last₀ k₀ last k = (lo ≤ k) × (k ≤ hi) × (last ≡ last_free n (at rows) list lo k)
 
 abbrev decreases-loop : tie.decreases-loop
 decreases-loop n lo hi list rows last₀ k₀ last k = hi - k
@@ -26,9 +26,9 @@ shared-slice-read-j c =
     let s = c.before.before.before.before.before in
     omega (arith, s.requires.3.size, s.requires.1)
 
-here-below : (c : tie.In-loop invariant-loop decreases-loop)
+here_below : (c : tie.In-loop invariant-loop decreases-loop)
     → at c.before.before.before.before.args.list.now c.before.loop.k < c.before.before.before.before.args.n
-here-below c =
+here_below c =
     let s = c.before.before.before.before in
     s.requires.3.injective.below c.before.loop.k (omega (arith, s.requires.1))
 
@@ -36,10 +36,10 @@ cast-j : tie.Need-overflow-cast-j invariant-loop decreases-loop
 cast-j c = omega (arith, c.shared-slice-known3.given c.before.before.loop.k)
 
 mul-later : tie.Need-overflow-mul-later invariant-loop decreases-loop
-mul-later c = omega (arith, here-below c.before)
+mul-later c = omega (arith, here_below c.before)
 
 shared-slice-read-later : tie.Need-shared-slice-read-later invariant-loop decreases-loop
-shared-slice-read-later c = omega (arith, here-below c.before.before)
+shared-slice-read-later c = omega (arith, here_below c.before.before)
 
 cast-later : tie.Need-overflow-cast-later invariant-loop decreases-loop
 cast-later c =
@@ -66,7 +66,7 @@ returns : tie.Need-returns invariant-loop decreases-loop
 returns c =
     let s = c.before.before.before.before.args in
     let e : c.before.loop.k ≡ s.hi = omega arith in
-    c.before.loop.invariant.2 ∙ ap (lastFree s.n (at s.rows.now) s.list.now s.lo) e
+    c.before.loop.invariant.2 ∙ ap (last_free s.n (at s.rows.now) s.list.now s.lo) e
 
 pub last-free-spec : {M : Type 1} → statement M
 last-free-spec =

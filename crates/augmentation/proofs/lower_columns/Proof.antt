@@ -13,12 +13,12 @@ use mir.Facts.{to_z-of_z}
 use Rattle.ints.specs.Parts.{Within}
 use Rattle.ints.proofs.Bits.{read_back}
 use Rattle.lists.specs.Permutations.{at}
-use Rattle.assignment.specs.Pairings.{signedAt}
+use Rattle.assignment.specs.Pairings.{signed_at}
 use Rattle.matrix.specs.Limits.{near}
 use Rattle.matrix.proofs.SmallLimits.{side-small}
 use Rattle.rules.specs.declared.ScanEnd.{ScanEnd}
 use Rattle.augmentation.specs.Scan.{ColumnsLowered}
-use Rattle.augmentation.proofs.Lowering.{Lowering, first-lowering, room-long, columns-lowered, column-below, pass-by, lower, swap-in, hit, lowering-at, same-equal, same-other}
+use Rattle.augmentation.proofs.Lowering.{Lowering, first_lowering, room-long, columns-lowered, column-below, pass_by, lower, swap_in, hit, lowering_at, same_equal, same_other}
 use Rattle.augmentation.proofs.lower_columns.Statement.{statement}
 use Rattle.augmentation.proofs.lower_columns.Tie as tie
 
@@ -39,14 +39,14 @@ distance : (c : tie.After-lowered invariant-loop decreases-loop)
     → let l = c.before.before.before.before.before in
     let s = l.before.before.before in
     let j = get_or l.loop.room (s.args.n + l.loop.k) 0 in
-    to_z w64 (of_z w64 c.lowered.result) ≡ (signedAt s.args.row.now j -ℤ signedAt s.args.v.now j) -ℤ to_z w64 (of_z w64 s.args.h)
+    to_z w64 (of_z w64 c.lowered.result) ≡ (signed_at s.args.row.now j -ℤ signed_at s.args.v.now j) -ℤ to_z w64 (of_z w64 s.args.h)
 distance c =
     let l = c.before.before.before.before.before in
     let s = l.before.before.before in
     let j = get_or l.loop.room (s.args.n + l.loop.k) 0 in
     read_back w64 c.lowered.result c.lowered.type-inv ∙ c.lowered.ensures
-    ∙ ap₂ (λ (a b : ℤ). (a -ℤ b) -ℤ to_z w64 (of_z w64 s.args.h)) (read_back w32 (signedAt s.args.row.now j) c.before.before.lowered-arg.given)
-    (read_back w64 (signedAt s.args.v.now j) c.before.lowered-arg2.given)
+    ∙ ap₂ (λ (a b : ℤ). (a -ℤ b) -ℤ to_z w64 (of_z w64 s.args.h)) (read_back w32 (signed_at s.args.row.now j) c.before.before.lowered-arg.given)
+    (read_back w64 (signed_at s.args.v.now j) c.before.lowered-arg2.given)
 
 add-n2 : tie.Need-overflow-add-n2 invariant-loop decreases-loop
 add-n2 c = omega (arith, side-small, c.before.before.requires.0.small)
@@ -54,7 +54,7 @@ add-n2 c = omega (arith, side-small, c.before.before.requires.0.small)
 loop-holds : tie.Need-loop-init invariant-loop decreases-loop
 loop-holds c =
     let p = c.before.before.requires in
-    first-lowering _ _ _ _ _ _ _ _ _ _ p.0.room-size p.2 p.0.distances-size p.0.listed
+    first_lowering _ _ _ _ _ _ _ _ _ _ p.0.room-size p.2 p.0.distances-size p.0.listed
 
 -- what every index need asks of a turn
 record Facts (n k hi j row v rows d room : ℕ) : Type 0 where
@@ -106,7 +106,7 @@ lowered-requires : tie.Need-lowered-requires invariant-loop decreases-loop
 lowered-requires c κs =
     let s = c.before.before.before.before.before.before.before in
     let j = get_or c.before.before.before.before.loop.room (s.args.n + c.before.before.before.before.loop.k) 0 in (
-      subst (Within near) (sym (read_back w64 (signedAt s.args.v.now j) c.lowered-arg2.given)) (s.requires.0.prices-near j),
+      subst (Within near) (sym (read_back w64 (signed_at s.args.v.now j) c.lowered-arg2.given)) (s.requires.0.prices-near j),
       subst (Within (4 * near)) (sym (to_z-of_z s.ranges.h)) s.requires.3,
     )
 
@@ -174,10 +174,10 @@ returns c =
     let l = w.before.before.before.before.before in
     let s = l.before.before.before in
     let j = get_or l.loop.room (s.args.n + l.loop.k) 0 in
-    let old : to_z w64 (of_z w64 (signedAt l.loop.d j)) ≡ signedAt l.loop.d j = read_back w64 (signedAt l.loop.d j) c.before.before.before.before.if12.given in
+    let old : to_z w64 (of_z w64 (signed_at l.loop.d j)) ≡ signed_at l.loop.d j = read_back w64 (signed_at l.loop.d j) c.before.before.before.before.if12.given in
     told (to_z-of_z s.ranges.h) (to_z-of_z s.ranges.minimum)
     (hit _ _ _ _ _ _ _ _ _ _ l.loop.invariant w.before.before.before.before.loop-test.true _ (distance w)
-    (rw old at c.before.before.before.if1.true) (same-equal _ _ (ap (to_z w64) c.before.before.if2.true)) (le-ltb _ _ c.if3.false))
+    (rw old at c.before.before.before.if1.true) (same_equal _ _ (ap (to_z w64) c.before.before.if2.true)) (le-ltb _ _ c.if3.false))
 
 add-k : tie.Need-overflow-add-k invariant-loop decreases-loop
 add-k c = omega (arith, facts c.before.before.before.before.before.before)
@@ -192,18 +192,18 @@ loop-again c =
     let s = l.before.before.before in
     let t = w.before.before.before.before.loop-test.true in
     let j = get_or l.loop.room (s.args.n + l.loop.k) 0 in
-    let old : to_z w64 (of_z w64 (signedAt l.loop.d j)) ≡ signedAt l.loop.d j = read_back w64 (signedAt l.loop.d j) c.before.if12.given in
+    let old : to_z w64 (of_z w64 (signed_at l.loop.d j)) ≡ signed_at l.loop.d j = read_back w64 (signed_at l.loop.d j) c.before.if12.given in
     let x = to_z w64 (of_z w64 w.lowered.result) in
     let xr : x ≡ w.lowered.result = read_back w64 w.lowered.result w.lowered.type-inv in
     ⊎_elim
-    (λ a. lowering-at
-    (swap-in _ _ _ _ _ _ _ _ _ _ l.loop.invariant t x (distance w) (rw old at a.0.taken) (same-equal _ _ (ap (to_z w64) a.1.taken))
+    (λ a. lowering_at
+    (swap_in _ _ _ _ _ _ _ _ _ _ l.loop.invariant t x (distance w) (rw old at a.0.taken) (same_equal _ _ (ap (to_z w64) a.1.taken))
     (lt-ltb _ _ a.3.taken)) a.8 (a.9 ∙ a.5.ensures) a.10)
     (⊎_elim
-    (λ a. lowering-at
+    (λ a. lowering_at
     (lower _ _ _ _ _ _ _ _ _ _ l.loop.invariant t x (distance w) (rw old at a.0.taken)
-    (same-other _ _ (λ e. a.1.left (ap (of_z w64) (sym xr ∙ e ∙ to_z-of_z s.ranges.minimum))))) a.2 a.3 a.4)
-    (λ a. lowering-at (pass-by _ _ _ _ _ _ _ _ _ _ l.loop.invariant t x (distance w) (rw old at a.0.left)) a.1 a.2 a.3))
+    (same_other _ _ (λ e. a.1.left (ap (of_z w64) (sym xr ∙ e ∙ to_z-of_z s.ranges.minimum))))) a.2 a.3 a.4)
+    (λ a. lowering_at (pass_by _ _ _ _ _ _ _ _ _ _ l.loop.invariant t x (distance w) (rw old at a.0.left)) a.1 a.2 a.3))
     c.if1.branch
 
 same-length-3 : tie.Need-same-length-3 invariant-loop decreases-loop

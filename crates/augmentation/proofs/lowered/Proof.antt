@@ -13,9 +13,9 @@ use Rattle.matrix.specs.Limits.{near}
 use Rattle.augmentation.proofs.lowered.Statement.{statement}
 use Rattle.augmentation.proofs.lowered.Tie as tie
 
-module _ (cost signedAt h r : ℤ) (f : SFits w32 cost) (fp : SFits w64 signedAt) (g : SFits w64 h) (within : Within near signedAt × Within (4 * near) h)
-    (small : mag r < 2 ^ 63) (got : r ≡ to_z w32 (of_z w32 cost) -ℤ to_z w64 (of_z w64 signedAt)) where
-  is : r ≡ cost -ℤ signedAt
+module _ (cost signed_at h r : ℤ) (f : SFits w32 cost) (fp : SFits w64 signed_at) (g : SFits w64 h) (within : Within near signed_at × Within (4 * near) h)
+    (small : mag r < 2 ^ 63) (got : r ≡ to_z w32 (of_z w32 cost) -ℤ to_z w64 (of_z w64 signed_at)) where
+  is : r ≡ cost -ℤ signed_at
   is = got ∙ ap₂ ◌-ℤ◌ (to_z-of_z f) (to_z-of_z fp)
 
   read : SFits w64 r
@@ -24,10 +24,10 @@ module _ (cost signedAt h r : ℤ) (f : SFits w32 cost) (fp : SFits w64 signedAt
   difference : SFits w64 (r -ℤ h)
   difference = omega (zlin, f, within.0, within.1, is)
 
-  difference-fits : SFits w64 (to_z w64 (of_z w64 r) -ℤ to_z w64 (of_z w64 h))
-  difference-fits = rw (to_z-of_z read, to_z-of_z g) difference
+  difference_fits : SFits w64 (to_z w64 (of_z w64 r) -ℤ to_z w64 (of_z w64 h))
+  difference_fits = rw (to_z-of_z read, to_z-of_z g) difference
 
-  difference-is : to_z w64 (of_z w64 (to_z w64 (of_z w64 r) -ℤ to_z w64 (of_z w64 h))) ≡ (cost -ℤ signedAt) -ℤ h
+  difference-is : to_z w64 (of_z w64 (to_z w64 (of_z w64 r) -ℤ to_z w64 (of_z w64 h))) ≡ (cost -ℤ signed_at) -ℤ h
   difference-is = rw (to_z-of_z read, to_z-of_z g, to_z-of_z difference) (ap (λ (x : ℤ). x -ℤ h) is)
 
 reduced-cost-requires : tie.Need-reduced-cost-requires
@@ -37,7 +37,7 @@ sub-result : tie.Need-overflow-sub-result
 sub-result c =
     let s = c.before in
     let r = c.reduced-cost in
-    difference-fits s.args.cost s.args.price s.args.h r.result s.ranges.cost s.ranges.price s.ranges.h s.requires r.type-inv r.ensures
+    difference_fits s.args.cost s.args.price s.args.h r.result s.ranges.cost s.ranges.price s.ranges.h s.requires r.type-inv r.ensures
 
 returns : tie.Need-returns
 returns c =

@@ -6,7 +6,7 @@ use native.Mathlib.Omega.{arith}
 use borrow.Author.Rules.{rules}
 use lib.ListN.{length, drop}
 use Rattle.lists.specs.Permutations.{table}
-use Rattle.lists.proofs.Tables.{filled_none, filled_more, filled-length, filled-all}
+use Rattle.lists.proofs.Tables.{filled_none, filled_more, filled-length, filled_all}
 use Rattle.matrix.proofs.SmallLimits.{side-small}
 use Rattle.augmentation.proofs.number_columns.Statement.{statement}
 use Rattle.augmentation.proofs.number_columns.Tie as tie
@@ -53,7 +53,7 @@ returns : tie.Need-returns invariant-loop decreases-loop
 returns c =
     let l = c.before.loop in
     let e : l.j ≡ length c.before.before.args.list.now = omega (arith, size c.before, l.invariant.0) in
-    l.invariant.1 ∙ filled-all l.j _ c.before.before.args.list.now e
+    l.invariant.1 ∙ filled_all l.j _ c.before.before.args.list.now e
 
 pub number-columns-spec : {M : Type 1} → statement M
 number-columns-spec =

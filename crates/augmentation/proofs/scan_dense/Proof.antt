@@ -9,12 +9,12 @@ use mir.Syntax.{w32, w64}
 use mir.Val.{to_z, of_z}
 use Rattle.ints.specs.Parts.{Within}
 use Rattle.ints.proofs.Bits.{read_back}
-use Rattle.ints.proofs.Ranges.{within-mono}
+use Rattle.ints.proofs.Ranges.{within_mono}
 use Rattle.lists.specs.Permutations.{at}
-use Rattle.assignment.specs.Pairings.{signedAt}
+use Rattle.assignment.specs.Pairings.{signed_at}
 use Rattle.matrix.specs.Limits.{near}
 use Rattle.matrix.proofs.SmallLimits.{side-small}
-use Rattle.augmentation.proofs.Scan.{row-length, spare-near, column-at, scanned}
+use Rattle.augmentation.proofs.Scan.{row-length, spare_near, column-at, scanned}
 use Rattle.augmentation.proofs.scan_dense.Statement.{statement}
 use Rattle.augmentation.proofs.scan_dense.Tie as tie
 
@@ -80,23 +80,23 @@ row-size c =
     ap length c.row.ensures ∙ row-length _ _ _ f.row f.sizes.4
 
 -- the block's minimum, at the column as code reads it
-minimum-near : (s : tie.Start) → let u = s.args in Within (2 * near) (signedAt u.d.now (get_or u.room.now (u.n + u.cursor.lo) 0))
+minimum-near : (s : tie.Start) → let u = s.args in Within (2 * near) (signed_at u.d.now (get_or u.room.now (u.n + u.cursor.lo) 0))
 minimum-near s =
-    subst (λ (j : ℕ). Within (2 * near) (signedAt s.args.d.now j))
+    subst (λ (j : ℕ). Within (2 * near) (signed_at s.args.d.now j))
     (sym (column-at s.args.n s.args.room.now s.args.cursor.lo s.requires.place.0)) s.requires.minimum-near
 
 -- what the row has to spare, as the definition has it
 spare : (c : tie.After-lowered)
     → let s = c.before.before.before.before.before.before.before.before.before in
     let j = get_or s.args.room.now (s.args.n + s.args.cursor.lo) 0 in
-    to_z w64 (of_z w64 c.lowered.result) ≡ (signedAt c.before.before.before.row.result.now j -ℤ signedAt s.args.v.now j) -ℤ to_z w64 (of_z w64 (signedAt s.args.d.now j))
+    to_z w64 (of_z w64 c.lowered.result) ≡ (signed_at c.before.before.before.row.result.now j -ℤ signed_at s.args.v.now j) -ℤ to_z w64 (of_z w64 (signed_at s.args.d.now j))
 spare c =
     let s = c.before.before.before.before.before.before.before.before.before in
     let j = get_or s.args.room.now (s.args.n + s.args.cursor.lo) 0 in
     read_back w64 c.lowered.result c.lowered.type-inv ∙ c.lowered.ensures
-    ∙ ap₂ (λ (a b : ℤ). (a -ℤ b) -ℤ to_z w64 (of_z w64 (signedAt s.args.d.now j)))
-    (read_back w32 (signedAt c.before.before.before.row.result.now j) c.before.before.lowered-arg.given)
-    (read_back w64 (signedAt s.args.v.now j) c.before.lowered-arg2.given)
+    ∙ ap₂ (λ (a b : ℤ). (a -ℤ b) -ℤ to_z w64 (of_z w64 (signed_at s.args.d.now j)))
+    (read_back w32 (signed_at c.before.before.before.row.result.now j) c.before.before.lowered-arg.given)
+    (read_back w64 (signed_at s.args.v.now j) c.before.lowered-arg2.given)
 
 shared-slice-copy-out-lowered : tie.Need-shared-slice-copy-out-lowered
 shared-slice-copy-out-lowered c = omega (arith, facts c.before.before.before.before.before.before, row-size c)
@@ -111,9 +111,9 @@ lowered-requires : tie.Need-lowered-requires
 lowered-requires c κs =
     let s = c.before.before.before.before.before.before.before.before in
     let j = get_or s.args.room.now (s.args.n + s.args.cursor.lo) 0 in (
-      subst (Within near) (sym (read_back w64 (signedAt s.args.v.now j) c.lowered-arg2.given)) (s.requires.lent.prices-near j),
-      subst (Within (4 * near)) (sym (read_back w64 (signedAt s.args.d.now j) c.before.before.before.minimum.given))
-          (within-mono (omega arith) (minimum-near s)),
+      subst (Within near) (sym (read_back w64 (signed_at s.args.v.now j) c.lowered-arg2.given)) (s.requires.lent.prices-near j),
+      subst (Within (4 * near)) (sym (read_back w64 (signed_at s.args.d.now j) c.before.before.before.minimum.given))
+          (within_mono (omega arith) (minimum-near s)),
     )
 
 lower-columns-requires : tie.Need-lower-columns-requires
@@ -121,12 +121,12 @@ lower-columns-requires c κs =
     let w = c.before.before in
     let s = w.before.before.before.before.before.before.before.before.before in
     let j = get_or s.args.room.now (s.args.n + s.args.cursor.lo) 0 in
-    let m : to_z w64 (of_z w64 (signedAt s.args.d.now j)) ≡ signedAt s.args.d.now j = read_back w64 (signedAt s.args.d.now j) w.before.before.before.before.minimum.given in (
+    let m : to_z w64 (of_z w64 (signed_at s.args.d.now j)) ≡ signed_at s.args.d.now j = read_back w64 (signed_at s.args.d.now j) w.before.before.before.before.minimum.given in (
       s.requires.lent,
       row-size w.before.before.before,
       s.requires.place.1,
       subst (Within (4 * near)) (sym (spare w))
-          (spare-near (signedAt w.before.before.before.row.result.now j) (signedAt s.args.v.now j) (to_z w64 (of_z w64 (signedAt s.args.d.now j)))
+          (spare_near (signed_at w.before.before.before.row.result.now j) (signed_at s.args.v.now j) (to_z w64 (of_z w64 (signed_at s.args.d.now j)))
           (record { sfits = w.before.before.lowered-arg.given }) (s.requires.lent.prices-near j) (subst (Within (2 * near)) (sym m) (minimum-near s))),
     )
 
@@ -142,7 +142,7 @@ returns c =
     let s = w.before.before.before.before.before.before.before.before.before in
     let j = get_or s.args.room.now (s.args.n + s.args.cursor.lo) 0 in
     scanned _ _ _ _ _ _ _ _ j _ _ _ _ (column-at s.args.n s.args.room.now s.args.cursor.lo s.requires.place.0) (facts s).column refl
-    w.before.before.before.row.ensures (read_back w64 (signedAt s.args.d.now j) w.before.before.before.before.minimum.given) (spare w)
+    w.before.before.before.row.ensures (read_back w64 (signed_at s.args.d.now j) w.before.before.before.before.minimum.given) (spare w)
     c.before.before.before.lower-columns.ensures
 
 pub scan-dense-spec : {M : Type 1} → statement M

@@ -15,12 +15,12 @@ add-n3 : tie.Need-overflow-add-n3
 add-n3 c = search rules
 
 row-requires : tie.Need-row-requires
-row-requires c κs = let s = c.before in (s.requires.start-below, s.requires.costs-size)
+row-requires c κs = let s = c.before in (s.requires.start_below, s.requires.costs-size)
 
 first-distances-requires : tie.Need-first-distances-requires
 first-distances-requires c κs =
     let p = c.before.before.before.requires in
-    (ap length c.before.row.ensures ∙ row-length _ _ _ p.start-below p.costs-size, p.prices-size, p.distances-size, p.prices-near)
+    (ap length c.before.row.ensures ∙ row-length _ _ _ p.start_below p.costs-size, p.prices-size, p.distances-size, p.prices-near)
 
 mul-number-columns : tie.Need-overflow-mul-number-columns
 mul-number-columns c = search rules

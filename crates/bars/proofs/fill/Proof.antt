@@ -14,13 +14,13 @@ use Rattle.lists.specs.Permutations.{at, table}
 use Rattle.lists.specs.Parts.{part}
 use Rattle.lists.proofs.Parts.{lent_back}
 use Rattle.lists.proofs.Tables.{length-table, filled_none, filled-length}
-use Rattle.bars.specs.Barred.{filledIn, filledAt, filledCosts}
-use Rattle.bars.proofs.FilledCosts.{rowsFilled, next-row-length, next-row-filled}
+use Rattle.bars.specs.Barred.{filled_in, filled_at, filled_costs}
+use Rattle.bars.proofs.FilledCosts.{rows_filled, next_row_length, next_row_filled}
 use Rattle.bars.proofs.fill.Statement.{statement}
 use Rattle.bars.proofs.fill.Tie as tie
 
 abbrev invariant-loop : tie.invariant-loop
-invariant-loop n costs₀ bars dear start₀ i₀ costs start i = (i ≤ n) × (start ≡ i * n) × (costs ≡ rowsFilled n (to_z w32 dear) costs₀ bars i)
+invariant-loop n costs₀ bars dear start₀ i₀ costs start i = (i ≤ n) × (start ≡ i * n) × (costs ≡ rows_filled n (to_z w32 dear) costs₀ bars i)
 
 abbrev decreases-loop : tie.decreases-loop
 decreases-loop n costs₀ bars dear start₀ i₀ costs start i = n - i
@@ -34,24 +34,24 @@ small n i l h = omega (arith, mul-le-mul_right n l, mul-le-mul_right n h)
 
 -- what stands after a turn, over plain lists: the row [start, end) was lent and came back as p
 module _ (n : ℕ) (dear : ℤ) (costs : List ℤ) (bars : List ℕ) (i : ℕ) (h : i * n + n ≤ length costs) (list : List ℤ) (start end : ℕ)
-    (filled : list ≡ rowsFilled n dear costs bars i) (here : start ≡ i * n) (long : end - start ≡ n) where
-  lent : take (end - start) (drop start list) ≡ part (i * n) n (rowsFilled n dear costs bars i)
+    (filled : list ≡ rows_filled n dear costs bars i) (here : start ≡ i * n) (long : end - start ≡ n) where
+  lent : take (end - start) (drop start list) ≡ part (i * n) n (rows_filled n dear costs bars i)
   lent = cc (filled, here, long)
 
   lent-size : length (take (end - start) (drop start list)) ≡ n
-  lent-size = ap length lent ∙ next-row-length n dear costs bars i h
+  lent-size = ap length lent ∙ next_row_length n dear costs bars i h
 
-  turned : (p : List ℤ) → p ≡ table (length (take (end - start) (drop start list))) (filledIn (at bars i) dear (take (end - start) (drop start list)))
-      → take start list ++ (p ++ drop (end - start) (drop start list)) ≡ rowsFilled n dear costs bars (i + 1)
+  turned : (p : List ℤ) → p ≡ table (length (take (end - start) (drop start list))) (filled_in (at bars i) dear (take (end - start) (drop start list)))
+      → take start list ++ (p ++ drop (end - start) (drop start list)) ≡ rows_filled n dear costs bars (i + 1)
   turned p e =
-      let q : p ≡ table n (filledIn (at bars i) dear (part (i * n) n (rowsFilled n dear costs bars i))) =
-      e ∙ ap₂ (λ (k : ℕ) (r : List ℤ). table k (filledIn (at bars i) dear r)) lent-size lent in
-      let s : length p ≡ end - start = ap length q ∙ length-table n (filledIn (at bars i) dear (part (i * n) n (rowsFilled n dear costs bars i))) ∙ sym long in
+      let q : p ≡ table n (filled_in (at bars i) dear (part (i * n) n (rows_filled n dear costs bars i))) =
+      e ∙ ap₂ (λ (k : ℕ) (r : List ℤ). table k (filled_in (at bars i) dear r)) lent-size lent in
+      let s : length p ≡ end - start = ap length q ∙ length-table n (filled_in (at bars i) dear (part (i * n) n (rows_filled n dear costs bars i))) ∙ sym long in
       let next : i * n + n ≡ (i + 1) * n = omega arith in
       lent_back start end p list s
       ∙ cc (filled, here, q)
-      ∙ next-row-filled n dear costs bars i h
-      ∙ ap (λ (k : ℕ). table k (filledAt n dear costs bars) ++ drop k costs) next
+      ∙ next_row_filled n dear costs bars i h
+      ∙ ap (λ (k : ℕ). table k (filled_at n dear costs bars) ++ drop k costs) next
 
 loop-holds : tie.Need-loop-init invariant-loop decreases-loop
 loop-holds c =
@@ -59,8 +59,8 @@ loop-holds c =
     let z : 0 ≡ 0 * u.n = omega arith in (
       omega arith,
       z,
-      filled_none (filledAt u.n (to_z w32 (of_z w32 u.dear)) u.costs.now u.bars.now) u.costs.now
-          ∙ ap (λ (k : ℕ). table k (filledAt u.n (to_z w32 (of_z w32 u.dear)) u.costs.now u.bars.now) ++ drop k u.costs.now) z,
+      filled_none (filled_at u.n (to_z w32 (of_z w32 u.dear)) u.costs.now u.bars.now) u.costs.now
+          ∙ ap (λ (k : ℕ). table k (filled_at u.n (to_z w32 (of_z w32 u.dear)) u.costs.now u.bars.now) ++ drop k u.costs.now) z,
     )
 
 -- the costs keep their length
@@ -68,7 +68,7 @@ size : (c : tie.At-loop invariant-loop decreases-loop) → length c.loop.costs �
 size c =
     let u = c.before.before.args in
     ap length c.loop.invariant.2
-    ∙ filled-length (c.loop.i * u.n) (filledAt u.n (to_z w32 (of_z w32 u.dear)) u.costs.now u.bars.now) u.costs.now
+    ∙ filled-length (c.loop.i * u.n) (filled_at u.n (to_z w32 (of_z w32 u.dear)) u.costs.now u.bars.now) u.costs.now
     (omega (arith, mul-le-mul_right u.n c.loop.invariant.0, c.before.before.requires.1))
 
 -- the row lies inside
@@ -132,8 +132,8 @@ loop-again c =
 same_length : tie.Need-same-length invariant-loop decreases-loop
 same_length c = size c.before
 
-opened : (n : ℕ) (dear : ℤ) (costs : List ℤ) (bars : List ℕ) → rowsFilled n dear costs bars n ≡ filledCosts n dear costs bars ++ drop (n * n) costs
-unfolding filledCosts
+opened : (n : ℕ) (dear : ℤ) (costs : List ℤ) (bars : List ℕ) → rows_filled n dear costs bars n ≡ filled_costs n dear costs bars ++ drop (n * n) costs
+unfolding filled_costs
 opened n dear costs bars = refl
 
 returns : tie.Need-returns invariant-loop decreases-loop
@@ -141,7 +141,7 @@ returns c =
     let l = c.before.loop in
     let u = c.before.before.before.args in
     let e : l.i ≡ u.n = omega (arith, l.invariant.0, c.loop-test.false) in
-    l.invariant.2 ∙ ap₂ (λ (k : ℕ) (z : ℤ). rowsFilled u.n z u.costs.now u.bars.now k) e (to_z-of_z c.before.before.before.ranges.dear)
+    l.invariant.2 ∙ ap₂ (λ (k : ℕ) (z : ℤ). rows_filled u.n z u.costs.now u.bars.now k) e (to_z-of_z c.before.before.before.ranges.dear)
     ∙ opened u.n u.dear u.costs.now u.bars.now
 
 pub fill_spec : {M : Type 1} → statement M

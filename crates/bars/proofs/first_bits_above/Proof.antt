@@ -9,13 +9,13 @@ use borrow.Author.Count.{below_none, below_more}
 use borrow.Author.Rules.{rules}
 use borrow.Author.Tests.{le-leb, lt-leb}
 use Rattle.lists.specs.Permutations.{at}
-use Rattle.lists.proofs.Runs.{first-at, first-none}
-use Rattle.bars.specs.Barred.{bitsAbove}
+use Rattle.lists.proofs.Runs.{first-at, first_none}
+use Rattle.bars.specs.Barred.{bits_above}
 use Rattle.bars.proofs.first_bits_above.Statement.{statement}
 use Rattle.bars.proofs.first_bits_above.Tie as tie
 
 abbrev test : ℕ → List ℕ → ℕ → Bool
-test n bars i = bitsAbove n (at bars i)
+test n bars i = bits_above n (at bars i)
 
 abbrev invariant-loop : tie.invariant-loop
 invariant-loop n bars all i₀ i = (i ≤ n) × ((k : ℕ) → k < i → test n bars k ≡ false) × (all ≡ 2 ^ n - 1)
@@ -65,7 +65,7 @@ returns-2 c =
     let l = c.before.loop in
     let u = c.before.before.before.before.args in
     let e : l.i ≡ u.n = omega (arith, l.invariant.0, c.loop-test.false) in
-    e ∙ sym (first-none (test u.n u.bars.now) u.n (λ k h. l.invariant.1 k (omega arith)))
+    e ∙ sym (first_none (test u.n u.bars.now) u.n (λ k h. l.invariant.1 k (omega arith)))
 
 pub first-bits-above-spec : {M : Type 1} → statement M
 first-bits-above-spec =

@@ -4,7 +4,7 @@ use borrow.Author.Rules.{rules}
 use mir.Syntax.{w64}
 use Rattle.ints.proofs.Bits.{read_back}
 use Rattle.matrix.specs.Answers.{values_of}
-use Rattle.matrix.proofs.Verdicts.{fails-totalled, passed-totalled}
+use Rattle.matrix.proofs.Verdicts.{fails_totalled, passed-totalled}
 use Rattle.checker.proofs.answered.Statement.{statement}
 use Rattle.checker.proofs.answered.Tie as tie
 
@@ -12,7 +12,7 @@ enum-known-verdict : tie.Need-enum-known-verdict
 enum-known-verdict c = search rules
 
 returns : tie.Need-returns
-returns c = ap values_of (fails-totalled _ c.before.verdict.given.1)
+returns c = ap values_of (fails_totalled _ c.before.verdict.given.1)
 
 enum_told : tie.Need-enum-told
 enum_told c = search rules

@@ -6,7 +6,7 @@ use Rattle.assignment.specs.Pairings.{square, total}
 use Rattle.matrix.specs.Answers.{values_of, totalled}
 use Rattle.matrix.specs.declared.Verdict.{Verdict}
 use Rattle.checker.specs.Check.{check}
-use Rattle.checker.proofs.Accepted.{checks-iff}
+use Rattle.checker.proofs.Accepted.{checks_iff}
 use Rattle.checker.proofs.check.Statement.{statement}
 use Rattle.checker.proofs.check.Tie as tie
 
@@ -15,7 +15,7 @@ checked-requires c κs = search rules
 
 answered-requires : tie.Need-answered-requires
 answered-requires c κs = λ e.
-    let f = (checks-iff _ _ _ _ _ _).0 (sym c.checked.ensures ∙ e) in
+    let f = (checks_iff _ _ _ _ _ _).0 (sym c.checked.ensures ∙ e) in
     (f.sizes.small, f.sizes.small, omega (arith, f.sizes.squared), record { listed = f.sizes.columns-listed; inside = f.named.inside })
 
 returns : tie.Need-returns

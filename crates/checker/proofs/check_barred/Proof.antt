@@ -6,10 +6,10 @@ use borrow.Author.Rules.{rules}
 use Rattle.assignment.specs.Pairings.{total}
 use Rattle.matrix.specs.Answers.{values_of, totalled}
 use Rattle.matrix.specs.declared.Verdict.{Verdict}
-use Rattle.matrix.proofs.SmallLimits.{sheetSide-within}
+use Rattle.matrix.proofs.SmallLimits.{sheet_side-within}
 use Rattle.bars.specs.Barred.{barred}
-use Rattle.checker.specs.Check.{checkBarred}
-use Rattle.checker.proofs.Barred.{checks-barred-iff}
+use Rattle.checker.specs.Check.{check_barred}
+use Rattle.checker.proofs.Barred.{checks_barred_iff}
 use Rattle.checker.proofs.check_barred.Statement.{statement}
 use Rattle.checker.proofs.check_barred.Tie as tie
 
@@ -18,12 +18,12 @@ checked-barred-requires c κs = search rules
 
 answered-requires : tie.Need-answered-requires
 answered-requires c κs = λ e.
-    let f = ((checks-barred-iff _ _ _ _ _ _ _).0 (sym c.checked-barred.ensures ∙ e)).0 in
-    let small = le_trans f.small sheetSide-within in
+    let f = ((checks_barred_iff _ _ _ _ _ _ _).0 (sym c.checked-barred.ensures ∙ e)).0 in
+    let small = le_trans f.small sheet_side-within in
     (small, small, omega (arith, f.squared), record { listed = f.columns-listed; inside = f.named.inside })
 
 returns : tie.Need-returns
-unfolding checkBarred
+unfolding check_barred
 returns c =
     let u = c.before.before.before.before.before.args in
     c.answered.ensures ∙ ap (λ (v : Verdict). values_of (totalled v (total (barred u.n u.costs.now u.bars.now) u.cols.now))) c.before.checked-barred.ensures

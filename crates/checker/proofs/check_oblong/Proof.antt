@@ -7,10 +7,10 @@ use borrow.Author.Rules.{rules}
 use Rattle.assignment.specs.Pairings.{total}
 use Rattle.matrix.specs.Answers.{values_of, totalled}
 use Rattle.matrix.specs.declared.Verdict.{Verdict}
-use Rattle.matrix.proofs.SmallLimits.{sheetSide-within}
-use Rattle.bars.specs.Barred.{nightOf}
-use Rattle.checker.specs.Check.{checkOblong}
-use Rattle.checker.proofs.Oblong.{checks-oblong-iff}
+use Rattle.matrix.proofs.SmallLimits.{sheet_side-within}
+use Rattle.bars.specs.Barred.{night_of}
+use Rattle.checker.specs.Check.{check_oblong}
+use Rattle.checker.proofs.Oblong.{checks_oblong_iff}
 use Rattle.checker.proofs.check_oblong.Statement.{statement}
 use Rattle.checker.proofs.check_oblong.Tie as tie
 
@@ -19,15 +19,15 @@ checked-oblong-requires c κs = search rules
 
 answered-requires : tie.Need-answered-requires
 answered-requires c κs = λ e.
-    let f = ((checks-oblong-iff _ _ _ _ _ _).0 (sym c.checked-oblong.ensures ∙ e)).0 in
-    let small = le_trans f.small sheetSide-within in
+    let f = ((checks_oblong_iff _ _ _ _ _ _).0 (sym c.checked-oblong.ensures ∙ e)).0 in
+    let small = le_trans f.small sheet_side-within in
     (le_trans f.fits small, small, omega (arith, f.filled), record { listed = f.columns-listed; inside = f.inside })
 
 returns : tie.Need-returns
-unfolding checkOblong
+unfolding check_oblong
 returns c =
     let u = c.before.before.before.args in
-    c.answered.ensures ∙ ap (λ (v : Verdict). values_of (totalled v (total (nightOf u.m u.n u.costs.now []) u.cols.now))) c.before.checked-oblong.ensures
+    c.answered.ensures ∙ ap (λ (v : Verdict). values_of (totalled v (total (night_of u.m u.n u.costs.now []) u.cols.now))) c.before.checked-oblong.ensures
 
 pub check-oblong-spec : {M : Type 1} → statement M
 check-oblong-spec = tie.close (tie.spec checked-oblong-requires answered-requires returns)

@@ -2,7 +2,7 @@
 use mathlib.Core.Path.{sym, ◌∙◌}
 use borrow.Author.Rules.{rules}
 use Rattle.matrix.proofs.Verdicts.{after}
-use Rattle.matrix.proofs.Passed.{shaped-iff}
+use Rattle.matrix.proofs.Passed.{shaped_iff}
 use Rattle.checker.specs.Check.{checks}
 use Rattle.checker.proofs.checked.Statement.{statement}
 use Rattle.checker.proofs.checked.Tie as tie
@@ -11,7 +11,7 @@ shaped-requires : tie.Need-shaped-requires
 shaped-requires c κs = search rules
 
 proven-requires : tie.Need-proven-requires
-proven-requires c κs = λ e. (shaped-iff _ _ _ _ _ _).0 (sym c.shaped.ensures ∙ e)
+proven-requires c κs = λ e. (shaped_iff _ _ _ _ _ _).0 (sym c.shaped.ensures ∙ e)
 
 returns : tie.Need-returns
 unfolding checks

@@ -4,45 +4,45 @@ use Prim.Native.Nat.{◌*◌, ◌≤◌}
 use native.Mathlib.Nat.{le_trans}
 use borrow.Author.Rules.{rules}
 use lib.ListN.{length}
-use Rattle.matrix.specs.Limits.{sheetSide}
+use Rattle.matrix.specs.Limits.{sheet_side}
 use Rattle.matrix.specs.Verdicts.{Passes}
-use Rattle.matrix.proofs.SmallLimits.{sheetSide-small, sheetSide-within}
-use Rattle.matrix.proofs.Verdicts.{then-iff, after}
-use Rattle.checker.specs.Check.{checksBarred}
-use Rattle.checker.proofs.Barred.{shaped-barred-iff, paired-inside}
+use Rattle.matrix.proofs.SmallLimits.{sheet_side-small, sheet_side-within}
+use Rattle.matrix.proofs.Verdicts.{then_iff, after}
+use Rattle.checker.specs.Check.{checks_barred}
+use Rattle.checker.proofs.Barred.{shaped_barred_iff, paired-inside}
 use Rattle.checker.proofs.checked_barred.Statement.{statement}
 use Rattle.checker.proofs.checked_barred.Tie as tie
 
 -- past 1, 2 and 3
 shape : (c : tie.After-shaped-barred) → let u = c.before.before.before.before.args in Passes c.shaped-barred.result
-    → (u.n ≤ sheetSide) × (length u.costs.now ≡ u.n * u.n) × (u.n ≤ length u.cols.now) × (u.n ≤ length u.rows.now) × (u.n ≤ length u.us.now) × (u.n ≤ length u.vs.now) × (u.n ≤ length u.bars.now)
+    → (u.n ≤ sheet_side) × (length u.costs.now ≡ u.n * u.n) × (u.n ≤ length u.cols.now) × (u.n ≤ length u.rows.now) × (u.n ≤ length u.us.now) × (u.n ≤ length u.vs.now) × (u.n ≤ length u.bars.now)
 shape c e =
     let u = c.before.before.before.before.args in
-    (shaped-barred-iff u.n u.costs.now (length u.cols.now) (length u.rows.now) (length u.us.now) (length u.vs.now) (length u.bars.now)).0 (sym c.shaped-barred.ensures ∙ e)
+    (shaped_barred_iff u.n u.costs.now (length u.cols.now) (length u.rows.now) (length u.us.now) (length u.vs.now) (length u.bars.now)).0 (sym c.shaped-barred.ensures ∙ e)
 
 shaped-barred-requires : tie.Need-shaped-barred-requires
 shaped-barred-requires c κs = search rules
 
 paired-barred-requires : tie.Need-paired-barred-requires
-paired-barred-requires c κs = λ e. let s = shape c e in (le_trans s.0 sheetSide-small, s.2, s.3, s.6)
+paired-barred-requires c κs = λ e. let s = shape c e in (le_trans s.0 sheet_side-small, s.2, s.3, s.6)
 
 priced-requires : tie.Need-priced-requires
 priced-requires c κs = λ e.
     let u = c.before.before.before.before.before.args in
-    let t = (then-iff _ _).0 (sym c.paired-barred.ensures ∙ e) in
+    let t = (then_iff _ _).0 (sym c.paired-barred.ensures ∙ e) in
     let s = shape c.before t.0 in
-    let small = le_trans s.0 sheetSide-within in (
+    let small = le_trans s.0 sheet_side-within in (
       small,
       small,
       s.1,
       record { listed = s.2; inside = paired-inside u.n u.costs.now u.cols.now u.rows.now u.bars.now t.1 },
       s.4,
       s.5,
-      λ i set. le_trans s.0 sheetSide-small,
+      λ i set. le_trans s.0 sheet_side-small,
     )
 
 returns : tie.Need-returns
-unfolding checksBarred
+unfolding checks_barred
 returns c = after _ c.priced.ensures (after _ c.before.paired-barred.ensures c.before.before.shaped-barred.ensures)
 
 pub checked-barred-spec : {M : Type 1} → statement M

@@ -9,7 +9,7 @@ use borrow.Author.Tests.{eq-eqb, ne_eqb}
 use lib.Dec.{eqb}
 use lib.ListN.{length}
 use Rattle.lists.specs.Permutations.{at}
-use Rattle.matrix.proofs.First.{Clear, clear-start, clear-more, found, ended}
+use Rattle.matrix.proofs.First.{Clear, clear_start, clear_more, found, ended}
 use Rattle.checker.proofs.first_row_not_named.Statement.{statement}
 use Rattle.checker.proofs.first_row_not_named.Tie as tie
 
@@ -27,7 +27,7 @@ reached : (c : tie.Start invariant-loop decreases-loop) (i : ℕ) → i < c.args
 reached c i l = omega (arith, c.requires.2 i l, c.requires.1)
 
 loop-holds : tie.Need-loop-init invariant-loop decreases-loop
-loop-holds c = (omega arith, clear-start _)
+loop-holds c = (omega arith, clear_start _)
 
 mul-j : tie.Need-overflow-mul-j invariant-loop decreases-loop
 mul-j c = search rules
@@ -63,7 +63,7 @@ loop-again : tie.Need-loop-preserved invariant-loop decreases-loop
 loop-again c =
     let u = c.before.before.before.before.before.args in
     let l = c.before.before.before.before.loop in
-    (omega arith, clear-more (test u.cols.now u.rows.now) l.i l.invariant.1 (ap not (eq-eqb _ _ c.if1.false)))
+    (omega arith, clear_more (test u.cols.now u.rows.now) l.i l.invariant.1 (ap not (eq-eqb _ _ c.if1.false)))
 
 returns-2 : tie.Need-returns-2 invariant-loop decreases-loop
 returns-2 c =

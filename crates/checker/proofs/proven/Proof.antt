@@ -6,24 +6,24 @@ use lib.ListN.{length}
 use Rattle.assignment.specs.Pairings.{Night, square}
 use Rattle.matrix.specs.Verdicts.{Passes, ◌then◌}
 use Rattle.matrix.specs.Asked.{Shaped, Listed}
-use Rattle.matrix.proofs.Verdicts.{then-iff, then-assoc, after}
+use Rattle.matrix.proofs.Verdicts.{then_iff, then_assoc, after}
 use Rattle.matrix.proofs.Passed.{columns-inside}
 use Rattle.bars.proofs.Passed.{square-unbarred}
-use Rattle.checker.specs.Check.{priceTests}
+use Rattle.checker.specs.Check.{price_tests}
 use Rattle.checker.proofs.proven.Statement.{statement}
 use Rattle.checker.proofs.proven.Tie as tie
 
 -- past 5, and past 6
 shape : (c : tie.After-costs-within) → let u = c.before.before.before.args in Passes c.costs-within.result
     → Shaped u.n u.costs.now (length u.cols.now) (length u.rows.now) (length u.us.now) (length u.vs.now)
-shape c e = c.before.before.before.requires ((then-iff _ _).0 (sym c.costs-within.ensures ∙ e)).0
+shape c e = c.before.before.before.requires ((then_iff _ _).0 (sym c.costs-within.ensures ∙ e)).0
 
 listed : (c : tie.After-columns-inside) → let u = c.before.before.before.before.args in Passes c.columns-inside.result
     → Shaped u.n u.costs.now (length u.cols.now) (length u.rows.now) (length u.us.now) (length u.vs.now)
     × Listed u.n u.costs.now u.n u.cols.now
 listed c e =
     let u = c.before.before.before.before.args in
-    let t = (then-iff _ _).0 (sym c.columns-inside.ensures ∙ e) in
+    let t = (then_iff _ _).0 (sym c.columns-inside.ensures ∙ e) in
     let s = shape c.before t.0 in (
       s,
       record {
@@ -49,32 +49,32 @@ slice-aggregate-priced c = search rules
 
 priced-requires : tie.Need-priced-requires
 priced-requires c κs = λ e.
-    let h = listed c.before.before ((then-iff _ _).0 (sym c.before.rows_named.ensures ∙ e)).0 in (
+    let h = listed c.before.before ((then_iff _ _).0 (sym c.before.rows_named.ensures ∙ e)).0 in (
       h.1.small,
       h.1.small,
       h.1.squared,
       record { listed = h.1.listed; inside = h.1.inside },
-      h.0.long.third-long,
-      h.0.long.fourth-long,
+      h.0.long.third_long,
+      h.0.long.fourth_long,
       λ i set. absurd (set refl),
     )
 
 -- no place is barred
 plain : (c : tie.After-priced) → let u = c.before.before.before.before.before.before.before.args in
-    c.priced.result ≡ (c.before.before.rows_named.result then priceTests (square u.n u.costs.now) u.cols.now u.us.now u.vs.now)
+    c.priced.result ≡ (c.before.before.rows_named.result then price_tests (square u.n u.costs.now) u.cols.now u.us.now u.vs.now)
 plain c =
     let u = c.before.before.before.before.before.before.before.args in
     c.priced.ensures
-    ∙ ap (λ (night : Night). c.before.before.rows_named.result then priceTests night u.cols.now u.us.now u.vs.now) (square-unbarred u.n u.costs.now)
+    ∙ ap (λ (night : Night). c.before.before.rows_named.result then price_tests night u.cols.now u.us.now u.vs.now) (square-unbarred u.n u.costs.now)
 
 returns : tie.Need-returns
 returns c =
     let d = c.before.before in
     after _ (plain c)
     (after _ d.rows_named.ensures
-    (after _ d.before.columns-inside.ensures d.before.before.costs-within.ensures ∙ then-assoc _ _ _)
-    ∙ then-assoc _ _ _)
-    ∙ then-assoc _ _ _
+    (after _ d.before.columns-inside.ensures d.before.before.costs-within.ensures ∙ then_assoc _ _ _)
+    ∙ then_assoc _ _ _)
+    ∙ then_assoc _ _ _
 
 pub proven-spec : {M : Type 1} → statement M
 proven-spec = tie.close (tie.spec costs-within-requires columns-inside-requires rows-named-requires slice-aggregate-priced priced-requires returns)

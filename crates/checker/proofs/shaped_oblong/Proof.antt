@@ -3,17 +3,17 @@ use mathlib.Core.Path.{◌≡◌, sym, ap, ◌∙◌}
 use Prim.Native.Nat.{ℕ}
 use native.Mathlib.Nat.{le_trans}
 use borrow.Author.Rules.{rules}
-use Rattle.matrix.specs.Limits.{sheetSide}
-use Rattle.matrix.specs.Tests.{sideWithin}
-use Rattle.matrix.proofs.SmallLimits.{sheetSide-within}
-use Rattle.matrix.proofs.Verdicts.{then-iff, after}
+use Rattle.matrix.specs.Limits.{sheet_side}
+use Rattle.matrix.specs.Tests.{side_within}
+use Rattle.matrix.proofs.SmallLimits.{sheet_side-within}
+use Rattle.matrix.proofs.Verdicts.{then_iff, after}
 use Rattle.matrix.proofs.Passed.{side-within}
-use Rattle.checker.proofs.Tests.{rows_fit}
+use Rattle.checker.proofs.Tests.{rows_fit_lem}
 use Rattle.checker.proofs.shaped_oblong.Statement.{statement}
 use Rattle.checker.proofs.shaped_oblong.Tie as tie
 
-sized : (c : tie.After-side-within) → c.side-within.result ≡ sideWithin sheetSide c.before.before.args.n
-sized c = c.side-within.ensures ∙ ap (λ (limit : ℕ). sideWithin limit c.before.before.args.n) c.before.sheet-side.ensures
+sized : (c : tie.After-side-within) → c.side-within.result ≡ side_within sheet_side c.before.before.args.n
+sized c = c.side-within.ensures ∙ ap (λ (limit : ℕ). side_within limit c.before.before.args.n) c.before.sheet-side.ensures
 
 sheet-side-requires : tie.Need-sheet-side-requires
 sheet-side-requires c κs = search rules
@@ -26,9 +26,9 @@ rows-fit-requires c κs = search rules
 
 costs-fill-requires : tie.Need-costs-fill-requires
 costs-fill-requires c κs = λ e.
-    let t = (then-iff _ _).0 (sym c.rows_fit.ensures ∙ e) in
-    let h = le_trans ((side-within sheetSide _).0 (sym (sized c.before) ∙ t.0)) sheetSide-within in
-    (le_trans ((rows_fit _ _).0 t.1) h, h)
+    let t = (then_iff _ _).0 (sym c.rows_fit.ensures ∙ e) in
+    let h = le_trans ((side-within sheet_side _).0 (sym (sized c.before) ∙ t.0)) sheet_side-within in
+    (le_trans ((rows_fit_lem _ _).0 t.1) h, h)
 
 list-long-requires : tie.Need-list-long-requires
 list-long-requires c κs = search rules
@@ -46,7 +46,7 @@ returns c =
     let filled = first.before in
     after _ c.list-long3.ensures
     (after _ third.list-long2.ensures
-    (after _ first.list-long.ensures (after _ filled.costs-fill.ensures (after _ filled.before.rows_fit.ensures (sized filled.before.before)))))
+    (after _ first.list-long.ensures (after _ filled.costs_fill_lem.ensures (after _ filled.before.rows_fit.ensures (sized filled.before.before)))))
 
 pub shaped-oblong-spec : {M : Type 1} → statement M
 shaped-oblong-spec =

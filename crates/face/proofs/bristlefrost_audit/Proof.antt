@@ -4,9 +4,9 @@ use native.Mathlib.Omega.{arith}
 use borrow.Author.Rules.{rules}
 use Rattle.audit.specs.Asked.{TellableAudited}
 use Rattle.audit.specs.Audit.{audit}
-use Rattle.audit.proofs.Determined.{audited-values-determine}
+use Rattle.audit.proofs.Determined.{audited_values_determine}
 use Rattle.audit.proofs.Codes.{audit-places}
-use Rattle.face.specs.Face.{auditTold}
+use Rattle.face.specs.Face.{audit_told}
 use Rattle.face.proofs.bristlefrost_audit.Statement.{statement}
 use Rattle.face.proofs.bristlefrost_audit.Tie as tie
 
@@ -17,11 +17,11 @@ told-audited-requires : tie.Need-told-audited-requires
 told-audited-requires c κs =
     let k = c.before.before in
     let u = k.before.args in
-    subst TellableAudited (sym (audited-values-determine c.audit.result (audit u.sheet.now u.slip.now) c.audit.ensures))
+    subst TellableAudited (sym (audited_values_determine c.audit.result (audit u.sheet.now u.slip.now) c.audit.ensures))
     (audit-places u.sheet.now u.slip.now (λ i l. omega (arith, k.shared-slice-known.given i)))
 
 returns : tie.Need-returns
-returns c = c.told-audited.ensures ∙ ap auditTold c.before.audit.ensures
+returns c = c.told-audited.ensures ∙ ap audit_told c.before.audit.ensures
 
 pub bristlefrost-audit-spec : {M : Type 1} → statement M
 bristlefrost-audit-spec = tie.close (tie.spec audit-requires told-audited-requires returns)

@@ -2,7 +2,7 @@
 use mathlib.Core.Path.{sym, ap, ◌∙◌, subst}
 use borrow.Author.Rules.{rules}
 use Rattle.matrix.specs.Asked.{TellableIn}
-use Rattle.matrix.proofs.Determined.{values-determine}
+use Rattle.matrix.proofs.Determined.{values_determine}
 use Rattle.checker.specs.Check.{check}
 use Rattle.checker.proofs.Codes.{check-places}
 use Rattle.face.specs.Face.{checked}
@@ -16,7 +16,7 @@ told-checked-requires : tie.Need-told-checked-requires
 told-checked-requires c κs =
     let u = c.before.before.before.args in
     subst TellableIn
-    (sym (values-determine c.check.result (check u.n u.costs.now u.cols.now u.rows.now u.row-prices.now u.col-prices.now) c.check.ensures))
+    (sym (values_determine c.check.result (check u.n u.costs.now u.cols.now u.rows.now u.row-prices.now u.col-prices.now) c.check.ensures))
     (check-places u.n u.costs.now u.cols.now u.rows.now u.row-prices.now u.col-prices.now)
 
 returns : tie.Need-returns

@@ -2,9 +2,9 @@
 use mathlib.Core.Path.{sym, ap, ◌∙◌, subst}
 use borrow.Author.Rules.{rules}
 use Rattle.matrix.specs.Asked.{TellableIn}
-use Rattle.matrix.proofs.Determined.{values-determine}
-use Rattle.checker.specs.Check.{checkBarred}
-use Rattle.checker.proofs.Codes.{check-barred-places}
+use Rattle.matrix.proofs.Determined.{values_determine}
+use Rattle.checker.specs.Check.{check_barred}
+use Rattle.checker.proofs.Codes.{check_barred_places}
 use Rattle.face.specs.Face.{checked}
 use Rattle.face.proofs.bristlefrost_check_barred.Statement.{statement}
 use Rattle.face.proofs.bristlefrost_check_barred.Tie as tie
@@ -16,8 +16,8 @@ told-checked-requires : tie.Need-told-checked-requires
 told-checked-requires c κs =
     let u = c.before.before.before.before.args in
     subst TellableIn
-    (sym (values-determine c.check-barred.result (checkBarred u.n u.costs.now u.cols.now u.rows.now u.row-prices.now u.col-prices.now u.bars.now) c.check-barred.ensures))
-    (check-barred-places u.n u.costs.now u.cols.now u.rows.now u.row-prices.now u.col-prices.now u.bars.now)
+    (sym (values_determine c.check-barred.result (check_barred u.n u.costs.now u.cols.now u.rows.now u.row-prices.now u.col-prices.now u.bars.now) c.check-barred.ensures))
+    (check_barred_places u.n u.costs.now u.cols.now u.rows.now u.row-prices.now u.col-prices.now u.bars.now)
 
 returns : tie.Need-returns
 returns c = c.told-checked.ensures ∙ ap checked c.before.check-barred.ensures

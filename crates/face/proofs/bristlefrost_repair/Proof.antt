@@ -2,7 +2,7 @@
 use mathlib.Core.Path.{sym, ap, ap₂, ◌∙◌, subst}
 use borrow.Author.Rules.{rules}
 use Rattle.matrix.specs.Asked.{TellableIn}
-use Rattle.matrix.proofs.Determined.{values-determine}
+use Rattle.matrix.proofs.Determined.{values_determine}
 use Rattle.lapjv.specs.Solve.{Lent, lent_of}
 use Rattle.repair.specs.Repair.{repair}
 use Rattle.repair.specs.Values.{Told}
@@ -21,7 +21,7 @@ told-checked-requires c κs =
     let r = c.before.before.before.before.before.before.before.before.before.repair in
     let lent = lent_of u.cols.now u.rows.now u.row-prices.now u.col-prices.now u.indices.now u.numbers.now in
     subst TellableIn
-    (sym (values-determine r.result (repair u.n u.costs.now u.row lent).answer (ap (λ (t : Told). t.values) r.ensures)))
+    (sym (values_determine r.result (repair u.n u.costs.now u.row lent).answer (ap (λ (t : Told). t.values) r.ensures)))
     (repair-places u.n u.costs.now u.row lent)
 
 same_length : tie.Need-same-length

@@ -2,7 +2,7 @@
 use mathlib.Core.Path.{sym, ap, ◌∙◌, subst}
 use borrow.Author.Rules.{rules}
 use Rattle.matrix.specs.Asked.{TellableIn}
-use Rattle.matrix.proofs.Determined.{values-determine}
+use Rattle.matrix.proofs.Determined.{values_determine}
 use Rattle.score.specs.Score.{score}
 use Rattle.score.proofs.Codes.{score-places}
 use Rattle.face.specs.Face.{totalled}
@@ -15,7 +15,7 @@ score-requires c κs = search rules
 told-requires : tie.Need-told-requires
 told-requires c κs =
     let u = c.before.before.before.args in
-    subst TellableIn (sym (values-determine c.score.result (score u.first.now u.second.now) c.score.ensures)) (score-places u.first.now u.second.now)
+    subst TellableIn (sym (values_determine c.score.result (score u.first.now u.second.now) c.score.ensures)) (score-places u.first.now u.second.now)
 
 returns : tie.Need-returns
 returns c = c.told.ensures ∙ ap totalled c.before.score.ensures

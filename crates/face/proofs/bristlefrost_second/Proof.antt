@@ -1,6 +1,6 @@
 -- `bristlefrost_second` answers what the entry answers, told, and leaves what it leaves. Assumes nothing.
 use borrow.Author.Rules.{rules}
-use Rattle.swaps.specs.Entries.{lent_of, secondSquare}
+use Rattle.swaps.specs.Entries.{lent_of, second_square}
 use Rattle.swaps.proofs.Codes.{second-places}
 use Rattle.face.proofs.Seconds.{second-numbered, second-handed}
 use Rattle.face.proofs.bristlefrost_second.Statement.{statement}
@@ -17,7 +17,7 @@ told-second-requires : tie.Need-told-second-requires
 told-second-requires c κs =
     let s = c.before.before.before.before.before in
     let u = (start s).args in
-    second-numbered (secondSquare u.n u.costs.now u.cols.now u.rows.now u.row-prices.now u.col-prices.now (lent_of u.list.now u.indices.now u.numbers.now)) s.second.result _ s.second.ensures
+    second-numbered (second_square u.n u.costs.now u.cols.now u.rows.now u.row-prices.now u.col-prices.now (lent_of u.list.now u.indices.now u.numbers.now)) s.second.result _ s.second.ensures
     (λ r e. (second-places u.n u.costs.now u.cols.now u.rows.now u.row-prices.now u.col-prices.now (lent_of u.list.now u.indices.now u.numbers.now) e).0)
 
 same_length : tie.Need-same-length
@@ -33,7 +33,7 @@ returns : tie.Need-returns
 returns c =
     let s = c.before.before.before.before.before.before in
     let u = (start s).args in
-    second-handed (secondSquare u.n u.costs.now u.cols.now u.rows.now u.row-prices.now u.col-prices.now (lent_of u.list.now u.indices.now u.numbers.now)) s.second.result _ s.second.ensures _ c.told-second.ensures
+    second-handed (second_square u.n u.costs.now u.cols.now u.rows.now u.row-prices.now u.col-prices.now (lent_of u.list.now u.indices.now u.numbers.now)) s.second.result _ s.second.ensures _ c.told-second.ensures
     (λ r e. second-places u.n u.costs.now u.cols.now u.rows.now u.row-prices.now u.col-prices.now (lent_of u.list.now u.indices.now u.numbers.now) e)
 
 pub bristlefrost-second-spec : {M : Type 1} → statement M

@@ -5,7 +5,7 @@ use Rattle.lapjv.specs.Solve.{Lent, lent_of, solve}
 use Rattle.lapjv.specs.Values.{Told}
 use Rattle.lapjv.specs.Asked.{TellableSolved}
 use Rattle.lapjv.proofs.Codes.{solve-places}
-use Rattle.lapjv.proofs.Determined.{solved-values-determine}
+use Rattle.lapjv.proofs.Determined.{solved_values_determine}
 use Rattle.face.specs.declared.Solution.{Solution}
 use Rattle.face.specs.Face.{solution}
 use Rattle.face.proofs.bristlefrost_solve.Statement.{statement}
@@ -20,7 +20,7 @@ told-solved-requires c κs =
     let r = c.before.before.before.before.before.before.before.before.before.solve in
     let lent = lent_of u.cols.now u.rows.now u.row-prices.now u.col-prices.now u.indices.now u.numbers.now in
     subst TellableSolved
-    (sym (solved-values-determine r.result (solve u.n u.costs.now lent).answer (ap (λ (t : Told). t.values) r.ensures)))
+    (sym (solved_values_determine r.result (solve u.n u.costs.now lent).answer (ap (λ (t : Told). t.values) r.ensures)))
     (solve-places u.n u.costs.now lent)
 
 same_length : tie.Need-same-length

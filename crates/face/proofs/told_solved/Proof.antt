@@ -8,7 +8,7 @@ use mir.Val.{SFits}
 use mir.Facts.{to_z-of_z}
 use Rattle.rules.specs.declared.Counts.{Counts}
 use Rattle.lapjv.specs.declared.Solved.TheVariants.{Paired}
-use Rattle.lapjv.specs.Values.{solvedValues}
+use Rattle.lapjv.specs.Values.{solved_values}
 use Rattle.face.specs.declared.Solution.{Solution}
 use Rattle.face.specs.Face.{solution}
 use Rattle.face.proofs.told_solved.Statement.{statement}
@@ -25,7 +25,7 @@ code-requires c κs = rw c.before.answer2.given.1 at c.before.before.before.requ
 
 -- What a caller gets with a total and counts, or with a refusal.
 abbrev with-total : Counts → ℤ → Solution
-with-total counts t = solution (solvedValues (Paired (record { total = t; counts = counts })))
+with-total counts t = solution (solved_values (Paired (record { total = t; counts = counts })))
 
 abbrev with-refusal : ℕ → Solution
 with-refusal code = record { refusal = code; total = pos 0; free_rows = 0; looks_one = 0; left_one = 0; looks_two = 0; rows_left = 0; columns_scanned = 0 }

@@ -5,7 +5,7 @@ use borrow.Author.Rules.{rules}
 use lib.ListN.{length}
 use mir.Syntax.{w64}
 use Rattle.ints.proofs.Bits.{read_back}
-use Rattle.lists.proofs.Tables.{table-constant}
+use Rattle.lists.proofs.Tables.{table_constant}
 use Rattle.lapjv.proofs.Pairing as pairing
 use Rattle.lapjv.proofs.pair.Statement.{statement}
 use Rattle.lapjv.proofs.pair.Tie as tie
@@ -56,7 +56,7 @@ write-row-prices-requires c κs =
     let s = start (reduction x) in
     let a = (reduction x).reduce in
     let b = x.ca-dense in
-    pairing.can-price s.args.n s.args.costs.now s.pre.0 _ _ _ _ a.result a.ensures _ _ _ _ b.result b.ensures
+    pairing.can_price s.args.n s.args.costs.now s.pre.0 _ _ _ _ a.result a.ensures _ _ _ _ b.result b.ensures
     s.args.row-prices.now s.pre.2
 
 total-requires : tie.Need-total-requires
@@ -112,7 +112,7 @@ returns c =
     let e = (clearing c.before).fill in
     let f = c.before.clear-numbers in
     pairing.paired_by s.args.n s.args.costs.now s.pre.0 _ _ _ _ a.result a.ensures _ _ _ b.last.1.1.1.1.1.1.1.0 b.result b.ensures
-    _ _ b.last.1.1.1.1.1.1.0 _ _ u.ensures (read_back w64 t.result t.ok ∙ t.ensures) (e.ensures ∙ table-constant _ 0)
+    _ _ b.last.1.1.1.1.1.1.0 _ _ u.ensures (read_back w64 t.result t.ok ∙ t.ensures) (e.ensures ∙ table_constant _ 0)
     (omega (arith, b.kept, a.ensures.room-size)) f.ensures (omega (arith, b.kept, a.kept, s.pre.3))
 
 pub pair_spec : {M : Type 1} → statement M

@@ -6,10 +6,10 @@ use borrow.Author.Rules.{rules}
 use Rattle.matrix.proofs.SmallLimits.{side-small}
 use Rattle.lapjv.specs.declared.Sums.{Sums}
 use Rattle.lapjv.specs.declared.Solved.TheVariants.{Paired}
-use Rattle.lapjv.specs.Solve.{lent_of, outcomeOf, tested}
-use Rattle.lapjv.specs.Values.{toldOf}
+use Rattle.lapjv.specs.Solve.{lent_of, outcome_of, tested}
+use Rattle.lapjv.specs.Values.{told_of}
 use Rattle.lapjv.specs.WithinLimits.{WithinLimits}
-use Rattle.lapjv.proofs.Tests.{tested-iff, fails-refused}
+use Rattle.lapjv.proofs.Tests.{tested_iff, fails_refused}
 use Rattle.lapjv.proofs.Solving as solving
 use Rattle.lapjv.proofs.solve.Statement.{statement}
 use Rattle.lapjv.proofs.solve.Tie as tie
@@ -41,7 +41,7 @@ same-length-6 c = search rules
 returns : tie.Need-returns
 returns c =
     let u = c.before.before.before.before.before.before.before.before.before.before.before.before.before.args in
-    ap toldOf (sym (fails-refused u.n u.costs.now (lent_of u.cols.now u.rows.now u.row-prices.now u.col-prices.now u.indices.now u.numbers.now) _ (sym c.before.before.before.tested.ensures ∙ c.before.refusal.given.1)))
+    ap told_of (sym (fails_refused u.n u.costs.now (lent_of u.cols.now u.rows.now u.row-prices.now u.col-prices.now u.indices.now u.numbers.now) _ (sym c.before.before.before.tested.ensures ∙ c.before.refusal.given.1)))
 
 enum_told : tie.Need-enum-told
 enum_told c = search rules
@@ -50,7 +50,7 @@ enum_told c = search rules
 passes : (c : tie.After-enum-told) → let u = c.before.before.before.before.before.before.before.before.before.before.before.before.args in WithinLimits u.n u.costs.now (lent_of u.cols.now u.rows.now u.row-prices.now u.col-prices.now u.indices.now u.numbers.now)
 passes c =
     let u = c.before.before.before.before.before.before.before.before.before.before.before.before.args in
-    (tested-iff u.n u.costs.now (lent_of u.cols.now u.rows.now u.row-prices.now u.col-prices.now u.indices.now u.numbers.now)).0 (sym c.before.before.tested.ensures ∙ c.enum_told.given.1)
+    (tested_iff u.n u.costs.now (lent_of u.cols.now u.rows.now u.row-prices.now u.col-prices.now u.indices.now u.numbers.now)).0 (sym c.before.before.tested.ensures ∙ c.enum_told.given.1)
 
 nothing-requires : tie.Need-nothing-requires
 nothing-requires c κs = search rules
@@ -76,9 +76,9 @@ same-length-12 c = search rules
 returns-2 : tie.Need-returns-2
 returns-2 c =
     let u = c.before.before.before.before.before.before.before.before.before.before.before.before.before.before.args in
-    ap toldOf
-    (ap (λ (night : Sums). outcomeOf (Paired night) (lent_of u.cols.now u.rows.now u.row-prices.now u.col-prices.now u.indices.now u.numbers.now)) c.nothing.ensures
-    ∙ solving.solved-nothing u.n u.costs.now u.cols.now u.rows.now u.row-prices.now u.col-prices.now u.indices.now u.numbers.now (passes c.before.before) c.before.if1.true)
+    ap told_of
+    (ap (λ (night : Sums). outcome_of (Paired night) (lent_of u.cols.now u.rows.now u.row-prices.now u.col-prices.now u.indices.now u.numbers.now)) c.nothing.ensures
+    ∙ solving.solved_nothing u.n u.costs.now u.cols.now u.rows.now u.row-prices.now u.col-prices.now u.indices.now u.numbers.now (passes c.before.before) c.before.if1.true)
 
 mul-n4 : tie.Need-overflow-mul-n4
 mul-n4 c = omega (arith, side-small, (passes c.before).small)
@@ -108,7 +108,7 @@ part-pair-start-3 : tie.Need-slice-bounds-pair-start-3
 part-pair-start-3 c = search rules
 
 part-pair-end-3 : tie.Need-slice-bounds-pair-end-3
-part-pair-end-3 c = omega (arith, (passes c.before.before.before).row-prices-enough)
+part-pair-end-3 c = omega (arith, (passes c.before.before.before).row_prices_enough)
 
 sub-pair-4 : tie.Need-overflow-sub-pair-4
 sub-pair-4 c = search rules
@@ -117,7 +117,7 @@ part-pair-start-4 : tie.Need-slice-bounds-pair-start-4
 part-pair-start-4 c = search rules
 
 part-pair-end-4 : tie.Need-slice-bounds-pair-end-4
-part-pair-end-4 c = omega (arith, (passes c.before.before.before.before).column-prices-enough)
+part-pair-end-4 c = omega (arith, (passes c.before.before.before.before).column_prices_enough)
 
 sub-pair-5 : tie.Need-overflow-sub-pair-5
 sub-pair-5 c = search rules
@@ -141,7 +141,7 @@ pair-requires : tie.Need-pair-requires
 pair-requires c κs =
     let u = c.before.before.before.before.before.before.before.before.before.before.before.before.before.before.before.before.before.before.before.args in
     let p = passes c.before.before.before.before.before.before.before in
-    let others = solving.others-sized u.n u.costs.now u.cols.now u.rows.now u.row-prices.now u.col-prices.now u.indices.now u.numbers.now p in
+    let others = solving.others_sized u.n u.costs.now u.cols.now u.rows.now u.row-prices.now u.col-prices.now u.indices.now u.numbers.now p in
     (solving.pairable u.n u.costs.now u.cols.now u.rows.now u.row-prices.now u.col-prices.now u.indices.now u.numbers.now p c.before.before.before.before.before.before.if1.false, solving.sized u.n u.costs.now u.cols.now u.rows.now u.row-prices.now u.col-prices.now u.indices.now u.numbers.now p, others.0, others.1)
 
 same-length-13 : tie.Need-same-length-13
@@ -165,7 +165,7 @@ same-length-18 c = search rules
 returns-3 : tie.Need-returns-3
 returns-3 c =
     let u = c.before.before.before.before.before.before.before.before.before.before.before.before.before.before.before.before.before.before.before.before.before.before.before.before.before.before.before.before.before.args in
-    ap toldOf (solving.solved-by u.n u.costs.now u.cols.now u.rows.now u.row-prices.now u.col-prices.now u.indices.now u.numbers.now (passes c.before.before.before.before.before.before.before.before.before.before.before.before.before.before.before.before.before) _ _ _ _ _ _ c.before.before.before.before.before.before.before.before.before.pair.result c.before.before.before.before.before.before.before.before.before.pair.ensures)
+    ap told_of (solving.solved_by u.n u.costs.now u.cols.now u.rows.now u.row-prices.now u.col-prices.now u.indices.now u.numbers.now (passes c.before.before.before.before.before.before.before.before.before.before.before.before.before.before.before.before.before) _ _ _ _ _ _ c.before.before.before.before.before.before.before.before.before.pair.result c.before.before.before.before.before.before.before.before.before.pair.ensures)
 
 pub solve-spec : {M : Type 1} → statement M
 solve-spec =

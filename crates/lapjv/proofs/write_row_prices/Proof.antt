@@ -11,8 +11,8 @@ use mir.Syntax.{w32, w64}
 use mir.Val.{to_z, of_z}
 use Rattle.ints.proofs.Bits.{read_back}
 use Rattle.lists.specs.Permutations.{at, table}
-use Rattle.lists.proofs.Tables.{filled_none, filled_more, filled-length, filled-all}
-use Rattle.assignment.specs.Pairings.{signedAt, square}
+use Rattle.lists.proofs.Tables.{filled_none, filled_more, filled-length, filled_all}
+use Rattle.assignment.specs.Pairings.{signed_at, square}
 use Rattle.matrix.proofs.SmallLimits.{side-small}
 use Rattle.matrix.proofs.Places.{place-below}
 use Rattle.rules.specs.Lowest.{reduced}
@@ -21,7 +21,7 @@ use Rattle.lapjv.proofs.write_row_prices.Tie as tie
 
 -- The price of row i.
 abbrev rowPrice : ℕ → List ℤ → List ℕ → List ℤ → ℕ → ℤ
-rowPrice n costs cols v i = reduced (square n costs).cost (signedAt v) i (at cols i)
+rowPrice n costs cols v i = reduced (square n costs).cost (signed_at v) i (at cols i)
 
 -- The list with the first i row prices written.
 abbrev written : ℕ → List ℤ → List ℕ → List ℤ → List ℤ → ℕ → List ℤ
@@ -35,14 +35,14 @@ decreases-loop n costs cols v us₀ start₀ i₀ us start i = n - i
 
 -- A turn, over plain variables: what is stored is the price of row i.
 turn : (n : ℕ) (costs : List ℤ) (cols : List ℕ) (v us₀ us : List ℤ) (start i : ℕ) (r : ℤ) → i < length us₀ → start ≡ i * n → us ≡ written n costs cols v us₀ i
-    → mag (signedAt costs (start + at cols i)) < 2 ^ 31 → mag (signedAt v (at cols i)) < 2 ^ 63
-    → r ≡ to_z w32 (of_z w32 (signedAt costs (start + at cols i))) -ℤ to_z w64 (of_z w64 (signedAt v (at cols i))) → mag r < 2 ^ 63
+    → mag (signed_at costs (start + at cols i)) < 2 ^ 31 → mag (signed_at v (at cols i)) < 2 ^ 63
+    → r ≡ to_z w32 (of_z w32 (signed_at costs (start + at cols i))) -ℤ to_z w64 (of_z w64 (signed_at v (at cols i))) → mag r < 2 ^ 63
     → set us i (to_z w64 (of_z w64 r)) ≡ written n costs cols v us₀ (i + 1)
 turn n costs cols v us₀ us start i r l e f small small₂ is fits =
     let x : to_z w64 (of_z w64 r) ≡ rowPrice n costs cols v i =
     read_back w64 r fits ∙ is
-    ∙ ap₂ ◌-ℤ◌ (read_back w32 (signedAt costs (start + at cols i)) small ∙ ap (λ (s : ℕ). signedAt costs (s + at cols i)) e)
-    (read_back w64 (signedAt v (at cols i)) small₂)
+    ∙ ap₂ ◌-ℤ◌ (read_back w32 (signed_at costs (start + at cols i)) small ∙ ap (λ (s : ℕ). signed_at costs (s + at cols i)) e)
+    (read_back w64 (signed_at v (at cols i)) small₂)
     in ap₂ (λ (t : List ℤ) (z : ℤ). set t i z) f x ∙ filled_more i (rowPrice n costs cols v) us₀ l
 
 loop-holds : tie.Need-loop-init invariant-loop decreases-loop
@@ -104,7 +104,7 @@ reduced-cost-requires : tie.Need-reduced-cost-requires invariant-loop decreases-
 reduced-cost-requires c κs =
     let s = c.before.before.before.before.before.before in
     let j = at s.args.cols.now c.before.before.before.before.loop.i in
-    rw (read_back w64 (signedAt s.args.v.now j) c.reduced-cost-arg2.given) (s.requires.prices-near j (facts c.before.before.before).column)
+    rw (read_back w64 (signed_at s.args.v.now j) c.reduced-cost-arg2.given) (s.requires.prices-near j (facts c.before.before.before).column)
 
 mul-t20 : tie.Need-overflow-mul-t20 invariant-loop decreases-loop
 mul-t20 c = omega (arith, facts c.before.before.before.before)
@@ -147,7 +147,7 @@ returns c =
     let s = c.before.before.before in
     let l = c.before.loop in
     let e : l.i ≡ length s.args.row-prices.now = omega (arith, s.requires.us-size) in
-    l.invariant.2 ∙ filled-all l.i (priceIn c) s.args.row-prices.now e ∙ ap (λ (m : ℕ). table m (priceIn c)) s.requires.us-size
+    l.invariant.2 ∙ filled_all l.i (priceIn c) s.args.row-prices.now e ∙ ap (λ (m : ℕ). table m (priceIn c)) s.requires.us-size
 
 pub write-row-prices-spec : {M : Type 1} → statement M
 write-row-prices-spec =

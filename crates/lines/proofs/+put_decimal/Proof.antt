@@ -7,7 +7,7 @@ use native.Mathlib.Omega.{arith}
 use borrow.Author.Rules.{rules}
 use lib.ListN.{length}
 use Rattle.lines.specs.Decimal.{decimal}
-use Rattle.lines.proofs.Decimal.{decimal-small, decimal-more, length_more}
+use Rattle.lines.proofs.Decimal.{decimal-small, decimal_more, length_more}
 use Rattle.lines.proofs.Put.{put_then, put_as}
 use borrow.Fn.Kinds.{In}
 use borrow.Fn.PlainCycle.{Measures, is, falls, and}
@@ -73,7 +73,7 @@ put-decimal-returns-2 t c =
     let tens = put.before.before.before.before.before in
     let large = tens.before.before in
     let start = large.before.before in
-    put_as (ap (λ (d : ℕ). decimal (start.args.x / 10) ++ (d ∷ [])) put.before.digit2.ensures ∙ sym (decimal-more start.args.x start.ranges.x.fits large.if1.false))
+    put_as (ap (λ (d : ℕ). decimal (start.args.x / 10) ++ (d ∷ [])) put.before.digit2.ensures ∙ sym (decimal_more start.args.x start.ranges.x.fits large.if1.false))
     (put_then (decimal (start.args.x / 10)) (put.before.digit2.result ∷ []) tens.put-decimal.ensures put.put-byte2.ensures)
 
 pub +put-decimal-spec : {M : Type 1} → statement M

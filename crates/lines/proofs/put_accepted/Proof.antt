@@ -9,10 +9,10 @@ use lib.ListN.{length}
 use mir.Syntax.{w64}
 use mir.Val.{to_z, of_z}
 use mir.Facts.{to_z-of_z}
-use Rattle.lines.specs.Decimal.{decimal, signedDecimal}
-use Rattle.lines.specs.Lines.{acceptedText, totalText, feed, acceptedLine}
-use Rattle.lines.proofs.Decimal.{length-decimal, length-signedDecimal}
-use Rattle.lines.proofs.Put.{put_as, Line, line-start, line-fits, line-then}
+use Rattle.lines.specs.Decimal.{decimal, signed_decimal}
+use Rattle.lines.specs.Lines.{accepted_text, total_text, feed, accepted_line}
+use Rattle.lines.proofs.Decimal.{length-decimal, length-signed_decimal}
+use Rattle.lines.proofs.Put.{put_as, Line, line_start, line-fits, line_then}
 use Rattle.lines.proofs.put_accepted.Statement.{statement}
 use Rattle.lines.proofs.put_accepted.Tie as tie
 
@@ -42,35 +42,35 @@ wide c = to_z w64 (of_z w64 c.args.total)
 total-read : (c : tie.Start) → wide c ≡ c.args.total
 total-read c = to_z-of_z c.ranges.total
 
-total-short : (c : tie.Start) → length (signedDecimal (wide c)) ≤ 20
-total-short c = rw (total-read c) (length-signedDecimal c.args.total c.ranges.total.sfits)
+total-short : (c : tie.Start) → length (signed_decimal (wide c)) ≤ 20
+total-short c = rw (total-read c) (length-signed_decimal c.args.total c.ranges.total.sfits)
 
-after-word : (c : tie.After-put-text) → Line 0 9 (from-word c).args.out.now (λ q. acceptedText ++ q) c.put-text.new.0 c.put-text.result
+after-word : (c : tie.After-put-text) → Line 0 9 (from-word c).args.out.now (λ q. accepted_text ++ q) c.put-text.new.0 c.put-text.result
 after-word c =
     let s = from-word c in
-    line-then acceptedText 9 (line-start 0 s.args.out.now s.pre) c.put-text.ensures c.put-text.auto.0 (omega arith)
+    line_then accepted_text 9 (line_start 0 s.args.out.now s.pre) c.put-text.ensures c.put-text.auto.0 (omega arith)
 
 after-side : (c : tie.After-put-decimal)
-    → Line 0 29 (from-side c).args.out.now (λ q. acceptedText ++ (decimal (from-side c).args.side ++ q)) c.put-decimal.new.0 c.put-decimal.result
+    → Line 0 29 (from-side c).args.out.now (λ q. accepted_text ++ (decimal (from-side c).args.side ++ q)) c.put-decimal.new.0 c.put-decimal.result
 after-side c =
-    line-then (decimal (from-side c).args.side) 20 (after-word c.before.before.before.before) c.put-decimal.ensures c.put-decimal.auto.0
+    line_then (decimal (from-side c).args.side) 20 (after-word c.before.before.before.before) c.put-decimal.ensures c.put-decimal.auto.0
     (side-short (from-side c))
 
 after-total : (c : tie.After-put-text2) → let s = from-total c in
-    Line 0 36 s.args.out.now (λ q. acceptedText ++ (decimal s.args.side ++ (totalText ++ q))) c.put-text2.new.0 c.put-text2.result
-after-total c = line-then totalText 7 (after-side c.before.before.before.before.before) c.put-text2.ensures c.put-text2.auto.0 (omega arith)
+    Line 0 36 s.args.out.now (λ q. accepted_text ++ (decimal s.args.side ++ (total_text ++ q))) c.put-text2.new.0 c.put-text2.result
+after-total c = line_then total_text 7 (after-side c.before.before.before.before.before) c.put-text2.ensures c.put-text2.auto.0 (omega arith)
 
 after-number : (c : tie.After-put-signed) → let s = from-number c in
-    Line 0 56 s.args.out.now (λ q. acceptedText ++ (decimal s.args.side ++ (totalText ++ (signedDecimal (wide s) ++ q)))) c.put-signed.new.0 c.put-signed.result
+    Line 0 56 s.args.out.now (λ q. accepted_text ++ (decimal s.args.side ++ (total_text ++ (signed_decimal (wide s) ++ q)))) c.put-signed.new.0 c.put-signed.result
 after-number c =
     let s = from-number c in
-    line-then (signedDecimal (wide s)) 20 (after-total c.before.before.before.before) c.put-signed.ensures c.put-signed.auto.0 (total-short s)
+    line_then (signed_decimal (wide s)) 20 (after-total c.before.before.before.before) c.put-signed.ensures c.put-signed.auto.0 (total-short s)
 
 slice-aggregate-put-text : tie.Need-slice-aggregate-put-text
 slice-aggregate-put-text c = search rules
 
 put-text-requires : tie.Need-put-text-requires
-put-text-requires c κs = let s = c.before.before.before in line-fits 9 (line-start 0 s.args.out.now s.requires) (omega arith)
+put-text-requires c κs = let s = c.before.before.before in line-fits 9 (line_start 0 s.args.out.now s.requires) (omega arith)
 
 put-decimal-requires : tie.Need-put-decimal-requires
 put-decimal-requires c κs =
@@ -95,12 +95,12 @@ same_length : tie.Need-same-length
 same_length c = search rules
 
 returns : tie.Need-returns
-unfolding acceptedLine
+unfolding accepted_line
 returns c =
     let last = c.before.before in
     let number = last.before.before.before.before in
     let s = from-number number in
-    let line : ℤ → List ℕ = λ z. acceptedText ++ (decimal s.args.side ++ (totalText ++ (signedDecimal z ++ feed))) in
+    let line : ℤ → List ℕ = λ z. accepted_text ++ (decimal s.args.side ++ (total_text ++ (signed_decimal z ++ feed))) in
     (put_as (ap line (total-read s)) ((after-number number).ends feed last.put_byte.ensures), omega (arith, (after-number number).reach, last.put_byte.ensures.past))
 
 pub put-accepted-spec : {M : Type 1} → statement M

@@ -4,7 +4,7 @@ use native.Mathlib.Nat.{mul-le-mul, sub-zero}
 use native.Mathlib.Omega.{arith}
 use borrow.Author.Rules.{rules}
 use lib.ListN.{take}
-use Rattle.lines.specs.Lines.{row_lines, spareLines}
+use Rattle.lines.specs.Lines.{row_lines, spare_lines}
 use Rattle.lines.proofs.Put.{put_then}
 use Rattle.lines.proofs.put_arrays.Statement.{statement}
 use Rattle.lines.proofs.put_arrays.Tie as tie
@@ -65,7 +65,7 @@ returns c =
     let cols = take u.n u.cols.now in
     let rows = simp sub-zero at first.put-rows.ensures in
     let spares = simp sub-zero at last.put-spares.ensures in
-    (put_then (row_lines u.n (take (u.n * u.n) u.costs.now) cols u.m) (spareLines u.m cols u.n) rows.0 spares.0, omega (arith, rows.1, spares.1))
+    (put_then (row_lines u.n (take (u.n * u.n) u.costs.now) cols u.m) (spare_lines u.m cols u.n) rows.0 spares.0, omega (arith, rows.1, spares.1))
 
 pub put-arrays-spec : {M : Type 1} → statement M
 put-arrays-spec =

@@ -9,26 +9,26 @@ use lib.ListN.{length}
 use Rattle.lists.specs.Permutations.{at}
 use Rattle.lines.specs.Decimal.{decimal}
 use Rattle.lines.specs.Put.{Put}
-use Rattle.lines.specs.Lines.{blank, columnsText}
+use Rattle.lines.specs.Lines.{blank, columns_text}
 use Rattle.lines.proofs.Put.{put_then, put_as}
-use Rattle.lines.proofs.Columns.{columns-start, columns-more}
+use Rattle.lines.proofs.Columns.{columns_start, columns_more}
 use Rattle.lines.proofs.put_columns.Statement.{statement}
 use Rattle.lines.proofs.put_columns.Tie as tie
 
 abbrev invariant-loop : tie.invariant-loop
 invariant-loop out₀ place m cols next₀ i₀ out next i =
-    (i ≤ m) × (next ≤ place + 3 * i) × (length out ≡ length out₀) × Put out₀ place (columnsText cols i) out next
+    (i ≤ m) × (next ≤ place + 3 * i) × (length out ≡ length out₀) × Put out₀ place (columns_text cols i) out next
 
 abbrev decreases-loop : tie.decreases-loop
 decreases-loop out₀ place m cols next₀ i₀ out next i = m - i
 
-none : (cols out : List ℕ) (place : ℕ) → Put out place (columnsText cols 0) out place
-none cols out place = put_as (sym (columns-start cols)) (record { stored = refl; past = omega arith })
+none : (cols out : List ℕ) (place : ℕ) → Put out place (columns_text cols 0) out place
+none cols out place = put_as (sym (columns_start cols)) (record { stored = refl; past = omega arith })
 
 -- a turn writes the next column
-turn : (cols : List ℕ) (i : ℕ) {out₀ out out' : List ℕ} {place next next' : ℕ} → Put out₀ place (columnsText cols i) out next
-    → Put out next (blank ++ decimal (at cols i)) out' next' → Put out₀ place (columnsText cols (i + 1)) out' next'
-turn cols i so_far last = rw add-one (put_as (sym (columns-more cols i)) (put_then (columnsText cols i) (blank ++ decimal (at cols i)) so_far last))
+turn : (cols : List ℕ) (i : ℕ) {out₀ out out' : List ℕ} {place next next' : ℕ} → Put out₀ place (columns_text cols i) out next
+    → Put out next (blank ++ decimal (at cols i)) out' next' → Put out₀ place (columns_text cols (i + 1)) out' next'
+turn cols i so_far last = rw add-one (put_as (sym (columns_more cols i)) (put_then (columns_text cols i) (blank ++ decimal (at cols i)) so_far last))
 
 loop-holds : tie.Need-loop-init invariant-loop decreases-loop
 loop-holds c =
@@ -69,7 +69,7 @@ returns c =
     let l = c.before.loop in
     let u = c.before.before.before.before.args in
     let e : l.i ≡ u.m = omega arith in
-    (put_as (ap (columnsText u.cols.now) e) l.invariant.3, omega (arith, l.invariant.1))
+    (put_as (ap (columns_text u.cols.now) e) l.invariant.3, omega (arith, l.invariant.1))
 
 pub put-columns-spec : {M : Type 1} → statement M
 put-columns-spec =

@@ -6,17 +6,17 @@ use Prim.Native.Nat.{ℕ}
 use native.Mathlib.Omega.{arith}
 use borrow.Author.Rules.{rules}
 use Rattle.lines.specs.Put.{Put}
-use Rattle.lines.specs.Lines.{spareLine}
+use Rattle.lines.specs.Lines.{spare_line}
 use Rattle.lines.proofs.Put.{put_as}
 use Rattle.lines.proofs.put_if_spare.Statement.{statement}
 use Rattle.lines.proofs.put_if_spare.Tie as tie
 
 -- a used column, and a spare one
-with-used : {t : Bool} (j : ℕ) (out : List ℕ) (place : ℕ) → t ≡ true → Put out place (cond t [] (spareLine j)) out place
-with-used j out place e = put_as (ap (λ (t : Bool). cond t [] (spareLine j)) (sym e)) (record { stored = refl; past = omega arith })
+with-used : {t : Bool} (j : ℕ) (out : List ℕ) (place : ℕ) → t ≡ true → Put out place (cond t [] (spare_line j)) out place
+with-used j out place e = put_as (ap (λ (t : Bool). cond t [] (spare_line j)) (sym e)) (record { stored = refl; past = omega arith })
 
-with-spare : {t : Bool} (j : ℕ) → t ≡ false → spareLine j ≡ cond t [] (spareLine j)
-with-spare j e = ap (λ (t : Bool). cond t [] (spareLine j)) (sym e)
+with-spare : {t : Bool} (j : ℕ) → t ≡ false → spare_line j ≡ cond t [] (spare_line j)
+with-spare j e = ap (λ (t : Bool). cond t [] (spare_line j)) (sym e)
 
 used-requires : tie.Need-used-requires
 used-requires c κs = search rules

@@ -10,10 +10,10 @@ use mir.Syntax.{w64}
 use mir.Val.{to_z, of_z}
 use mir.Facts.{to_z-of_z}
 use Rattle.assignment.specs.Pairings.{Night}
-use Rattle.bars.specs.Barred.{nightOf}
+use Rattle.bars.specs.Barred.{night_of}
 use Rattle.swaps.specs.Second.{Answer, Right, second}
-use Rattle.swaps.proofs.Shown.{shown-right}
-use Rattle.lines.specs.Lines.{acceptedLine, row_lines, spareLines, secondLine}
+use Rattle.swaps.proofs.Shown.{shown_right}
+use Rattle.lines.specs.Lines.{accepted_line, row_lines, spare_lines, second_line}
 use Rattle.lines.proofs.Put.{put_then, put_as}
 use Rattle.lines.proofs.Columns.{answer-read, columns-short}
 use Rattle.lines.proofs.put_night.Statement.{statement}
@@ -36,7 +36,7 @@ from-search c = from-accepted (to-accepted (to-arrays c))
 -- ---- the night, and its second
 
 abbrev the-night : tie.Start → Night
-the-night c = let u = c.args in nightOf u.m u.n (take (u.m * u.n) u.state.costs) (take u.n u.state.bars)
+the-night c = let u = c.args in night_of u.m u.n (take (u.m * u.n) u.state.costs) (take u.n u.state.bars)
 
 abbrev firsts : tie.Start → List ℕ
 firsts c = take c.args.m (take c.args.n c.args.state.cols)
@@ -49,7 +49,7 @@ the_second c =
 right : (c : tie.Start) → Right (the-night c) (firsts c) (the_second c)
 right c =
     let u = c.args in
-    shown-right (the-night c) (take u.n u.state.row_prices) (take u.n u.state.col_prices) (take u.n u.state.cols) c.requires.searchable.shown
+    shown_right (the-night c) (take u.n u.state.row_prices) (take u.n u.state.col_prices) (take u.n u.state.cols) c.requires.searchable.shown
 
 put-accepted-requires : tie.Need-put-accepted-requires
 put-accepted-requires c κs = omega (arith, c.before.before.before.before.before.before.before.before.before.requires.rows.roomy)
@@ -89,12 +89,12 @@ returns c =
     let u = s.args in
     let cols = take u.n u.state.cols in
     let row-lines = row_lines u.n (take (u.n * u.n) u.state.costs) cols u.m in
-    let spare-lines = spareLines u.m cols u.n in
-    let end = secondLine (the_second s) in
-    let told = put_as (ap secondLine (answer-read (the-night s) (firsts s) (the_second s) (right s) (replicate 64 0) f.find-arrays.ensures.0 f.find-arrays.ensures.1)) last.put_second.ensures.0 in
+    let spare-lines = spare_lines u.m cols u.n in
+    let end = second_line (the_second s) in
+    let told = put_as (ap second_line (answer-read (the-night s) (firsts s) (the_second s) (right s) (replicate 64 0) f.find-arrays.ensures.0 f.find-arrays.ensures.1)) last.put_second.ensures.0 in
     let rest = put_as (append_assoc row-lines spare-lines end) (put_then (row-lines ++ spare-lines) end rows.put-arrays.ensures.0 told) in
-    let all = put_then (acceptedLine u.n (to_z w64 (of_z w64 u.total))) (row-lines ++ (spare-lines ++ end)) first.put-accepted.ensures.0 rest in (
-      put_as (ap (λ (t : ℤ). acceptedLine u.n t ++ (row-lines ++ (spare-lines ++ end))) (to_z-of_z s.fits.total)) all,
+    let all = put_then (accepted_line u.n (to_z w64 (of_z w64 u.total))) (row-lines ++ (spare-lines ++ end)) first.put-accepted.ensures.0 rest in (
+      put_as (ap (λ (t : ℤ). accepted_line u.n t ++ (row-lines ++ (spare-lines ++ end))) (to_z-of_z s.fits.total)) all,
       omega (arith, first.put-accepted.ensures.1, rows.put-arrays.ensures.1, last.put_second.ensures.1),
     )
 

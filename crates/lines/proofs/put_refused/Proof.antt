@@ -6,9 +6,9 @@ use native.Mathlib.Omega.{arith}
 use borrow.Author.Rules.{rules}
 use lib.ListN.{length}
 use Rattle.lines.specs.Decimal.{decimal}
-use Rattle.lines.specs.Lines.{refusedText, placeText, feed, refusedLine}
+use Rattle.lines.specs.Lines.{refused_text, place_text, feed, refused_line}
 use Rattle.lines.proofs.Decimal.{length-decimal}
-use Rattle.lines.proofs.Put.{put_as, Line, line-start, line-fits, line-then}
+use Rattle.lines.proofs.Put.{put_as, Line, line_start, line-fits, line_then}
 use Rattle.lines.proofs.put_refused.Statement.{statement}
 use Rattle.lines.proofs.put_refused.Tie as tie
 
@@ -31,34 +31,34 @@ number_short c = length-decimal c.number.result c.number.type-inv
 place_short : (c : tie.After-place) → length (decimal c.place.result) ≤ 20
 place_short c = length-decimal c.place.result c.place.type-inv
 
-after-word : (c : tie.After-put-text) → Line 0 8 (from-word c).args.out.now (λ q. refusedText ++ q) c.put-text.new.0 c.put-text.result
+after-word : (c : tie.After-put-text) → Line 0 8 (from-word c).args.out.now (λ q. refused_text ++ q) c.put-text.new.0 c.put-text.result
 after-word c =
     let s = from-word c in
-    line-then refusedText 8 (line-start 0 s.args.out.now s.pre) c.put-text.ensures c.put-text.auto.0 (omega arith)
+    line_then refused_text 8 (line_start 0 s.args.out.now s.pre) c.put-text.ensures c.put-text.auto.0 (omega arith)
 
 after-number : (c : tie.After-put-decimal)
-    → Line 0 28 (from-number c).args.out.now (λ q. refusedText ++ (decimal c.before.number.result ++ q)) c.put-decimal.new.0 c.put-decimal.result
+    → Line 0 28 (from-number c).args.out.now (λ q. refused_text ++ (decimal c.before.number.result ++ q)) c.put-decimal.new.0 c.put-decimal.result
 after-number c =
-    line-then (decimal c.before.number.result) 20 (after-word c.before.before.before.before.before) c.put-decimal.ensures c.put-decimal.auto.0
+    line_then (decimal c.before.number.result) 20 (after-word c.before.before.before.before.before) c.put-decimal.ensures c.put-decimal.auto.0
     (number_short c.before)
 
 after-place : (c : tie.After-put-text2) → let n = c.before.before.before.before.before.before.number.result in
-    Line 0 35 (from_place c).args.out.now (λ q. refusedText ++ (decimal n ++ (placeText ++ q))) c.put-text2.new.0 c.put-text2.result
-after-place c = line-then placeText 7 (after-number c.before.before.before.before.before) c.put-text2.ensures c.put-text2.auto.0 (omega arith)
+    Line 0 35 (from_place c).args.out.now (λ q. refused_text ++ (decimal n ++ (place_text ++ q))) c.put-text2.new.0 c.put-text2.result
+after-place c = line_then place_text 7 (after-number c.before.before.before.before.before) c.put-text2.ensures c.put-text2.auto.0 (omega arith)
 
 after_both : (c : tie.After-put-decimal2) → let second = c.before.before.before.before.before in
     let n = second.before.before.before.before.before.before.number.result in
-    Line 0 55 (from_place second).args.out.now (λ q. refusedText ++ (decimal n ++ (placeText ++ (decimal c.before.place.result ++ q)))) c.put-decimal2.new.0
+    Line 0 55 (from_place second).args.out.now (λ q. refused_text ++ (decimal n ++ (place_text ++ (decimal c.before.place.result ++ q)))) c.put-decimal2.new.0
     c.put-decimal2.result
 after_both c =
-    line-then (decimal c.before.place.result) 20 (after-place c.before.before.before.before.before) c.put-decimal2.ensures c.put-decimal2.auto.0
+    line_then (decimal c.before.place.result) 20 (after-place c.before.before.before.before.before) c.put-decimal2.ensures c.put-decimal2.auto.0
     (place_short c.before)
 
 slice-aggregate-put-text : tie.Need-slice-aggregate-put-text
 slice-aggregate-put-text c = search rules
 
 put-text-requires : tie.Need-put-text-requires
-put-text-requires c κs = let s = c.before.before.before in line-fits 8 (line-start 0 s.args.out.now s.requires) (omega arith)
+put-text-requires c κs = let s = c.before.before.before in line-fits 8 (line_start 0 s.args.out.now s.requires) (omega arith)
 
 number-requires : tie.Need-number-requires
 number-requires c κs = search rules
@@ -85,12 +85,12 @@ same_length : tie.Need-same-length
 same_length c = search rules
 
 returns : tie.Need-returns
-unfolding refusedLine
+unfolding refused_line
 returns c =
     let last = c.before.before in
     let both = last.before.before.before.before in
     let number = both.before.before.before.before.before.before.before.before.before.before in
-    let line : ℕ → ℕ → List ℕ = λ m k. refusedText ++ (decimal m ++ (placeText ++ (decimal k ++ feed))) in (
+    let line : ℕ → ℕ → List ℕ = λ m k. refused_text ++ (decimal m ++ (place_text ++ (decimal k ++ feed))) in (
       put_as (ap₂ line number.before.number.ensures both.before.place.ensures) ((after_both both).ends feed last.put_byte.ensures),
       omega (arith, (after_both both).reach, last.put_byte.ensures.past),
     )

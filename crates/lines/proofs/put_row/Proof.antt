@@ -9,10 +9,10 @@ use lib.ListN.{length}
 use mir.Val.{to_z, of_z}
 use mir.Syntax.{w32, w64}
 use Rattle.ints.proofs.Bits.{read_wide, wide_fits}
-use Rattle.lines.specs.Decimal.{decimal, signedDecimal}
+use Rattle.lines.specs.Decimal.{decimal, signed_decimal}
 use Rattle.lines.specs.Lines.{blank, feed, row_line}
-use Rattle.lines.proofs.Decimal.{length-decimal, length-signedDecimal}
-use Rattle.lines.proofs.Put.{put_as, Line, line-start, line-fits, line-then}
+use Rattle.lines.proofs.Decimal.{length-decimal, length-signed_decimal}
+use Rattle.lines.proofs.Put.{put_as, Line, line_start, line-fits, line_then}
 use Rattle.lines.proofs.put_row.Statement.{statement}
 use Rattle.lines.proofs.put_row.Tie as tie
 
@@ -51,40 +51,40 @@ wide c = to_z w64 (of_z w64 (near c))
 cost-read : (c : tie.Start) → wide c ≡ c.args.cost
 cost-read c = read_wide c.args.cost c.ranges.cost.sfits
 
-cost-short : (c : tie.Start) → length (signedDecimal (wide c)) ≤ 20
-cost-short c = rw (cost-read c) (length-signedDecimal c.args.cost (omega (arith, c.ranges.cost.sfits)))
+cost-short : (c : tie.Start) → length (signed_decimal (wide c)) ≤ 20
+cost-short c = rw (cost-read c) (length-signed_decimal c.args.cost (omega (arith, c.ranges.cost.sfits)))
 
 after-row : (c : tie.After-put-decimal) → let u = (from_row c).args in
     Line u.place 20 u.out.now (λ q. decimal u.row ++ q) c.put-decimal.new.0 c.put-decimal.result
 after-row c =
     let s = from_row c in
-    line-then (decimal s.args.row) 20 (line-start s.args.place s.args.out.now s.pre) c.put-decimal.ensures c.put-decimal.auto.0 (row-short s)
+    line_then (decimal s.args.row) 20 (line_start s.args.place s.args.out.now s.pre) c.put-decimal.ensures c.put-decimal.auto.0 (row-short s)
 
 after-blank : (c : tie.After-put-byte) → let u = (from-blank c).args in
     Line u.place 21 u.out.now (λ q. decimal u.row ++ (blank ++ q)) c.put_byte.new.0 c.put_byte.result
-after-blank c = line-then blank 1 (after-row c.before.before.before.before) c.put_byte.ensures c.put_byte.auto.0 (omega arith)
+after-blank c = line_then blank 1 (after-row c.before.before.before.before) c.put_byte.ensures c.put_byte.auto.0 (omega arith)
 
 after-column : (c : tie.After-put-decimal2) → let u = (from-column c).args in
     Line u.place 41 u.out.now (λ q. decimal u.row ++ (blank ++ (decimal u.column ++ q))) c.put-decimal2.new.0 c.put-decimal2.result
 after-column c =
     let s = from-column c in
-    line-then (decimal s.args.column) 20 (after-blank c.before.before.before.before) c.put-decimal2.ensures c.put-decimal2.auto.0 (column-short s)
+    line_then (decimal s.args.column) 20 (after-blank c.before.before.before.before) c.put-decimal2.ensures c.put-decimal2.auto.0 (column-short s)
 
 after-second-blank : (c : tie.After-put-byte2) → let u = (from-second-blank c).args in
     Line u.place 42 u.out.now (λ q. decimal u.row ++ (blank ++ (decimal u.column ++ (blank ++ q)))) c.put-byte2.new.0 c.put-byte2.result
-after-second-blank c = line-then blank 1 (after-column c.before.before.before.before) c.put-byte2.ensures c.put-byte2.auto.0 (omega arith)
+after-second-blank c = line_then blank 1 (after-column c.before.before.before.before) c.put-byte2.ensures c.put-byte2.auto.0 (omega arith)
 
 after-cost : (c : tie.After-put-signed) → let s = from-cost c in let u = s.args in
-    Line u.place 62 u.out.now (λ q. decimal u.row ++ (blank ++ (decimal u.column ++ (blank ++ (signedDecimal (wide s) ++ q))))) c.put-signed.new.0
+    Line u.place 62 u.out.now (λ q. decimal u.row ++ (blank ++ (decimal u.column ++ (blank ++ (signed_decimal (wide s) ++ q))))) c.put-signed.new.0
     c.put-signed.result
 after-cost c =
     let s = from-cost c in
-    line-then (signedDecimal (wide s)) 20 (after-second-blank c.before.before.before.before) c.put-signed.ensures c.put-signed.auto.0 (cost-short s)
+    line_then (signed_decimal (wide s)) 20 (after-second-blank c.before.before.before.before) c.put-signed.ensures c.put-signed.auto.0 (cost-short s)
 
 put-decimal-requires : tie.Need-put-decimal-requires
 put-decimal-requires c κs =
     let s = c.before.before in
-    omega (arith, line-fits 20 (line-start s.args.place s.args.out.now s.requires) (omega arith), row-short s)
+    omega (arith, line-fits 20 (line_start s.args.place s.args.out.now s.requires) (omega arith), row-short s)
 
 put-byte-requires : tie.Need-put-byte-requires
 put-byte-requires c κs = omega (arith, line-fits 1 (after-row c.before.before.before) (omega arith))
@@ -118,7 +118,7 @@ returns c =
     let cost = last.before.before.before.before in
     let s = from-cost cost in
     let u = s.args in
-    let line : ℤ → List ℕ = λ z. decimal u.row ++ (blank ++ (decimal u.column ++ (blank ++ (signedDecimal z ++ feed)))) in
+    let line : ℤ → List ℕ = λ z. decimal u.row ++ (blank ++ (decimal u.column ++ (blank ++ (signed_decimal z ++ feed)))) in
     (put_as (ap line (cost-read s)) ((after-cost cost).ends feed last.put-byte3.ensures), omega (arith, (after-cost cost).reach, last.put-byte3.ensures.past))
 
 pub put-row-spec : {M : Type 1} → statement M

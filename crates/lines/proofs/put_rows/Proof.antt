@@ -11,7 +11,7 @@ use lib.ListN.{length}
 use mir.Syntax.{w32}
 use Rattle.ints.proofs.Bits.{read_back}
 use Rattle.lists.specs.Permutations.{at}
-use Rattle.assignment.specs.Pairings.{signedAt}
+use Rattle.assignment.specs.Pairings.{signed_at}
 use Rattle.matrix.proofs.Places.{place-below}
 use Rattle.lines.specs.Put.{Put}
 use Rattle.lines.specs.Lines.{row_line, row_lines}
@@ -32,13 +32,13 @@ none n costs cols out place = record { stored = refl; past = omega arith }
 
 -- a turn writes the next line
 turn : (n : ℕ) (costs : List ℤ) (cols : List ℕ) (i start : ℕ) (z : ℤ) {out₀ out out' : List ℕ} {place next next' : ℕ} → start ≡ i * n
-    → z ≡ signedAt costs (start + at cols i) → Put out₀ place (row_lines n costs cols i) out next → Put out next (row_line i (at cols i) z) out' next'
+    → z ≡ signed_at costs (start + at cols i) → Put out₀ place (row_lines n costs cols i) out next → Put out next (row_line i (at cols i) z) out' next'
     → Put out₀ place (row_lines n costs cols (i + 1)) out' next'
 unfolding row_lines
 turn n costs cols i start z s e so_far new =
-    let cost : z ≡ signedAt costs (i * n + at cols i) = e ∙ ap (λ (k : ℕ). signedAt costs (k + at cols i)) s in
+    let cost : z ≡ signed_at costs (i * n + at cols i) = e ∙ ap (λ (k : ℕ). signed_at costs (k + at cols i)) s in
     let line = row_line i (at cols i) z in
-    rw add-one (put_then (row_lines n costs cols i) (row_line i (at cols i) (signedAt costs (i * n + at cols i))) so_far (put_as (ap (row_line i (at cols i)) cost) new))
+    rw add-one (put_then (row_lines n costs cols i) (row_line i (at cols i) (signed_at costs (i * n + at cols i))) so_far (put_as (ap (row_line i (at cols i)) cost) new))
 
 reached : (c : tie.After-shared-slice-known2 invariant-loop decreases-loop) → c.before.before.loop.start + at c.before.before.before.before.before.args.cols.now c.before.before.loop.i < length c.before.before.before.before.before.args.costs.now
 reached c =
@@ -97,7 +97,7 @@ loop-again c =
     let l = c.before.before.before.before.before.before.before.before.loop in
     let u = c.before.before.before.before.before.before.before.before.before.before.before.args in
     let i = l.i in
-    let z = signedAt u.costs.now (l.start + at u.cols.now i) in (
+    let z = signed_at u.costs.now (l.start + at u.cols.now i) in (
       omega arith,
       omega arith,
       omega (arith, put.ensures.1),

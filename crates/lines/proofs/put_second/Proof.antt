@@ -7,7 +7,7 @@ use native.Mathlib.Omega.{arith}
 use borrow.Author.Rules.{rules}
 use lib.ListN.{take}
 use Rattle.swaps.specs.Second.{only, also}
-use Rattle.lines.specs.Lines.{alsoText, feed, columnsText, secondLine}
+use Rattle.lines.specs.Lines.{also_text, feed, columns_text, second_line}
 use Rattle.lines.proofs.Put.{put_then, put_as}
 use Rattle.lines.proofs.Columns.{columns-first}
 use Rattle.lines.proofs.put_second.Statement.{statement}
@@ -22,8 +22,8 @@ abbrev from-columns : tie.After-put-columns → tie.Start
 from-columns c = from-word c.before.before.before.before
 
 -- the line of an answer that is known
-line_as : {t u : Bool} (list : List ℕ) → t ≡ u → secondLine (cond u (also list) only) ≡ secondLine (cond t (also list) only)
-line_as list e = ap (λ (b : Bool). secondLine (cond b (also list) only)) (sym e)
+line_as : {t u : Bool} (list : List ℕ) → t ≡ u → second_line (cond u (also list) only) ≡ second_line (cond t (also list) only)
+line_as list e = ap (λ (b : Bool). second_line (cond b (also list) only)) (sym e)
 
 slice-aggregate-put-text : tie.Need-slice-aggregate-put-text
 slice-aggregate-put-text c = search rules
@@ -57,10 +57,10 @@ returns c =
     let w = k.before.before.before.before in
     let s = from-word w in
     let u = s.args in
-    let cols = columnsText u.list.now u.m in
+    let cols = columns_text u.list.now u.m in
     let rest = put_then cols feed k.put-columns.ensures.0 b.put_byte.ensures in
-    let all = put_then alsoText (cols ++ feed) w.put-text.ensures rest in
-    let same = ap (λ (l : List ℕ). alsoText ++ (l ++ feed)) (columns-first u.m u.list.now (omega (arith, s.pre.0, w.before.before.before.cols.given.0))) in
+    let all = put_then also_text (cols ++ feed) w.put-text.ensures rest in
+    let same = ap (λ (l : List ℕ). also_text ++ (l ++ feed)) (columns-first u.m u.list.now (omega (arith, s.pre.0, w.before.before.before.cols.given.0))) in
     (put_as (same ∙ line_as (take u.m u.list.now) w.before.before.before.before.if1.true) all, omega (arith, w.put-text.ensures.past, k.put-columns.ensures.1, b.put_byte.ensures.past))
 
 slice-aggregate-put-text-2 : tie.Need-slice-aggregate-put-text-2

@@ -10,7 +10,7 @@ use mir.Syntax.{w64}
 use mir.Val.{to_z, of_z}
 use mir.Facts.{to_z-of_z}
 use Rattle.ints.proofs.Signs.{negative, positive}
-use Rattle.lines.specs.Decimal.{decimal, signedDecimal}
+use Rattle.lines.specs.Decimal.{decimal, signed_decimal}
 use Rattle.lines.proofs.Put.{put_then, put_as}
 use Rattle.lines.proofs.put_signed.Statement.{statement}
 use Rattle.lines.proofs.put_signed.Tie as tie
@@ -20,15 +20,15 @@ read : (c : tie.After-slice-known) → let z = c.before.args.z in to_z w64 (of_z
 read c = to_z-of_z c.before.ranges.z
 
 -- what is written of a negative number, and of any other
-with-sign : (c : tie.Then1) → let z = c.before.before.args.z in signedDecimal z ≡ 45 ∷ decimal (nat_abs z)
+with-sign : (c : tie.Then1) → let z = c.before.before.args.z in signed_decimal z ≡ 45 ∷ decimal (nat_abs z)
 with-sign c =
     let n = (negative c.before.before.args.z c.before.before.ranges.z c.if1.true).is in
-    ap signedDecimal n ∙ sym (ap (λ (z : ℤ). 45 ∷ decimal (nat_abs z)) n)
+    ap signed_decimal n ∙ sym (ap (λ (z : ℤ). 45 ∷ decimal (nat_abs z)) n)
 
-without : (c : tie.Else1) → let z = c.before.before.args.z in signedDecimal z ≡ decimal (nat_abs z)
+without : (c : tie.Else1) → let z = c.before.before.args.z in signed_decimal z ≡ decimal (nat_abs z)
 without c =
     let n = (positive c.before.before.args.z c.before.before.ranges.z c.if1.false).is in
-    ap signedDecimal n ∙ sym (ap (λ (z : ℤ). decimal (nat_abs z)) n)
+    ap signed_decimal n ∙ sym (ap (λ (z : ℤ). decimal (nat_abs z)) n)
 
 -- the magnitude that is written
 module _ (c : tie.After-magnitude) where
@@ -38,10 +38,10 @@ module _ (c : tie.After-magnitude) where
   abbrev sign : tie.Then1
   sign = put.before.before
 
-  written : 45 ∷ decimal c.magnitude.result ≡ signedDecimal sign.before.before.args.z
+  written : 45 ∷ decimal c.magnitude.result ≡ signed_decimal sign.before.before.args.z
   written = ap (λ (m : ℕ). 45 ∷ decimal m) (c.magnitude.ensures ∙ ap nat_abs (read sign.before)) ∙ sym (with-sign sign)
 
-written-plain : (c : tie.After-magnitude2) → decimal c.magnitude2.result ≡ signedDecimal c.before.before.before.before.args.z
+written-plain : (c : tie.After-magnitude2) → decimal c.magnitude2.result ≡ signed_decimal c.before.before.before.before.args.z
 written-plain c =
     ap decimal (c.magnitude2.ensures ∙ ap nat_abs (read c.before.before.before)) ∙ sym (without c.before.before)
 

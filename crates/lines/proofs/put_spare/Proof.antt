@@ -5,9 +5,9 @@ use native.Mathlib.Omega.{arith}
 use borrow.Author.Rules.{rules}
 use lib.ListN.{length}
 use Rattle.lines.specs.Decimal.{decimal}
-use Rattle.lines.specs.Lines.{spareText, feed, spareLine}
+use Rattle.lines.specs.Lines.{spare_text, feed, spare_line}
 use Rattle.lines.proofs.Decimal.{length-decimal}
-use Rattle.lines.proofs.Put.{Line, line-start, line-fits, line-then}
+use Rattle.lines.proofs.Put.{Line, line_start, line-fits, line_then}
 use Rattle.lines.proofs.put_spare.Statement.{statement}
 use Rattle.lines.proofs.put_spare.Tie as tie
 
@@ -25,22 +25,22 @@ column-short : (c : tie.Start) → length (decimal c.args.column) ≤ 20
 column-short c = length-decimal c.args.column c.ranges.column.fits
 
 after-word : (c : tie.After-put-text) → let u = (from-word c).args in
-    Line u.place 6 u.out.now (λ q. spareText ++ q) c.put-text.new.0 c.put-text.result
+    Line u.place 6 u.out.now (λ q. spare_text ++ q) c.put-text.new.0 c.put-text.result
 after-word c =
     let s = from-word c in
-    line-then spareText 6 (line-start s.args.place s.args.out.now s.pre) c.put-text.ensures c.put-text.auto.0 (omega arith)
+    line_then spare_text 6 (line_start s.args.place s.args.out.now s.pre) c.put-text.ensures c.put-text.auto.0 (omega arith)
 
 after-column : (c : tie.After-put-decimal) → let u = (from-column c).args in
-    Line u.place 26 u.out.now (λ q. spareText ++ (decimal u.column ++ q)) c.put-decimal.new.0 c.put-decimal.result
+    Line u.place 26 u.out.now (λ q. spare_text ++ (decimal u.column ++ q)) c.put-decimal.new.0 c.put-decimal.result
 after-column c =
     let s = from-column c in
-    line-then (decimal s.args.column) 20 (after-word c.before.before.before.before) c.put-decimal.ensures c.put-decimal.auto.0 (column-short s)
+    line_then (decimal s.args.column) 20 (after-word c.before.before.before.before) c.put-decimal.ensures c.put-decimal.auto.0 (column-short s)
 
 slice-aggregate-put-text : tie.Need-slice-aggregate-put-text
 slice-aggregate-put-text c = search rules
 
 put-text-requires : tie.Need-put-text-requires
-put-text-requires c κs = let s = c.before.before.before in line-fits 6 (line-start s.args.place s.args.out.now s.requires) (omega arith)
+put-text-requires c κs = let s = c.before.before.before in line-fits 6 (line_start s.args.place s.args.out.now s.requires) (omega arith)
 
 put-decimal-requires : tie.Need-put-decimal-requires
 put-decimal-requires c κs =
@@ -54,7 +54,7 @@ same_length : tie.Need-same-length
 same_length c = search rules
 
 returns : tie.Need-returns
-unfolding spareLine
+unfolding spare_line
 returns c =
     let last = c.before.before in
     let column = last.before.before.before.before in

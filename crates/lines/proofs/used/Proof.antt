@@ -9,8 +9,8 @@ use borrow.Author.Tests.{eq-eqb, ne_eqb, le-ltb}
 use lib.Dec.{eqb}
 use Rattle.lists.specs.Permutations.{at}
 use Rattle.lists.specs.Runs.{first}
-use Rattle.lists.proofs.Counts.{some-make}
-use Rattle.matrix.proofs.First.{Clear, clear-start, clear-more, ended}
+use Rattle.lists.proofs.Counts.{some_make}
+use Rattle.matrix.proofs.First.{Clear, clear_start, clear_more, ended}
 use Rattle.lines.proofs.used.Statement.{statement}
 use Rattle.lines.proofs.used.Tie as tie
 
@@ -24,7 +24,7 @@ abbrev decreases-loop : tie.decreases-loop
 decreases-loop m cols j i₀ i = m - i
 
 loop-holds : tie.Need-loop-init invariant-loop decreases-loop
-loop-holds c = (omega arith, clear-start _)
+loop-holds c = (omega arith, clear_start _)
 
 mul-if1 : tie.Need-overflow-mul-if1 invariant-loop decreases-loop
 mul-if1 c = search rules
@@ -39,7 +39,7 @@ returns : tie.Need-returns invariant-loop decreases-loop
 returns c =
     let u = c.before.before.before.before.args in
     let l = c.before.before.before.loop in
-    sym (some-make u.m (test u.cols.now u.j) l.i (omega arith) (eq-eqb _ _ c.if1.true))
+    sym (some_make u.m (test u.cols.now u.j) l.i (omega arith) (eq-eqb _ _ c.if1.true))
 
 add-i : tie.Need-overflow-add-i invariant-loop decreases-loop
 add-i c = search rules
@@ -51,7 +51,7 @@ loop-again : tie.Need-loop-preserved invariant-loop decreases-loop
 loop-again c =
     let u = c.before.before.before.before.args in
     let l = c.before.before.before.loop in
-    (omega arith, clear-more (test u.cols.now u.j) l.i l.invariant.1 (ne_eqb _ _ c.if1.false))
+    (omega arith, clear_more (test u.cols.now u.j) l.i l.invariant.1 (ne_eqb _ _ c.if1.false))
 
 returns-2 : tie.Need-returns-2 invariant-loop decreases-loop
 returns-2 c =

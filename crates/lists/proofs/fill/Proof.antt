@@ -6,7 +6,7 @@ use native.Mathlib.Omega.{arith}
 use borrow.Author.Rules.{rules}
 use lib.ListN.{length, drop}
 use Rattle.lists.specs.Permutations.{table}
-use Rattle.lists.proofs.Tables.{filled_none, filled_more, filled-length, filled-all}
+use Rattle.lists.proofs.Tables.{filled_none, filled_more, filled-length, filled_all}
 use Rattle.lists.proofs.fill.Statement.{statement}
 use Rattle.lists.proofs.fill.Tie as tie
 
@@ -49,7 +49,7 @@ returns : tie.Need-returns invariant-loop decreases-loop
 returns c =
     let l = c.before.loop in
     let e : l.k ≡ length c.before.before.args.list.now = omega (arith, size c.before, l.invariant.0) in
-    l.invariant.1 ∙ filled-all l.k _ c.before.before.args.list.now e
+    l.invariant.1 ∙ filled_all l.k _ c.before.before.args.list.now e
 
 pub fill_spec : {M : Type 1} → statement M
 fill_spec = tie.close (tie.spec invariant-loop decreases-loop loop-holds mul-list slice-write-list add-k loop-less loop-again same_length returns)

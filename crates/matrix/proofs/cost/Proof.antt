@@ -6,7 +6,7 @@ use Rattle.ints.proofs.Bits.{read_back}
 use Rattle.matrix.specs.Answers.{values_of}
 use Rattle.matrix.specs.Cost.{cost}
 use Rattle.matrix.proofs.Listing.{cost-listed}
-use Rattle.matrix.proofs.Verdicts.{fails-totalled, passed-totalled}
+use Rattle.matrix.proofs.Verdicts.{fails_totalled, passed-totalled}
 use Rattle.matrix.proofs.cost.Statement.{statement}
 use Rattle.matrix.proofs.cost.Tie as tie
 
@@ -18,7 +18,7 @@ enum-known-refusal c = search rules
 
 returns : tie.Need-returns
 unfolding cost
-returns c = ap values_of (fails-totalled _ (sym c.before.before.before.cost-tested.ensures ∙ c.before.refusal.given.1))
+returns c = ap values_of (fails_totalled _ (sym c.before.before.before.cost-tested.ensures ∙ c.before.refusal.given.1))
 
 enum_told : tie.Need-enum-told
 enum_told c = search rules

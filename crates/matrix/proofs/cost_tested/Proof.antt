@@ -4,15 +4,15 @@ use Prim.Native.Nat.{ℕ}
 use borrow.Author.Rules.{rules}
 use native.Mathlib.Nat.{le_refl}
 use Rattle.matrix.specs.Limits.{side}
-use Rattle.matrix.specs.Cost.{costTests}
-use Rattle.matrix.specs.Tests.{sideWithin}
+use Rattle.matrix.specs.Cost.{cost_tests}
+use Rattle.matrix.specs.Tests.{side_within}
 use Rattle.matrix.proofs.Verdicts.{after}
 use Rattle.matrix.proofs.Passed.{side-within}
 use Rattle.matrix.proofs.cost_tested.Statement.{statement}
 use Rattle.matrix.proofs.cost_tested.Tie as tie
 
-sized : (c : tie.After-side-within) → c.side-within.result ≡ sideWithin side c.before.before.before.args.n
-sized c = c.side-within.ensures ∙ ap (λ (limit : ℕ). sideWithin limit c.before.before.before.args.n) c.before.side.ensures
+sized : (c : tie.After-side-within) → c.side-within.result ≡ side_within side c.before.before.before.args.n
+sized c = c.side-within.ensures ∙ ap (λ (limit : ℕ). side_within limit c.before.before.before.args.n) c.before.side.ensures
 
 side-requires : tie.Need-side-requires
 side-requires c κs = search rules
@@ -33,11 +33,11 @@ columns-inside-requires : tie.Need-columns-inside-requires
 columns-inside-requires c κs = λ e. le_refl _
 
 returns : tie.Need-returns
-unfolding costTests
+unfolding cost_tests
 returns c =
     let d = c.before.before.before in
     after _ c.columns-inside.ensures
-    (after _ c.before.costs-within.ensures (after _ c.before.before.list-short.ensures (after _ d.costs-fill.ensures (sized d.before))))
+    (after _ c.before.costs-within.ensures (after _ c.before.before.list-short.ensures (after _ d.costs_fill_lem.ensures (sized d.before))))
 
 pub cost-tested-spec : {M : Type 1} → statement M
 cost-tested-spec =

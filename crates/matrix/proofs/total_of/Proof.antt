@@ -13,9 +13,9 @@ use Rattle.ints.specs.Parts.{Within}
 use Rattle.ints.proofs.Bits.{told, read_back}
 use Rattle.ints.proofs.Shapes.{zlin}
 use Rattle.lists.specs.Permutations.{at}
-use Rattle.lists.proofs.Sums.{sum-none, sum-last}
-use Rattle.assignment.specs.Pairings.{signedAt}
-use Rattle.matrix.specs.Cost.{totalOf}
+use Rattle.lists.proofs.Sums.{sum_none, sum-last}
+use Rattle.assignment.specs.Pairings.{signed_at}
+use Rattle.matrix.specs.Cost.{total_of}
 use Rattle.matrix.proofs.SmallLimits.{side-small}
 use Rattle.matrix.proofs.Places.{place_in}
 use borrow.Author.Rules.{rules}
@@ -23,25 +23,25 @@ use Rattle.matrix.proofs.total_of.Statement.{statement}
 use Rattle.matrix.proofs.total_of.Tie as tie
 
 -- a turn, over plain variables: t has the bits of the total so far, r is the new one
-module _ (n : ℕ) (costs : List ℤ) (cols : List ℕ) (i start t : ℕ) (r : ℤ) (small : mag (signedAt costs (start + at cols i)) < 2 ^ 31)
-    (added : r ≡ to_z w64 t +ℤ to_z w32 (of_z w32 (signedAt costs (start + at cols i)))) (fits : mag r < 2 ^ 63) where
-  turn : start ≡ i * n → to_z w64 t ≡ totalOf n costs i cols → to_z w64 (of_z w64 r) ≡ totalOf n costs (i + 1) cols
+module _ (n : ℕ) (costs : List ℤ) (cols : List ℕ) (i start t : ℕ) (r : ℤ) (small : mag (signed_at costs (start + at cols i)) < 2 ^ 31)
+    (added : r ≡ to_z w64 t +ℤ to_z w32 (of_z w32 (signed_at costs (start + at cols i)))) (fits : mag r < 2 ^ 63) where
+  turn : start ≡ i * n → to_z w64 t ≡ total_of n costs i cols → to_z w64 (of_z w64 r) ≡ total_of n costs (i + 1) cols
   turn e so_far =
       rw (add-one, sum-last)
-      (read_back w64 r fits ∙ added ∙ ap₂ ◌+ℤ◌ so_far (read_back w32 (signedAt costs (start + at cols i)) small ∙ ap (λ (s : ℕ). signedAt costs (s + at cols i)) e))
+      (read_back w64 r fits ∙ added ∙ ap₂ ◌+ℤ◌ so_far (read_back w32 (signed_at costs (start + at cols i)) small ∙ ap (λ (s : ℕ). signed_at costs (s + at cols i)) e))
 
   turn-within : Within (i * 2 ^ 31) (to_z w64 t) → Within ((i + 1) * 2 ^ 31) (to_z w64 (of_z w64 r))
-  turn-within w = omega (zlin, told w64 r fits, told w32 (signedAt costs (start + at cols i)) small)
+  turn-within w = omega (zlin, told w64 r fits, told w32 (signed_at costs (start + at cols i)) small)
 
 abbrev invariant-loop : tie.invariant-loop
 invariant-loop m n costs cols total₀ start₀ i₀ total start i =
-    (i ≤ m) × (start ≡ i * n) × (to_z w64 total ≡ totalOf n costs i cols) × Within (i * 2 ^ 31) (to_z w64 total)
+    (i ≤ m) × (start ≡ i * n) × (to_z w64 total ≡ total_of n costs i cols) × Within (i * 2 ^ 31) (to_z w64 total)
 
 abbrev decreases-loop : tie.decreases-loop
 decreases-loop m n costs cols total₀ start₀ i₀ total start i = m - i
 
 loop-holds : tie.Need-loop-init invariant-loop decreases-loop
-loop-holds c = (omega arith, omega arith, sym (sum-none _), omega arith)
+loop-holds c = (omega arith, omega arith, sym (sum_none _), omega arith)
 
 mul_at : tie.Need-overflow-mul-at invariant-loop decreases-loop
 mul_at c = search rules
@@ -96,7 +96,7 @@ returns : tie.Need-returns invariant-loop decreases-loop
 returns c =
     let u = c.before.before.before.args in
     let e : c.before.loop.i ≡ u.m = omega arith in
-    c.before.loop.invariant.2 ∙ ap (λ (k : ℕ). totalOf u.n u.costs.now k u.cols.now) e
+    c.before.loop.invariant.2 ∙ ap (λ (k : ℕ). total_of u.n u.costs.now k u.cols.now) e
 
 pub total-of-spec : {M : Type 1} → statement M
 total-of-spec =

@@ -1,6 +1,6 @@
 -- `clear` leaves two zeros. Assumes nothing.
 use borrow.Author.Rules.{rules}
-use Rattle.pieces.proofs.Calls.{two-zeros}
+use Rattle.pieces.proofs.Calls.{two_zeros}
 use Rattle.pieces.proofs.clear.Statement.{statement}
 use Rattle.pieces.proofs.clear.Tie as tie
 
@@ -14,7 +14,7 @@ same_length : tie.Need-same-length
 same_length c = search rules
 
 returns : tie.Need-returns
-returns c = two-zeros _ (search rules) (search rules) (search rules)
+returns c = two_zeros _ (search rules) (search rules) (search rules)
 
 pub clear_spec : {M : Type 1} → statement M
 clear_spec = tie.close (tie.spec slice-write-state slice-write-state-2 same_length returns)

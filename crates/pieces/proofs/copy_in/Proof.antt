@@ -7,7 +7,7 @@ use native.Mathlib.Omega.{arith}
 use borrow.Author.Rules.{rules}
 use lib.ListN.{length, get_or, set, length-set}
 use lib.Seq.{paste, paste-zero, paste-suc}
-use Rattle.lists.proofs.Parts.{pasted-whole}
+use Rattle.lists.proofs.Parts.{pasted_whole}
 use Rattle.pieces.proofs.copy_in.Statement.{statement}
 use Rattle.pieces.proofs.copy_in.Tie as tie
 
@@ -59,7 +59,7 @@ returns c =
     let l = c.before.loop in
     let u = c.before.before.args in
     let e : l.i ≡ length u.piece.now = omega arith in
-    l.invariant.1 ∙ ap (paste u.room.now u.at u.piece.now) e ∙ pasted-whole u.at u.piece.now u.room.now
+    l.invariant.1 ∙ ap (paste u.room.now u.at u.piece.now) e ∙ pasted_whole u.at u.piece.now u.room.now
 
 pub copy_in_spec : {M : Type 1} → statement M
 copy_in_spec =

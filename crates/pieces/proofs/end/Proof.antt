@@ -1,11 +1,11 @@
 -- `end` hands its arrays on as slices. Assumes nothing.
 use borrow.Author.Rules.{rules}
-use Rattle.sheet.specs.Reading.{sheetMost}
+use Rattle.sheet.specs.Reading.{sheet_most}
 use Rattle.pieces.proofs.end.Statement.{statement}
 use Rattle.pieces.proofs.end.Tie as tie
 
 end-sheet-requires : tie.Need-end-sheet-requires
-unfolding sheetMost
+unfolding sheet_most
 end-sheet-requires c κs = search rules
 
 same_length : tie.Need-same-length

@@ -6,12 +6,12 @@ use native.Mathlib.Nat.{sub-zero}
 use native.Mathlib.Omega.{arith}
 use borrow.Author.Rules.{rules}
 use lib.ListN.{take}
-use Rattle.sheet.specs.Reading.{sheetMost}
+use Rattle.sheet.specs.Reading.{sheet_most}
 use Rattle.sheet.specs.Settle.{Delivery, pair}
 use Rattle.pieces.specs.declared.Held.TheVariants.{Taking}
-use Rattle.pieces.specs.Kept.{Kept, kept, endMark, held}
+use Rattle.pieces.specs.Kept.{Kept, kept, end_mark, held}
 use Rattle.pieces.specs.Calls.{marked, ending}
-use Rattle.pieces.proofs.Calls.{taking-few, end-over, end-ended, end-taking}
+use Rattle.pieces.proofs.Calls.{taking_few, end-over, end-ended, end_taking}
 use Rattle.pieces.proofs.end_sheet.Statement.{statement}
 use Rattle.pieces.proofs.end_sheet.Tie as tie
 
@@ -29,8 +29,8 @@ many c = c.before.came.given.0.0
 taking : (c : tie.After-known-told) → held (begun c.before.before.before) ≡ Taking (many c)
 taking c = sym c.before.before.before.read-state.ensures ∙ c.before.came.given.1
 
-few : (c : tie.After-known-told) → many c ≤ sheetMost
-few c = taking-few (begun c.before.before.before) (many c) (taking c)
+few : (c : tie.After-known-told) → many c ≤ sheet_most
+few c = taking_few (begun c.before.before.before) (many c) (taking c)
 
 slice-read-read-state : tie.Need-slice-read-read-state
 slice-read-read-state c = search rules
@@ -86,9 +86,9 @@ returns-3 c =
     let y = c.before.before in
     let x = y.before.before.before in
     let r = x.before.before.before in
-    ap (λ (d : Delivery). ending d (marked endMark (begun r)))
+    ap (λ (d : Delivery). ending d (marked end_mark (begun r)))
     (y.pair.ensures ∙ ap (λ (n : ℕ). pair (take n (begun r).bytes) (room r)) (sub-zero (many x)))
-    ∙ sym (end-taking (room r) (begun r) (many x) (taking x))
+    ∙ sym (end_taking (room r) (begun r) (many x) (taking x))
 
 pub end-sheet-spec : {M : Type 1} → statement M
 end-sheet-spec =

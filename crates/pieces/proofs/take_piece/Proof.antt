@@ -5,11 +5,11 @@ use Prim.Native.Nat.{ℕ, ◌+◌, ◌≤◌}
 use native.Mathlib.Omega.{arith}
 use borrow.Author.Rules.{rules}
 use lib.ListN.{length, set}
-use Rattle.sheet.specs.Reading.{sheetMost}
+use Rattle.sheet.specs.Reading.{sheet_most}
 use Rattle.pieces.specs.declared.Held.TheVariants.{Taking}
 use Rattle.pieces.specs.Kept.{Kept, kept, held}
 use Rattle.pieces.specs.Calls.{taken}
-use Rattle.pieces.proofs.Calls.{taking-few, piece-over, piece-ended, piece-long, piece-fits}
+use Rattle.pieces.proofs.Calls.{taking_few, piece-over, piece-ended, piece-long, piece-fits}
 use Rattle.pieces.proofs.take_piece.Statement.{statement}
 use Rattle.pieces.proofs.take_piece.Tie as tie
 
@@ -27,8 +27,8 @@ many c = c.before.came.given.0.0
 taking : (c : tie.After-known-told) → held (begun c.before.before.before) ≡ Taking (many c)
 taking c = sym c.before.before.before.read-state.ensures ∙ c.before.came.given.1
 
-few : (c : tie.After-known-told) → many c ≤ sheetMost
-few c = taking-few (begun c.before.before.before) (many c) (taking c)
+few : (c : tie.After-known-told) → many c ≤ sheet_most
+few c = taking_few (begun c.before.before.before) (many c) (taking c)
 
 slice-read-read-state : tie.Need-slice-read-read-state
 slice-read-read-state c = search rules

@@ -19,16 +19,16 @@ use Rattle.ints.proofs.Shapes.{zlin}
 use Rattle.ints.proofs.Sums.{sum}
 use Rattle.lists.specs.Counts.{bit_of}
 use Rattle.lists.specs.Permutations.{at}
-use Rattle.lists.proofs.Cases.{or-second}
-use Rattle.lists.proofs.Sums.{sum-none, sum-last}
-use Rattle.assignment.specs.Pairings.{signedAt, total}
-use Rattle.bars.specs.Barred.{nightOf}
-use Rattle.matrix.specs.Cost.{totalOf}
-use Rattle.matrix.proofs.First.{Clear, clear-start, clear-more}
+use Rattle.lists.proofs.Cases.{or_second}
+use Rattle.lists.proofs.Sums.{sum_none, sum-last}
+use Rattle.assignment.specs.Pairings.{signed_at, total}
+use Rattle.bars.specs.Barred.{night_of}
+use Rattle.matrix.specs.Cost.{total_of}
+use Rattle.matrix.proofs.First.{Clear, clear_start, clear_more}
 use Rattle.plain.specs.Engine.{taken}
 use Rattle.plain.specs.declared.Found.TheVariants.{Costs}
-use Rattle.plain.proofs.Pairings.{wrong, wrong-fails, right-passes}
-use Rattle.plain.proofs.Answers.{cost-passed, cost-failed}
+use Rattle.plain.proofs.Pairings.{wrong, wrong_fails, right_passes}
+use Rattle.plain.proofs.Answers.{cost-passed, cost_failed}
 use borrow.Author.Rules.{rules}
 use Rattle.plain.proofs.cost.Statement.{statement}
 use Rattle.plain.proofs.cost.Tie as tie
@@ -56,20 +56,20 @@ module _ (bars cols : List ℕ) (i : ℕ) where
   row-barred b e t = let f : bit_of (at bars i) (at cols i) ≡ true = ap (λ (x : ℕ). bit_of x (at cols i)) (sym e) ∙ t in rw f refl
 
   row-taken : taken cols i ≡ true → bad ≡ true
-  row-taken e = or-second (not (not (bit_of (at bars i) (at cols i)))) e
+  row-taken e = or_second (not (not (bit_of (at bars i) (at cols i)))) e
 
   row-right : (b : ℕ) → b ≡ at bars i → bit_of b (at cols i) ≡ false → taken cols i ≡ false → bad ≡ false
   row-right b e t f = let g : bit_of (at bars i) (at cols i) ≡ false = ap (λ (x : ℕ). bit_of x (at cols i)) (sym e) ∙ t in rw (g, f) refl
 
 abbrev invariant-loop : tie.invariant-loop
 invariant-loop n costs bars cols total₀ i₀ total i =
-    (i ≤ length cols) × Clear (wrong (λ k j. not (bit_of (at bars k) j)) cols) i × (to_z w64 total ≡ totalOf n costs i cols) × Within (i * 2 ^ 31) (to_z w64 total)
+    (i ≤ length cols) × Clear (wrong (λ k j. not (bit_of (at bars k) j)) cols) i × (to_z w64 total ≡ total_of n costs i cols) × Within (i * 2 ^ 31) (to_z w64 total)
 
 abbrev decreases-loop : tie.decreases-loop
 decreases-loop n costs bars cols total₀ i₀ total i = length cols - i
 
 loop-holds : tie.Need-loop-init invariant-loop decreases-loop
-loop-holds c = (omega arith, clear-start _, sym (sum-none _), omega arith)
+loop-holds c = (omega arith, clear_start _, sym (sum_none _), omega arith)
 
 mul-j : tie.Need-overflow-mul-j invariant-loop decreases-loop
 mul-j c = search rules
@@ -116,8 +116,8 @@ returns c =
     let w : bad bars cols i ≡ true = ⊎_elim
     (λ y. row-barred bars cols i b.bits_at.result b.bits_at.ensures (sym c.before.has.ensures ∙ y.taken))
     (λ y. row-taken bars cols i (sym y.1.ensures ∙ y.2.taken)) c.if1.branch in
-    sym (cost-failed (nightOf (length cols) u.n u.costs.now bars) cols
-    (wrong-fails (nightOf (length cols) u.n u.costs.now bars) cols i k.loop-test.true w))
+    sym (cost_failed (night_of (length cols) u.n u.costs.now bars) cols
+    (wrong_fails (night_of (length cols) u.n u.costs.now bars) cols i k.loop-test.true w))
 
 -- ---- a row that is right
 
@@ -127,7 +127,7 @@ at_row c = c.before.before.before.before.before.before
 abbrev added-cost : tie.In-loop invariant-loop decreases-loop → ℤ
 added-cost c =
     let u = c.before.before.before.before.args in
-    signedAt u.costs.now (c.before.loop.i * u.n + at u.cols.now c.before.loop.i)
+    signed_at u.costs.now (c.before.loop.i * u.n + at u.cols.now c.before.loop.i)
 
 mul-total : tie.Need-overflow-mul-total invariant-loop decreases-loop
 mul-total c = omega (arith, reached (at_row c), large (at_row c))
@@ -164,7 +164,7 @@ loop-again c =
     let u = r.before.before.before.before.args in
     let i : l.i < 8 = omega (arith, few r, r.loop-test.taken) in (
       omega (arith, r.loop-test.taken),
-      clear-more (wrong (λ k j. not (bit_of (at u.bars.now k) j)) u.cols.now) l.i l.inv.1
+      clear_more (wrong (λ k j. not (bit_of (at u.bars.now k) j)) u.cols.now) l.i l.inv.1
           (row-right u.bars.now u.cols.now l.i h.before.bits_at.result h.before.bits_at.ensures
           (sym h.has.ensures ∙ d.before.before.if1.false) (sym d.before.taken.ensures ∙ d.if2.false)),
       rw (add-one, sum-last) (added_is l.total (added-cost r) c.total.given (omega (arith, l.inv.3)) ∙ ap (λ (z : ℤ). z +ℤ added-cost r) l.inv.2),
@@ -175,10 +175,10 @@ returns-2 : tie.Need-returns-2 invariant-loop decreases-loop
 returns-2 c =
     let l = c.before.loop in
     let u = c.before.before.before.before.args in
-    let night = nightOf (length u.cols.now) u.n u.costs.now u.bars.now in
+    let night = night_of (length u.cols.now) u.n u.costs.now u.bars.now in
     let e : l.i ≡ length u.cols.now = omega (arith, l.invariant.0, c.loop-test.false) in
-    ap Costs (l.invariant.2 ∙ ap (λ (m : ℕ). totalOf u.n u.costs.now m u.cols.now) e)
-    ∙ sym (cost-passed night u.cols.now (right-passes night u.cols.now (λ k h. l.invariant.1 k (omega arith))))
+    ap Costs (l.invariant.2 ∙ ap (λ (m : ℕ). total_of u.n u.costs.now m u.cols.now) e)
+    ∙ sym (cost-passed night u.cols.now (right_passes night u.cols.now (λ k h. l.invariant.1 k (omega arith))))
 
 pub cost-spec : {M : Type 1} → statement M
 cost-spec =

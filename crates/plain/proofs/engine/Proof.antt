@@ -8,12 +8,12 @@ use lib.ListN.{length}
 use borrow.Author.Tests.{not-true, not-false}
 use Rattle.lists.specs.Permutations.{table}
 use Rattle.assignment.specs.Pairings.{Night}
-use Rattle.bars.specs.Barred.{nightOf}
-use Rattle.plain.specs.Engine.{digits, costOf}
+use Rattle.bars.specs.Barred.{night_of}
+use Rattle.plain.specs.Engine.{digits, cost_of}
 use Rattle.plain.specs.declared.Found.{Found}
 use Rattle.plain.proofs.Numbers.{number, length_digits}
-use Rattle.plain.proofs.Answers.{keptCost, keptList}
-use Rattle.plain.proofs.Steps.{counted, night, Head, head_first, head-last, head_more, head-nearer}
+use Rattle.plain.proofs.Answers.{kept_cost, kept_list}
+use Rattle.plain.proofs.Steps.{counted, night, Head, head_first, head_last, head_more, head_nearer}
 use borrow.Author.Rules.{rules}
 use Rattle.plain.proofs.engine.Statement.{statement}
 use Rattle.plain.proofs.engine.Tie as tie
@@ -88,21 +88,21 @@ module _ (c : tie.After-next invariant-loop decreases-loop) where
   here = night n m (start (head c)).args.costs.now (start (head c)).args.bars.now (start (head c)).args.cols.now
 
   -- the list's cost, which is that of a night of m rows
-  cost-is : (at-cost c).cost.result ≡ costOf here list
+  cost-is : (at-cost c).cost.result ≡ cost_of here list
   cost-is =
       let u = (start (head c)).args in
-      (at-cost c).cost.ensures ∙ ap (λ (k : ℕ). costOf (nightOf k u.n u.costs.now u.bars.now) list) (head c).loop.invariant.size
+      (at-cost c).cost.ensures ∙ ap (λ (k : ℕ). cost_of (night_of k u.n u.costs.now u.bars.now) list) (head c).loop.invariant.size
 
   -- the next list
   next-is : (following c ≡ digits n m (suc (number n m list))) × (c.next.result ≡ ltb (suc (number n m list)) (n ^ m))
   next-is = let h = (head c).loop.invariant in counted n m list (following c) c.next.result h.size h.below c.next.ensures
 
   -- what is found and left
-  found-is : (at-keep c).keep.result ≡ keptCost here (costOf here list) (head c).loop.found
-  found-is = (at-keep c).keep.ensures.0 ∙ ap (λ (x : Found). keptCost here x (head c).loop.found) cost-is
+  found_is : (at-keep c).keep.result ≡ kept_cost here (cost_of here list) (head c).loop.found
+  found_is = (at-keep c).keep.ensures.0 ∙ ap (λ (x : Found). kept_cost here x (head c).loop.found) cost-is
 
-  left_is : left c ≡ keptList here (costOf here list) (head c).loop.found list (head c).loop.cols
-  left_is = (at-keep c).keep.ensures.1 ∙ ap (λ (x : Found). keptList here x (head c).loop.found list (head c).loop.cols) cost-is
+  left_is : left c ≡ kept_list here (cost_of here list) (head c).loop.found list (head c).loop.cols
+  left_is = (at-keep c).keep.ensures.1 ∙ ap (λ (x : Found). kept_list here x (head c).loop.found list (head c).loop.cols) cost-is
 
 same_length : tie.Need-same-length invariant-loop decreases-loop
 same_length c =
@@ -117,7 +117,7 @@ returns c =
     let d = c.before.before.before in
     let u = (start (head d)).args in
     let l = (head d).loop in
-    head-last (n d) (m d) u.costs.now u.bars.now u.cols.now l.list l.cols l.found l.inv (at-keep d).keep.result (left d) (found-is d) (left_is d)
+    head_last (n d) (m d) u.costs.now u.bars.now u.cols.now l.list l.cols l.found l.inv (at-keep d).keep.result (left d) (found_is d) (left_is d)
     (start (head d)).pre.0 (sym (next-is d).1 ∙ not-true _ c.if1.true)
 
 loop-less : tie.Need-loop-smaller invariant-loop decreases-loop
@@ -125,7 +125,7 @@ loop-less c =
     let d = c.before.before.before in
     let u = (start (head d)).args in
     let l = (head d).loop in
-    head-nearer (n d) (m d) u.costs.now u.bars.now u.cols.now l.list l.cols l.found l.inv (at-keep d).keep.result (left d) (found-is d) (left_is d)
+    head_nearer (n d) (m d) u.costs.now u.bars.now u.cols.now l.list l.cols l.found l.inv (at-keep d).keep.result (left d) (found_is d) (left_is d)
     (following d) (next-is d).0 (sym (next-is d).1 ∙ not-false _ c.if1.false)
 
 loop-again : tie.Need-loop-preserved invariant-loop decreases-loop
@@ -133,7 +133,7 @@ loop-again c =
     let d = c.before.before.before in
     let u = (start (head d)).args in
     let l = (head d).loop in
-    head_more (n d) (m d) u.costs.now u.bars.now u.cols.now l.list l.cols l.found l.inv (at-keep d).keep.result (left d) (found-is d) (left_is d)
+    head_more (n d) (m d) u.costs.now u.bars.now u.cols.now l.list l.cols l.found l.inv (at-keep d).keep.result (left d) (found_is d) (left_is d)
     (following d) (next-is d).0 (sym (next-is d).1 ∙ not-false _ c.if1.false) (left-size d)
 
 pub engine-spec : {M : Type 1} → statement M

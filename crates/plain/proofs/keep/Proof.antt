@@ -6,7 +6,7 @@ use native.Mathlib.Omega.{arith}
 use lib.ListN.{length, drop}
 use borrow.Author.Tests.{not-true, not-false}
 use Rattle.lists.specs.Permutations.{at, table}
-use Rattle.lists.proofs.Tables.{filled_none, filled_more, filled-length, filled-all, table-getD}
+use Rattle.lists.proofs.Tables.{filled_none, filled_more, filled-length, filled_all, table_get_d}
 use Rattle.plain.specs.Engine.{less}
 use borrow.Author.Rules.{rules}
 use Rattle.plain.proofs.keep.Statement.{statement}
@@ -73,7 +73,7 @@ returns-2 c =
     let e : l.i ≡ length u.cols.now = omega (arith, size c.before, l.invariant.0, c.loop-test.false) in
     rw t (
       refl,
-      l.invariant.1 ∙ filled-all l.i (at u.list.now) u.cols.now e ∙ ap (λ (m : ℕ). table m (at u.list.now)) s.pre ∙ table-getD u.list.now 0,
+      l.invariant.1 ∙ filled_all l.i (at u.list.now) u.cols.now e ∙ ap (λ (m : ℕ). table m (at u.list.now)) s.pre ∙ table_get_d u.list.now 0,
     )
 
 pub keep_spec : {M : Type 1} → statement M

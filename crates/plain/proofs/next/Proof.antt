@@ -8,7 +8,7 @@ use lib.ListN.{length, drop, set, length-set}
 use lib.Seq.{drop-length, get_or-set_other}
 use Rattle.lists.specs.Permutations.{at}
 use Rattle.plain.proofs.Numbers.{Below}
-use Rattle.plain.proofs.Following.{after, more, rise, rise-more, carry, carry-more, none, none_more, after_list, more-lists}
+use Rattle.plain.proofs.Following.{after, more, rise, rise_more, carry, carry_more, none, none_more, after_list, more_lists}
 use borrow.Author.Rules.{rules}
 use Rattle.plain.proofs.next.Statement.{statement}
 use Rattle.plain.proofs.next.Tie as tie
@@ -41,7 +41,7 @@ module _ (n : ℕ) (list : List ℕ) (i : ℕ) (h : 0 < i) (l : i ≤ length lis
       ap (λ (m : ℕ). after n m list ++ drop m list) (sym back) ∙ rise n list k reach inner (omega arith) ∙ ap (set list k) e
 
   risen-more : at list k + 1 < n → more n i list ≡ true
-  risen-more g = ap (λ (m : ℕ). more n m list) (sym back) ∙ rise-more n list k reach inner (omega arith)
+  risen-more g = ap (λ (m : ℕ). more n m list) (sym back) ∙ rise_more n list k reach inner (omega arith)
 
   module _ (full : n ≤ at list k + 1) where
     last : suc (at list k) ≡ n
@@ -51,7 +51,7 @@ module _ (n : ℕ) (list : List ℕ) (i : ℕ) (h : 0 < i) (l : i ≤ length lis
     carried = sym (carry n list k reach last) ∙ ap (λ (m : ℕ). after n m list ++ drop m list) back
 
     carried-more : more n k (set list k 0) ≡ more n i list
-    carried-more = sym (carry-more n list k reach last) ∙ ap (λ (m : ℕ). more n m list) back
+    carried-more = sym (carry_more n list k reach last) ∙ ap (λ (m : ℕ). more n m list) back
 
     carried-below : Below n k (set list k 0)
     carried-below x g = rw (get_or-set_other list k x 0 0 (λ e. omega arith)) (b x (omega arith))
@@ -104,7 +104,7 @@ returns c =
     let t : 0 < l.i = omega (arith, c.before.before.loop-test.true) in
     λ k h e. (
       sym (risen u.n l.list l.i t b l.invariant.2 c.if1.true) ∙ l.invariant.3 ∙ after_list u.n (length u.list.now) u.list.now k h e,
-      sym (risen-more u.n l.list l.i t b l.invariant.2 c.if1.true) ∙ l.invariant.4 ∙ more-lists u.n (length u.list.now) u.list.now k h e,
+      sym (risen-more u.n l.list l.i t b l.invariant.2 c.if1.true) ∙ l.invariant.4 ∙ more_lists u.n (length u.list.now) u.list.now k h e,
     )
 
 mul-list-2 : tie.Need-overflow-mul-list-2 invariant-loop decreases-loop
@@ -139,7 +139,7 @@ returns-2 c =
     let z : l.i ≡ 0 = omega arith in
     λ k h e. (
       none u.n l.list l.i z ∙ l.invariant.3 ∙ after_list u.n (length u.list.now) u.list.now k h e,
-      sym (none_more u.n l.list l.i z) ∙ l.invariant.4 ∙ more-lists u.n (length u.list.now) u.list.now k h e,
+      sym (none_more u.n l.list l.i z) ∙ l.invariant.4 ∙ more_lists u.n (length u.list.now) u.list.now k h e,
     )
 
 pub next-spec : {M : Type 1} → statement M

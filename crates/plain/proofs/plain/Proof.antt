@@ -12,9 +12,9 @@ use mir.Val.{SFits}
 use Rattle.matrix.specs.declared.Answer.TheVariants.{Total}
 use Rattle.matrix.proofs.Passed.{side-within}
 use Rattle.matrix.proofs.Verdicts.{after}
-use Rattle.plain.specs.Engine.{plainTests}
-use Rattle.plain.proofs.Pairings.{eight-within}
-use Rattle.plain.proofs.Entry.{Fit, tests-fit, refused-plain, called-total, called-nothing, front-size}
+use Rattle.plain.specs.Engine.{plain_tests}
+use Rattle.plain.proofs.Pairings.{eight_within}
+use Rattle.plain.proofs.Entry.{Fit, tests_fit, refused-plain, called_total, called_nothing, front_size}
 use borrow.Author.Rules.{rules}
 use Rattle.plain.proofs.plain.Statement.{statement}
 use Rattle.plain.proofs.plain.Tie as tie
@@ -23,7 +23,7 @@ side-within-requires : tie.Need-side-within-requires
 side-within-requires c κs = search rules
 
 costs-fill-requires : tie.Need-costs-fill-requires
-costs-fill-requires c κs = λ e. let h = le_trans ((side-within 8 _).0 (sym c.side-within.ensures ∙ e)) eight-within in (h, h)
+costs-fill-requires c κs = λ e. let h = le_trans ((side-within 8 _).0 (sym c.side-within.ensures ∙ e)) eight_within in (h, h)
 
 list-long-requires : tie.Need-list-long-requires
 list-long-requires c κs = search rules
@@ -35,14 +35,14 @@ abbrev start : tie.After-costs-within → tie.Start
 start c = c.before.before.before.before.before
 
 -- the tests, one after the other
-tested : (c : tie.After-costs-within) → c.costs-within.result ≡ plainTests (start c).args.n (start c).args.costs.now (start c).args.cols.now
-unfolding plainTests
+tested : (c : tie.After-costs-within) → c.costs-within.result ≡ plain_tests (start c).args.n (start c).args.costs.now (start c).args.cols.now
+unfolding plain_tests
 tested c =
     let l = c.before in
-    after _ c.costs-within.ensures (after _ l.list-long.ensures (after _ l.before.costs-fill.ensures l.before.before.side-within.ensures))
+    after _ c.costs-within.ensures (after _ l.list-long.ensures (after _ l.before.costs_fill_lem.ensures l.before.before.side-within.ensures))
 
 fit : (c : tie.After-enum-told) → Fit (start c.before.before).args.n (start c.before.before).args.costs.now (start c.before.before).args.cols.now
-fit c = (tests-fit _ _ _).0 (sym (tested c.before.before) ∙ c.enum_told.given.1)
+fit c = (tests_fit _ _ _).0 (sym (tested c.before.before) ∙ c.enum_told.given.1)
 
 enum-known-refusal : tie.Need-enum-known-refusal
 enum-known-refusal c = search rules
@@ -79,8 +79,8 @@ engine-requires c κs =
     let t = c.before.before.before in
     let u = (start t.before.before).args in
     let h = fit t in
-    let e = front-size u.n u.cols.now h.listed in
-    (omega arith, h.small, h.squared ∙ ap (λ (m : ℕ). m * u.n) (sym e), front-size u.n _ h.small ∙ sym e)
+    let e = front_size u.n u.cols.now h.listed in
+    (omega arith, h.small, h.squared ∙ ap (λ (m : ℕ). m * u.n) (sym e), front_size u.n _ h.small ∙ sym e)
 
 enum-known-total : tie.Need-enum-known-total
 enum-known-total c = search rules
@@ -100,7 +100,7 @@ returns-2 c =
     let k = c.known-told2.given in
     let f : SFits w64 g.0.0 = search rules in
     ap (λ (z : ℤ). (Total z, e.engine.new.1.1.1.1.0 ++ drop (u.n - 0) u.cols.now)) (to_z-of_z f)
-    ∙ called-total u.n u.costs.now u.cols.now e.engine.result e.engine.new.1.1.1.1.0 e.engine.ensures.0 e.engine.ensures.1 (fit t)
+    ∙ called_total u.n u.costs.now u.cols.now e.engine.result e.engine.new.1.1.1.1.0 e.engine.ensures.0 e.engine.ensures.1 (fit t)
     g.0.0 g.1
 
 same-length-2 : tie.Need-same-length-2
@@ -111,7 +111,7 @@ returns-3 c =
     let e = c.before.before.before.before.before in
     let t = e.before.before.before.before in
     let u = (start t.before.before).args in
-    absurd (called-nothing u.n u.costs.now u.cols.now e.engine.result e.engine.new.1.1.1.1.0 e.engine.ensures.0 e.engine.ensures.1
+    absurd (called_nothing u.n u.costs.now u.cols.now e.engine.result e.engine.new.1.1.1.1.0 e.engine.ensures.0 e.engine.ensures.1
     (fit t) c.enum-told2.given.1)
 
 pub plain-spec : {M : Type 1} → statement M

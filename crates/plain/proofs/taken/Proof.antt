@@ -7,9 +7,9 @@ use native.Mathlib.Omega.{arith}
 use lib.Dec.{eqb}
 use borrow.Author.Tests.{eq-eqb, ne_eqb}
 use Rattle.lists.specs.Permutations.{at}
-use Rattle.lists.proofs.Counts.{some-make}
+use Rattle.lists.proofs.Counts.{some_make}
 use Rattle.plain.proofs.Pairings.{clear_none}
-use Rattle.matrix.proofs.First.{Clear, clear-start, clear-more}
+use Rattle.matrix.proofs.First.{Clear, clear_start, clear_more}
 use borrow.Author.Rules.{rules}
 use Rattle.plain.proofs.taken.Statement.{statement}
 use Rattle.plain.proofs.taken.Tie as tie
@@ -24,7 +24,7 @@ abbrev decreases-loop : tie.decreases-loop
 decreases-loop cols i h₀ h = i - h
 
 loop-holds : tie.Need-loop-init invariant-loop decreases-loop
-loop-holds c = (omega arith, clear-start (same c.args.cols.now c.args.i))
+loop-holds c = (omega arith, clear_start (same c.args.cols.now c.args.i))
 
 mul-if1 : tie.Need-overflow-mul-if1 invariant-loop decreases-loop
 mul-if1 c = search rules
@@ -42,7 +42,7 @@ returns : tie.Need-returns invariant-loop decreases-loop
 returns c =
     let u = c.before.before.before.before.before.args in
     let l = c.before.before.before.before.loop in
-    sym (some-make u.i (same u.cols.now u.i) l.h c.before.before.before.loop-test.true
+    sym (some_make u.i (same u.cols.now u.i) l.h c.before.before.before.loop-test.true
     (eq-eqb (at u.cols.now l.h) (at u.cols.now u.i) c.if1.true))
 
 add-h : tie.Need-overflow-add-h invariant-loop decreases-loop
@@ -55,7 +55,7 @@ loop-again : tie.Need-loop-preserved invariant-loop decreases-loop
 loop-again c =
     let u = c.before.before.before.before.before.args in
     let l = c.before.before.before.before.loop in
-    (search rules, clear-more (same u.cols.now u.i) l.h l.invariant.1 (ne_eqb (at u.cols.now l.h) (at u.cols.now u.i) c.if1.false))
+    (search rules, clear_more (same u.cols.now u.i) l.h l.invariant.1 (ne_eqb (at u.cols.now l.h) (at u.cols.now u.i) c.if1.false))
 
 returns-2 : tie.Need-returns-2 invariant-loop decreases-loop
 returns-2 c =

@@ -6,7 +6,7 @@ use lib.ListN.{length-set}
 use Rattle.lists.specs.Permutations.{at}
 use Rattle.matrix.proofs.SmallLimits.{side-small}
 use Rattle.rules.specs.Columns.{free}
-use Rattle.repair.proofs.Mending.{can-augment, mended-by}
+use Rattle.repair.proofs.Mending.{can-augment, mended_by}
 use Rattle.repair.proofs.mend.Statement.{statement}
 use Rattle.repair.proofs.mend.Tie as tie
 
@@ -80,7 +80,7 @@ returns c =
     let x = start (before-search y) in
     let u = x.args in
     let left = y.ca-dense.last.1.1.1 in
-    mended-by u.n u.costs.now u.row u.cols.now u.rows.now u.v.now u.room.now u.d.now x.pre
+    mended_by u.n u.costs.now u.row u.cols.now u.rows.now u.v.now u.room.now u.d.now x.pre
     left.0 left.1.0 left.1.1.0 left.1.1.1.1.0 y.ca-dense.result y.ca-dense.ensures
 
 pub mend-spec : {M : Type 1} → statement M

@@ -4,7 +4,7 @@ use native.Mathlib.Omega.{arith}
 use borrow.Author.Rules.{rules}
 use mir.Syntax.{w64}
 use Rattle.ints.proofs.Bits.{read_back}
-use Rattle.lists.proofs.Tables.{table-constant}
+use Rattle.lists.proofs.Tables.{table_constant}
 use Rattle.repair.proofs.Mending as mending
 use Rattle.repair.proofs.pair_again.Statement.{statement}
 use Rattle.repair.proofs.pair_again.Tie as tie
@@ -33,7 +33,7 @@ write-row-prices-requires c κs =
     let y = c.before.before.before.before.before.before.before.before.before.before.before in
     let s = start y in
     let u = s.args in
-    mending.can-price u.n u.costs.now u.row u.cols.now u.rows.now u.v.now u.room.now u.d.now s.pre.0 _ _ _ _ y.mend.ensures
+    mending.can_price u.n u.costs.now u.row u.cols.now u.rows.now u.v.now u.room.now u.d.now s.pre.0 _ _ _ _ y.mend.ensures
     u.row-prices.now s.pre.1
 
 total-requires : tie.Need-total-requires
@@ -76,9 +76,9 @@ returns c =
     let y = search-of p in
     let s = start y in
     let u = s.args in
-    mending.repaired-by u.n u.costs.now u.row u.cols.now u.rows.now u.v.now u.room.now u.d.now s.pre.0 _ _ _ _ y.mend.ensures
+    mending.repaired_by_lem u.n u.costs.now u.row u.cols.now u.rows.now u.v.now u.room.now u.d.now s.pre.0 _ _ _ _ y.mend.ensures
     _ y.mend.last.1.1.1.1.1.1.0 _ y.mend.last.1.1.1.1.1.1.1.0 _ _ p.write-row-prices.ensures (read_back w64 t.total.result t.total.ok ∙ t.total.ensures)
-    (e.fill.ensures ∙ table-constant _ 0) (omega (arith, y.mend.kept, s.pre.0.room-size)) f.ensures (omega (arith, y.mend.kept, s.pre.0.distances-size))
+    (e.fill.ensures ∙ table_constant _ 0) (omega (arith, y.mend.kept, s.pre.0.room-size)) f.ensures (omega (arith, y.mend.kept, s.pre.0.distances-size))
 
 pub pair-again-spec : {M : Type 1} → statement M
 pair-again-spec =

@@ -6,7 +6,7 @@ use lib.IntN.{ℤ}
 use mir.Syntax.{w64}
 use Rattle.ints.proofs.Bits.{read_back}
 use Rattle.matrix.specs.Refusals.{PriceFar}
-use Rattle.matrix.specs.Tests.{pricesIn}
+use Rattle.matrix.specs.Tests.{prices_in}
 use Rattle.matrix.specs.Verdicts.{◌then◌}
 use Rattle.matrix.proofs.SmallLimits.{K-small}
 use Rattle.repair.proofs.prices_near.Statement.{statement}
@@ -24,8 +24,8 @@ returns : tie.Need-returns
 returns c =
     let b = c.before.near-bound in
     let u = c.before.before.args in
-    c.prices-in.ensures
-    ∙ ap (λ (z : ℤ). u.before then pricesIn PriceFar z u.n u.n u.us.now u.vs.now) (read_back w64 b.result b.type-inv ∙ b.ensures)
+    c.prices_in_lem.ensures
+    ∙ ap (λ (z : ℤ). u.before then prices_in PriceFar z u.n u.n u.us.now u.vs.now) (read_back w64 b.result b.type-inv ∙ b.ensures)
 
 pub prices-near-spec : {M : Type 1} → statement M
 prices-near-spec = tie.close (tie.spec near-bound-requires prices-in-requires returns)

@@ -7,9 +7,9 @@ use mir.Syntax.{w64}
 use Rattle.ints.proofs.Bits.{read_back}
 use Rattle.matrix.proofs.SmallLimits.{side-small}
 use Rattle.lapjv.specs.Solve.{Lent, lent_of}
-use Rattle.repair.specs.Values.{toldOf}
+use Rattle.repair.specs.Values.{told_of}
 use Rattle.repair.specs.Repairable.{Repairable}
-use Rattle.repair.proofs.Tests.{repair-tests-iff, fails-refused}
+use Rattle.repair.proofs.Tests.{repair_tests_iff, fails_refused}
 use Rattle.repair.proofs.Repairing as repairing
 use Rattle.repair.proofs.repair.Statement.{statement}
 use Rattle.repair.proofs.repair.Tie as tie
@@ -49,7 +49,7 @@ returns : tie.Need-returns
 returns c =
     let t = c.before.before.before in
     let s = start t in
-    ap toldOf (sym (fails-refused s.args.n s.args.costs.now s.args.row (lent s) _ (sym t.tested.ensures ∙ c.before.refusal.given.1)))
+    ap told_of (sym (fails_refused s.args.n s.args.costs.now s.args.row (lent s) _ (sym t.tested.ensures ∙ c.before.refusal.given.1)))
 
 enum_told : tie.Need-enum-told
 enum_told c = search rules
@@ -59,7 +59,7 @@ passes : (c : tie.After-enum-told) → let s = start c.before.before in Repairab
 passes c =
     let t = c.before.before in
     let s = start t in
-    (repair-tests-iff s.args.n s.args.costs.now s.args.row (lent s)).0 (sym t.tested.ensures ∙ c.enum_told.given.1)
+    (repair_tests_iff s.args.n s.args.costs.now s.args.row (lent s)).0 (sym t.tested.ensures ∙ c.enum_told.given.1)
 
 mul-n4 : tie.Need-overflow-mul-n4
 mul-n4 c = omega (arith, side-small, (passes c).limits.small)
@@ -89,7 +89,7 @@ part-pair-again-start-3 : tie.Need-slice-bounds-pair-again-start-3
 part-pair-again-start-3 c = search rules
 
 part-pair-again-end-3 : tie.Need-slice-bounds-pair-again-end-3
-part-pair-again-end-3 c = omega (arith, (passes c.before.before).limits.row-prices-enough)
+part-pair-again-end-3 c = omega (arith, (passes c.before.before).limits.row_prices_enough)
 
 sub-pair-again-4 : tie.Need-overflow-sub-pair-again-4
 sub-pair-again-4 c = search rules
@@ -98,7 +98,7 @@ part-pair-again-start-4 : tie.Need-slice-bounds-pair-again-start-4
 part-pair-again-start-4 c = search rules
 
 part-pair-again-end-4 : tie.Need-slice-bounds-pair-again-end-4
-part-pair-again-end-4 c = omega (arith, (passes c.before.before.before).limits.column-prices-enough)
+part-pair-again-end-4 c = omega (arith, (passes c.before.before.before).limits.column_prices_enough)
 
 sub-pair-again-5 : tie.Need-overflow-sub-pair-again-5
 sub-pair-again-5 c = search rules
@@ -126,8 +126,8 @@ pair-again-requires : tie.Need-pair-again-requires
 pair-again-requires c κs =
     let e = told_of c in
     let u = (start e.before.before).args in (
-      repairing.can-mend u.n u.costs.now u.row u.cols.now u.rows.now u.row-prices.now u.col-prices.now u.indices.now u.numbers.now (passes e),
-      repairing.row-prices-sized u.n u.costs.now u.row u.cols.now u.rows.now u.row-prices.now u.col-prices.now u.indices.now u.numbers.now (passes e),
+      repairing.can_mend u.n u.costs.now u.row u.cols.now u.rows.now u.row-prices.now u.col-prices.now u.indices.now u.numbers.now (passes e),
+      repairing.row_prices_sized u.n u.costs.now u.row u.cols.now u.rows.now u.row-prices.now u.col-prices.now u.indices.now u.numbers.now (passes e),
     )
 
 same-length-7 : tie.Need-same-length-7
@@ -153,7 +153,7 @@ returns-2 c =
     let p = c.before.before.before.before.before.before.before.before.before in
     let e = told_of p.before in
     let u = (start e.before.before).args in
-    ap toldOf (repairing.repaired-by u.n u.costs.now u.row u.cols.now u.rows.now u.row-prices.now u.col-prices.now u.indices.now u.numbers.now (passes e) _ _ _ _ _ _ _ _ (read_back w64 p.pair-again.result p.pair-again.type-inv) p.pair-again.ensures)
+    ap told_of (repairing.repaired_by_lem u.n u.costs.now u.row u.cols.now u.rows.now u.row-prices.now u.col-prices.now u.indices.now u.numbers.now (passes e) _ _ _ _ _ _ _ _ (read_back w64 p.pair-again.result p.pair-again.type-inv) p.pair-again.ensures)
 
 pub repair-spec : {M : Type 1} → statement M
 repair-spec =

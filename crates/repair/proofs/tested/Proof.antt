@@ -5,16 +5,16 @@ use borrow.Author.Rules.{rules}
 use Rattle.assignment.specs.Pairings.{Night, square}
 use Rattle.matrix.specs.Verdicts.{Passes, ◌then◌}
 use Rattle.matrix.specs.Asked.{ColumnsListed, Listed}
-use Rattle.matrix.proofs.Verdicts.{then-iff, after}
+use Rattle.matrix.proofs.Verdicts.{then_iff, after}
 use Rattle.matrix.proofs.Passed.{columns-inside, prices-within}
 use Rattle.bars.proofs.Passed.{square-unbarred}
-use Rattle.checker.specs.Tests.{underCostsBut}
+use Rattle.checker.specs.Tests.{under_costs_but}
 use Rattle.checker.specs.Asked.{Priced}
 use Rattle.checker.specs.Proven.{Prices}
 use Rattle.lapjv.specs.Solve.{lent_of}
 use Rattle.lapjv.specs.WithinLimits.{WithinLimits}
-use Rattle.lapjv.proofs.Tests.{tested-iff}
-use Rattle.repair.specs.Tests.{repairTests}
+use Rattle.lapjv.proofs.Tests.{tested_iff}
+use Rattle.repair.specs.Tests.{repair_tests}
 use Rattle.repair.proofs.tested.Statement.{statement}
 use Rattle.repair.proofs.tested.Tie as tie
 
@@ -23,12 +23,12 @@ limits : (c : tie.After-tested) → let u = c.before.before.before.before.args i
     → WithinLimits u.n u.costs.now (lent_of u.cols.now u.rows.now u.row-prices.now u.col-prices.now u.indices.now u.numbers.now)
 limits c e =
     let u = c.before.before.before.before.args in
-    (tested-iff u.n u.costs.now (lent_of u.cols.now u.rows.now u.row-prices.now u.col-prices.now u.indices.now u.numbers.now)).0 (sym c.tested.ensures ∙ e)
+    (tested_iff u.n u.costs.now (lent_of u.cols.now u.rows.now u.row-prices.now u.col-prices.now u.indices.now u.numbers.now)).0 (sym c.tested.ensures ∙ e)
 
 -- past the row's 6
 placed : (c : tie.After-row-inside) → let u = c.before.before.before.before.before.args in Passes c.row_inside.result
     → WithinLimits u.n u.costs.now (lent_of u.cols.now u.rows.now u.row-prices.now u.col-prices.now u.indices.now u.numbers.now)
-placed c e = limits c.before ((then-iff _ _).0 (sym c.row_inside.ensures ∙ e)).0
+placed c e = limits c.before ((then_iff _ _).0 (sym c.row_inside.ensures ∙ e)).0
 
 -- past 6
 listed : (c : tie.After-columns-inside) → let u = c.before.before.before.before.before.before.args in Passes c.columns-inside.result
@@ -36,7 +36,7 @@ listed : (c : tie.After-columns-inside) → let u = c.before.before.before.befor
     × Listed u.n u.costs.now u.n u.cols.now
 listed c e =
     let u = c.before.before.before.before.before.before.args in
-    let t = (then-iff _ _).0 (sym c.columns-inside.ensures ∙ e) in
+    let t = (then_iff _ _).0 (sym c.columns-inside.ensures ∙ e) in
     let s = placed c.before t.0 in (
       s,
       record {
@@ -52,22 +52,22 @@ listed c e =
 named : (c : tie.After-rows-named) → let u = c.before.before.before.before.before.before.before.args in Passes c.rows_named.result
     → WithinLimits u.n u.costs.now (lent_of u.cols.now u.rows.now u.row-prices.now u.col-prices.now u.indices.now u.numbers.now)
     × Listed u.n u.costs.now u.n u.cols.now
-named c e = listed c.before ((then-iff _ _).0 (sym c.rows_named.ensures ∙ e)).0
+named c e = listed c.before ((then_iff _ _).0 (sym c.rows_named.ensures ∙ e)).0
 
 -- past 8
 within : (c : tie.After-prices-within) → let u = c.before.before.before.before.before.before.before.before.args in Passes c.prices-within.result
     → Listed u.n u.costs.now u.n u.cols.now × Prices u.n u.row-prices.now × Prices u.n u.col-prices.now
 within c e =
     let u = c.before.before.before.before.before.before.before.before.args in
-    let t = (then-iff _ _).0 (sym c.prices-within.ensures ∙ e) in
+    let t = (then_iff _ _).0 (sym c.prices-within.ensures ∙ e) in
     let s = named c.before t.0 in
     let w = (prices-within u.n u.n u.row-prices.now u.col-prices.now).0 t.1 in
-    (s.1, record { enough = s.0.row-prices-enough; within = w.0 }, record { enough = s.0.column-prices-enough; within = w.1 })
+    (s.1, record { enough = s.0.row_prices_enough; within = w.0 }, record { enough = s.0.column_prices_enough; within = w.1 })
 
 -- past 24
 near : (c : tie.After-prices-near) → let u = c.before.before.before.before.before.before.before.before.before.args in Passes c.prices-near.result
     → Listed u.n u.costs.now u.n u.cols.now × Prices u.n u.row-prices.now × Prices u.n u.col-prices.now
-near c e = within c.before ((then-iff _ _).0 (sym c.prices-near.ensures ∙ e)).0
+near c e = within c.before ((then_iff _ _).0 (sym c.prices-near.ensures ∙ e)).0
 
 tested-requires : tie.Need-tested-requires
 tested-requires c κs = search rules
@@ -82,7 +82,7 @@ rows-named-requires : tie.Need-rows-named-requires
 rows-named-requires c κs = λ e. let h = listed c e in (h.0.cols-enough, h.0.rows-enough, h.1.inside)
 
 prices-within-requires : tie.Need-prices-within-requires
-prices-within-requires c κs = λ e. let h = (named c e).0 in (h.small, h.small, h.row-prices-enough, h.column-prices-enough)
+prices-within-requires c κs = λ e. let h = (named c e).0 in (h.small, h.small, h.row_prices_enough, h.column_prices_enough)
 
 prices-near-requires : tie.Need-prices-near-requires
 prices-near-requires c κs = λ e. let h = within c e in (h.0.small, h.1.enough, h.2.enough)
@@ -103,18 +103,18 @@ under-costs-requires : tie.Need-under-costs-requires
 under-costs-requires c κs = λ e. ((priced c.before e).0, λ i set. absurd (set refl))
 
 tight-on-requires : tie.Need-tight-on-requires
-tight-on-requires c κs = λ e. priced c.before.before ((then-iff _ _).0 (sym c.under-costs.ensures ∙ e)).0
+tight-on-requires c κs = λ e. priced c.before.before ((then_iff _ _).0 (sym c.under-costs.ensures ∙ e)).0
 
 -- no place is barred
 nine : (c : tie.After-under-costs) → let u = c.before.before.before.before.before.before.before.before.before.before.before.args in
-    c.under-costs.result ≡ (c.before.before.prices-near.result then underCostsBut u.row (square u.n u.costs.now) u.row-prices.now u.col-prices.now)
+    c.under-costs.result ≡ (c.before.before.prices-near.result then under_costs_but u.row (square u.n u.costs.now) u.row-prices.now u.col-prices.now)
 nine c =
     let u = c.before.before.before.before.before.before.before.before.before.before.before.args in
     c.under-costs.ensures
-    ∙ ap (λ (night : Night). c.before.before.prices-near.result then underCostsBut u.row night u.row-prices.now u.col-prices.now) (square-unbarred u.n u.costs.now)
+    ∙ ap (λ (night : Night). c.before.before.prices-near.result then under_costs_but u.row night u.row-prices.now u.col-prices.now) (square-unbarred u.n u.costs.now)
 
 returns : tie.Need-returns
-unfolding repairTests
+unfolding repair_tests
 returns c =
     let u9 = c.before in
     let u24 = u9.before.before in

@@ -7,10 +7,10 @@ use mir.Syntax.{w64}
 use mir.Facts.{to_z_pos}
 use Rattle.ints.proofs.Shapes.{zlin}
 use Rattle.matrix.specs.Answers.{values_of}
-use Rattle.matrix.proofs.Verdicts.{fails-totalled, passed-totalled}
+use Rattle.matrix.proofs.Verdicts.{fails_totalled, passed-totalled}
 use Rattle.score.specs.Score.{score}
 use Rattle.score.proofs.Metric.{sum-small}
-use Rattle.score.proofs.Scores.{tests-iff}
+use Rattle.score.proofs.Scores.{tests_iff}
 use Rattle.score.proofs.score.Statement.{statement}
 use Rattle.score.proofs.score.Tie as tie
 
@@ -22,7 +22,7 @@ enum-known-refusal c = search rules
 
 returns : tie.Need-returns
 unfolding score
-returns c = ap values_of (fails-totalled _ (sym c.before.before.before.score-tested.ensures ∙ c.before.refusal.given.1))
+returns c = ap values_of (fails_totalled _ (sym c.before.before.before.score-tested.ensures ∙ c.before.refusal.given.1))
 
 enum_told : tie.Need-enum-told
 enum_told c = search rules
@@ -36,7 +36,7 @@ slice-aggregate-total c = search rules
 total-requires : tie.Need-total-requires
 total-requires c κs =
     let d = c.before.before in
-    let r = (tests-iff _ _).0 (sym d.before.before.score-tested.ensures ∙ d.enum_told.given.1) in
+    let r = (tests_iff _ _).0 (sym d.before.before.score-tested.ensures ∙ d.enum_told.given.1) in
     (c.before.costs.ensures, r.0, r.1)
 
 -- a score is small

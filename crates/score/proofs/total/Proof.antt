@@ -9,18 +9,18 @@ use lib.IntN.{ℤ, pos}
 use Rattle.ints.proofs.Shapes.{zlin}
 use Rattle.lists.specs.Permutations.{at}
 use Rattle.lists.specs.Sums.{sum}
-use Rattle.lists.proofs.Sums.{sum-none, sum-last}
-use Rattle.score.specs.Characters.{characterCost}
-use Rattle.score.specs.Score.{scoreOf}
+use Rattle.lists.proofs.Sums.{sum_none, sum-last}
+use Rattle.score.specs.Characters.{character_cost}
+use Rattle.score.specs.Score.{score_of}
 use Rattle.score.proofs.CharacterCosts.{cost-small}
 use Rattle.score.proofs.total.Statement.{statement}
 use Rattle.score.proofs.total.Tie as tie
 
 abbrev costs : List ℕ → List ℕ → ℕ → ℤ
-costs x y k = pos (characterCost (at x k) (at y k))
+costs x y k = pos (character_cost (at x k) (at y k))
 
 -- one cost more
-turn : (x y : List ℕ) (k total cost : ℕ) → cost ≡ characterCost (at x k) (at y k) → pos total ≡ sum k (costs x y) → pos (total + cost) ≡ sum (k + 1) (costs x y)
+turn : (x y : List ℕ) (k total cost : ℕ) → cost ≡ character_cost (at x k) (at y k) → pos total ≡ sum k (costs x y) → pos (total + cost) ≡ sum (k + 1) (costs x y)
 turn x y k total cost e so_far = rw (add-one k, sum-last k (costs x y)) (omega (zlin, so_far, e))
 
 abbrev invariant-loop : tie.invariant-loop
@@ -30,7 +30,7 @@ abbrev decreases-loop : tie.decreases-loop
 decreases-loop table first second total₀ k₀ total k = 12 - k
 
 loop-holds : tie.Need-loop-init invariant-loop decreases-loop
-loop-holds c = (omega arith, omega arith, sym (sum-none _))
+loop-holds c = (omega arith, omega arith, sym (sum_none _))
 
 shared-slice-read-cost : tie.Need-shared-slice-read-cost invariant-loop decreases-loop
 shared-slice-read-cost c = omega (arith, c.before.before.before.before.before.before.requires.1.size)
@@ -67,7 +67,7 @@ loop-again c =
     (omega arith, omega (arith, small c), turn u.first.now u.second.now l.loop.k l.loop.total c.cost.result c.cost.ensures l.loop.invariant.2)
 
 returns : tie.Need-returns invariant-loop decreases-loop
-unfolding scoreOf
+unfolding score_of
 returns c =
     let l = c.before.loop in
     let u = c.before.before.before.before.before.args in

@@ -9,7 +9,7 @@ use lib.IntN.{ℤ}
 use lib.ListN.{drop}
 use mir.Syntax.{w32}
 use Rattle.ints.proofs.Bits.{read_back}
-use Rattle.bars.specs.Barred.{filledCosts}
+use Rattle.bars.specs.Barred.{filled_costs}
 use Rattle.sheet.proofs.fill_arrays.Statement.{statement}
 use Rattle.sheet.proofs.fill_arrays.Tie as tie
 
@@ -26,7 +26,7 @@ returns c =
     let u = c.before.before.before.before.args in
     let k = c.before.dear in
     c.fill.ensures
-    ∙ ap (λ (z : ℤ). filledCosts u.n z u.costs.now u.bars.now ++ drop (u.n * u.n) u.costs.now) (read_back w32 k.result k.type-inv ∙ k.ensures)
+    ∙ ap (λ (z : ℤ). filled_costs u.n z u.costs.now u.bars.now ++ drop (u.n * u.n) u.costs.now) (read_back w32 k.result k.type-inv ∙ k.ensures)
 
 pub fill-arrays-spec : {M : Type 1} → statement M
 fill-arrays-spec = tie.close (tie.spec dear-requires fill-requires returns)

@@ -10,11 +10,11 @@ use lib.ListN.{take}
 use mir.Syntax.{w64}
 use Rattle.ints.proofs.Bits.{read_back}
 use Rattle.matrix.specs.Verdicts.{◌then◌}
-use Rattle.matrix.specs.Tests.{costsIn}
+use Rattle.matrix.specs.Tests.{costs_in}
 use Rattle.matrix.proofs.SmallLimits.{K-small}
 use Rattle.matrix.proofs.Verdicts.{after}
-use Rattle.sheet.specs.Reading.{costMost}
-use Rattle.sheet.proofs.Editions.{costMost-within}
+use Rattle.sheet.specs.Reading.{cost_most}
+use Rattle.sheet.proofs.Editions.{cost_most-within}
 use Rattle.sheet.proofs.night_tested.Statement.{statement}
 use Rattle.sheet.proofs.night_tested.Tie as tie
 
@@ -41,18 +41,18 @@ part-costs-in-end c =
 costs-in-requires : tie.Need-costs-in-requires
 costs-in-requires c κs =
     let d = c.before in
-    rw (read_back w64 d.cost-most.result d.cost-most.type-inv, d.cost-most.ensures) (omega (arith, K-small, costMost-within d.before.before.before.args.edition))
+    rw (read_back w64 d.cost-most.result d.cost-most.type-inv, d.cost-most.ensures) (omega (arith, K-small, cost_most-within d.before.before.before.args.edition))
 
 bars-clear-requires : tie.Need-bars-clear-requires
 bars-clear-requires c κs = λ e. search rules
 
-inside : (c : tie.After-costs-in) → let u = c.before.before.before.before.before.args in c.costs-in.result ≡ costsIn (pos (costMost u.edition)) (take (u.m * u.n) u.costs.now)
+inside : (c : tie.After-costs-in) → let u = c.before.before.before.before.before.args in c.costs_in_lem.result ≡ costs_in (pos (cost_most u.edition)) (take (u.m * u.n) u.costs.now)
 unfolding ◌then◌
 inside c =
     let d = c.before.before in
     let u = d.before.before.before.args in
-    c.costs-in.ensures
-    ∙ ap₂ (λ (z : ℤ) (m : ℕ). costsIn z (take m u.costs.now)) (read_back w64 d.cost-most.result d.cost-most.type-inv ∙ d.cost-most.ensures) (sub-zero (u.m * u.n))
+    c.costs_in_lem.ensures
+    ∙ ap₂ (λ (z : ℤ) (m : ℕ). costs_in z (take m u.costs.now)) (read_back w64 d.cost-most.result d.cost-most.type-inv ∙ d.cost-most.ensures) (sub-zero (u.m * u.n))
 
 returns : tie.Need-returns
 returns c = after _ c.bars-clear.ensures (inside c.before)

@@ -9,14 +9,14 @@ use lib.ListN.{length, take, drop, length-map}
 use mir.Syntax.{w64}
 use Rattle.ints.proofs.Bits.{read_back}
 use Rattle.layout.specs.Values.{bytes_of}
-use Rattle.layout.specs.Slips.{slipOf, slipLength}
-use Rattle.layout.proofs.Values.{length-bytesOf}
-use Rattle.layout.proofs.Stores.{sets-front}
+use Rattle.layout.specs.Slips.{slip_of, slip_length}
+use Rattle.layout.proofs.Values.{length-bytes_of}
+use Rattle.layout.proofs.Stores.{sets_front}
 use Rattle.matrix.specs.Refusals.{NoPairing}
 use Rattle.sheet.specs.Reading.{Read, read}
-use Rattle.sheet.specs.Settle.{settledAs, settled, pair}
-use Rattle.sheet.proofs.Determined.{settled-values-determine}
-use Rattle.sheet.proofs.Pairing.{Bytes, ReadRight, read_right, Sized, refused-outcome, blocked-outcome, paired-outcome}
+use Rattle.sheet.specs.Settle.{settled_as, settled, pair}
+use Rattle.sheet.proofs.Determined.{settled_values_determine}
+use Rattle.sheet.proofs.Pairing.{Bytes, ReadRight, read_right, Sized, refused-outcome, blocked_outcome, paired-outcome}
 use Rattle.sheet.proofs.pair.Statement.{statement}
 use Rattle.sheet.proofs.pair.Tie as tie
 
@@ -26,8 +26,8 @@ sized c =
     let fields = c.settle.type-inv.1.1.1.0.1.1 in
     record {
       cols-size = sym (length-map c.settle.result.state.cols _) ∙ fields.1.1.0.1.0.1;
-      row-prices-size = sym (length-map c.settle.result.state.row_prices _) ∙ fields.1.1.1.1.0.1.0.1;
-      column-prices-size = sym (length-map c.settle.result.state.col_prices _) ∙ fields.1.1.1.1.1.0.1.0.1;
+      row_prices_size = sym (length-map c.settle.result.state.row_prices _) ∙ fields.1.1.1.1.0.1.0.1;
+      column_prices_size = sym (length-map c.settle.result.state.col_prices _) ∙ fields.1.1.1.1.1.0.1.0.1;
     }
 
 -- the sheet as it was read
@@ -44,9 +44,9 @@ right c = read_right (length (start c).args.slip.now) (start c).args.sheet.now
 bytes : (c : tie.After-settle) → Bytes (start c).args.sheet.now
 bytes c k l = omega (arith, c.before.before.shared-slice-known.given k)
 
-settled-as : (c : tie.After-settle) → c.settle.result ≡ settledAs (reading c)
+settled-as : (c : tie.After-settle) → c.settle.result ≡ settled_as (reading c)
 unfolding settled
-settled-as c = settled-values-determine _ _ c.settle.ensures
+settled-as c = settled_values_determine _ _ c.settle.ensures
 
 settle-requires : tie.Need-settle-requires
 settle-requires c κs = search rules
@@ -67,7 +67,7 @@ write-value-requires : tie.Need-write-value-requires
 write-value-requires c κs =
     let s = c.before.before.before.before in
     let v = c.before.before.reply2.given in
-    (blocked-outcome (start s).args.sheet.now (start s).args.slip.now s.settle.result (reading s) (right s) (settled-as s) v.0.0 v.1).0
+    (blocked_outcome (start s).args.sheet.now (start s).args.slip.now s.settle.result (reading s) (right s) (settled-as s) v.0.0 v.1).0
 
 enum-known-reply-3 : tie.Need-enum-known-reply-3
 enum-known-reply-3 c = search rules
@@ -97,8 +97,8 @@ returns-2 c =
     let s = c.before.before.before.before.before.before.before in
     let v = c.before.before.before.before.before.reply2.given in
     let slip = (start s).args.slip.now in
-    let o = blocked-outcome (start s).args.sheet.now slip s.settle.result (reading s) (right s) (settled-as s) v.0.0 v.1 in
-    ap (λ (l : List ℕ). record { number = NoPairing; slip = l }) (c.before.before.write-value.ensures ∙ sets-front (bytes_of 8 v.0.0) slip 8 (length-bytesOf 8 v.0.0) o.0)
+    let o = blocked_outcome (start s).args.sheet.now slip s.settle.result (reading s) (right s) (settled-as s) v.0.0 v.1 in
+    ap (λ (l : List ℕ). record { number = NoPairing; slip = l }) (c.before.before.write-value.ensures ∙ sets_front (bytes_of 8 v.0.0) slip 8 (length-bytes_of 8 v.0.0) o.0)
     ∙ o.1
 
 same-length-2 : tie.Need-same-length-2
@@ -117,7 +117,7 @@ returns-3 c =
     let n = v.0.1.1.0 in
     let total = read_back w64 v.0.1.1.1.0 k.known-told3.given.1.1.1.0.1 in
     ap (λ (l : List ℕ). record { number = 0; slip = l }) (c.before.before.write-state.ensures
-    ∙ ap (λ (t : ℤ). slipOf edition m n (take m state.cols) (take m state.row_prices) (take n state.col_prices) t ++ drop (slipLength edition m n) u.slip.now) total)
+    ∙ ap (λ (t : ℤ). slip_of edition m n (take m state.cols) (take m state.row_prices) (take n state.col_prices) t ++ drop (slip_length edition m n) u.slip.now) total)
     ∙ (paired-outcome u.sheet.now u.slip.now s.settle.result (reading s) (right s) (settled-as s) edition m n v.0.1.1.1.0 v.1 (sized s)).3
 
 pub pair_spec : {M : Type 1} → statement M

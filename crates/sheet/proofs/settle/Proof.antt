@@ -2,13 +2,13 @@
 use mathlib.Core.Path.{sym, ap, ap₂, ◌∙◌}
 use Prim.Native.Nat.{ℕ}
 use borrow.Author.Rules.{rules}
-use Rattle.layout.specs.Trailers.{editionOf}
+use Rattle.layout.specs.Trailers.{edition_of}
 use Rattle.matrix.specs.Verdicts.{Passes}
-use Rattle.sheet.specs.Reading.{rows_of, distanceDue, laidAt, sheetTests, nightTested}
-use Rattle.sheet.specs.Settle.{settledAs}
-use Rattle.sheet.specs.Values.{settledValues}
-use Rattle.sheet.proofs.Passing.{SheetPassed, tests-passed}
-use Rattle.sheet.proofs.Solver.{passed-settles, fails-settles}
+use Rattle.sheet.specs.Reading.{rows_of, distance_due, laid_at, sheet_tests, night_tested}
+use Rattle.sheet.specs.Settle.{settled_as}
+use Rattle.sheet.specs.Values.{settled_values}
+use Rattle.sheet.proofs.Passing.{SheetPassed, tests_passed}
+use Rattle.sheet.proofs.Solver.{passed_settles, fails_settles}
 use Rattle.sheet.proofs.settle.Statement.{statement}
 use Rattle.sheet.proofs.settle.Tie as tie
 
@@ -25,13 +25,13 @@ enum_told : tie.Need-enum-told
 enum_told c = search rules
 
 -- the sheet has passed the tests
-all-passed : (c : tie.After-enum-told) → let u = c.before.before.before.before.args in Passes (sheetTests u.room u.sheet.now)
-all-passed c = sym c.before.before.tests.ensures ∙ c.enum_told.given.1
+all_passed : (c : tie.After-enum-told) → let u = c.before.before.before.before.args in Passes (sheet_tests u.room u.sheet.now)
+all_passed c = sym c.before.before.tests.ensures ∙ c.enum_told.given.1
 
 passed : (c : tie.After-enum-told) → let u = c.before.before.before.before.args in SheetPassed u.room u.sheet.now
 passed c =
     let u = c.before.before.before.before.args in
-    tests-passed u.room u.sheet.now (all-passed c)
+    tests_passed u.room u.sheet.now (all_passed c)
 
 edition-of-requires : tie.Need-edition-of-requires
 edition-of-requires c κs = (passed c).counted.ended.long
@@ -51,17 +51,17 @@ returns : tie.Need-returns
 returns c =
     let t = c.before.before.before.before in
     let u = t.before.before.args in
-    ap settledValues (c.refused.ensures ∙ fails-settles u.room u.sheet.now (sym t.tests.ensures ∙ c.before.before.refusal.given.1))
+    ap settled_values (c.refused.ensures ∙ fails_settles u.room u.sheet.now (sym t.tests.ensures ∙ c.before.before.refusal.given.1))
 
 returns-2 : tie.Need-returns-2
 returns-2 c =
     let e = c.before.before.before.before in
     let u = e.before.before.before.before.args in
     let n = c.before.side-of.result in
-    ap settledValues (c.settle-night.ensures
-    ∙ ap₂ (λ (d m : ℕ). settledAs (nightTested (laidAt d m n (distanceDue d m n) u.sheet.now))) c.before.before.before.edition-of.ensures c.before.before.rows_of_lem.ensures.0
-    ∙ ap (λ (k : ℕ). settledAs (nightTested (laidAt (editionOf u.sheet.now) (rows_of u.sheet.now) k (distanceDue (editionOf u.sheet.now) (rows_of u.sheet.now) k) u.sheet.now))) c.before.side-of.ensures.0
-    ∙ passed-settles u.room u.sheet.now (all-passed e))
+    ap settled_values (c.settle-night.ensures
+    ∙ ap₂ (λ (d m : ℕ). settled_as (night_tested (laid_at d m n (distance_due d m n) u.sheet.now))) c.before.before.before.edition-of.ensures c.before.before.rows_of_lem.ensures.0
+    ∙ ap (λ (k : ℕ). settled_as (night_tested (laid_at (edition_of u.sheet.now) (rows_of u.sheet.now) k (distance_due (edition_of u.sheet.now) (rows_of u.sheet.now) k) u.sheet.now))) c.before.side-of.ensures.0
+    ∙ passed_settles u.room u.sheet.now (all_passed e))
 
 pub settle-spec : {M : Type 1} → statement M
 settle-spec =

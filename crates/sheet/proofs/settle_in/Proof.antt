@@ -3,7 +3,7 @@ use mathlib.Core.Path.{sym, ap, ◌∙◌}
 use borrow.Author.Rules.{rules}
 use Rattle.matrix.specs.declared.Verdict.{Verdict}
 use Rattle.sheet.specs.declared.State.{State}
-use Rattle.sheet.specs.Steps.{solvedIn, settledIf}
+use Rattle.sheet.specs.Steps.{solved_in, settled_if}
 use Rattle.sheet.proofs.settle_in.Statement.{statement}
 use Rattle.sheet.proofs.settle_in.Tie as tie
 
@@ -29,14 +29,14 @@ returns : tie.Need-returns
 returns c =
     let d = c.before.before.before.before in
     let u = c.before.before.before.before.before.before.before.before.before.before.before.before.before.before.before.args in
-    c.refused.ensures ∙ ap (settledIf u.edition u.m u.n u.state) (sym c.before.before.refusal.given.1 ∙ d.night-tested.ensures)
+    c.refused.ensures ∙ ap (settled_if u.edition u.m u.n u.state) (sym c.before.before.refusal.given.1 ∙ d.night-tested.ensures)
 
 returns-2 : tie.Need-returns-2
 returns-2 c =
     let d = c.before.before.before.before in
     let u = c.before.before.before.before.before.before.before.before.before.before.before.before.before.before.before.args in
-    c.solve-night.ensures ∙ ap (solvedIn u.edition u.m u.n) c.before.fill-night.ensures
-    ∙ ap (settledIf u.edition u.m u.n u.state) (sym c.before.before.enum_told.given.1 ∙ d.night-tested.ensures)
+    c.solve-night.ensures ∙ ap (solved_in u.edition u.m u.n) c.before.fill-night.ensures
+    ∙ ap (settled_if u.edition u.m u.n u.state) (sym c.before.before.enum_told.given.1 ∙ d.night-tested.ensures)
 
 pub settle-in-spec : {M : Type 1} → statement M
 settle-in-spec =

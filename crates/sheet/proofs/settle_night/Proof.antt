@@ -5,14 +5,14 @@ use native.Mathlib.Omega.{arith}
 use mathlib.Core.Path.{ap, ◌∙◌}
 use Prim.Native.Nat.{ℕ}
 use borrow.Author.Rules.{rules}
-use Rattle.matrix.proofs.SmallLimits.{sheetSide-small}
-use Rattle.sheet.specs.Steps.{readInto}
-use Rattle.sheet.proofs.Solver.{state-settles}
+use Rattle.matrix.proofs.SmallLimits.{sheet_side-small}
+use Rattle.sheet.specs.Steps.{read_into}
+use Rattle.sheet.proofs.Solver.{state_settles}
 use Rattle.sheet.proofs.settle_night.Statement.{statement}
 use Rattle.sheet.proofs.settle_night.Tie as tie
 
 few : (c : tie.Start) → c.args.n ≤ 64
-few c = omega (arith, c.requires.1, sheetSide-small)
+few c = omega (arith, c.requires.1, sheet_side-small)
 
 places : (c : tie.Start) → c.args.m * c.args.n ≤ 4096
 places c = let h : c.args.m ≤ 64 = omega (arith, c.requires.0, few c) in mul-le-mul h (few c)
@@ -42,8 +42,8 @@ returns : tie.Need-returns
 returns c =
     let s = c.before.before.before.before.before.before in
     let r = c.before.before in
-    state-settles s.args.edition s.args.m s.args.n s.args.sheet.now s.requires.0 s.requires.1 r.before.fresh.ensures
-    (r.read-night.ensures ∙ ap (λ (d : ℕ). readInto d (s.args.m * s.args.n) s.args.sheet.now r.before.fresh.result) r.before.before.distance-due.ensures)
+    state_settles s.args.edition s.args.m s.args.n s.args.sheet.now s.requires.0 s.requires.1 r.before.fresh.ensures
+    (r.read-night.ensures ∙ ap (λ (d : ℕ). read_into d (s.args.m * s.args.n) s.args.sheet.now r.before.fresh.result) r.before.before.distance-due.ensures)
     c.before.read-bars.ensures c.settle-in.ensures
 
 pub settle-night-spec : {M : Type 1} → statement M

@@ -6,7 +6,7 @@ use native.Mathlib.Omega.{arith}
 use borrow.Author.Rules.{rules}
 use lib.ListN.{take}
 use Rattle.lapjv.specs.Solve.{lent_of, solve}
-use Rattle.lapjv.proofs.Determined.{told-determines}
+use Rattle.lapjv.proofs.Determined.{told_determines}
 use Rattle.sheet.proofs.solve_arrays.Statement.{statement}
 use Rattle.sheet.proofs.solve_arrays.Tie as tie
 
@@ -28,7 +28,7 @@ solve-requires c κs = search rules
 returns : tie.Need-returns
 returns c =
     let u = c.before.before.before.before.before.before.before.before.before.args in
-    told-determines _ _ c.solve.ensures
+    told_determines _ _ c.solve.ensures
     ∙ ap (λ (m : ℕ). solve u.n (take m u.costs.now) (lent_of u.cols.now u.rows.now u.row-prices.now u.col-prices.now u.indices.now u.numbers.now)) (sub-zero (u.n * u.n))
 
 pub solve-arrays-spec : {M : Type 1} → statement M

@@ -7,8 +7,8 @@ use borrow.Author.Rules.{rules}
 use borrow.Author.Tests.{lt-ltb, le-ltb}
 use lib.IntN.{ℤ}
 use mir.Facts.{to_z-of_z}
-use Rattle.bars.specs.Barred.{firstBarred}
-use Rattle.bars.specs.Masks.{reachedMask, shownRows}
+use Rattle.bars.specs.Barred.{first_barred}
+use Rattle.bars.specs.Masks.{reached_mask, shown_rows}
 use Rattle.sheet.specs.declared.State.{State}
 use Rattle.sheet.specs.declared.Settled.{Settled}
 use Rattle.sheet.specs.declared.Reply.TheVariants.{Accepted, Blocked}
@@ -24,10 +24,10 @@ abbrev as_is : tie.Start → ℤ → Settled
 as_is s total = record { reply = Accepted s.args.edition s.args.m s.args.n total; state = s.args.state }
 
 abbrev bar : tie.Start → ℕ
-bar s = firstBarred s.args.n s.args.state.bars s.args.state.cols
+bar s = first_barred s.args.n s.args.state.bars s.args.state.cols
 
 abbrev either : tie.Start → Bool → Settled
-either s t = cond t (with_rows (shownRows s.args.n s.args.state.bars s.args.state.cols)) (as_is s s.args.total)
+either s t = cond t (with_rows (shown_rows s.args.n s.args.state.bars s.args.state.cols)) (as_is s s.args.total)
 
 first-barred-requires : tie.Need-first-barred-requires
 first-barred-requires c κs = c.before.before.before.before.before.before.before.before.before.before.requires
@@ -46,7 +46,7 @@ returns c =
     let s = c.before.before.before.before.before.before.before.before.before.before.before.before.before.before.before.before in
     let e = t.before.first-barred.ensures in
     c.blocked.ensures
-    ∙ ap with_rows (c.before.rows-shown.ensures ∙ ap (reachedMask s.args.n s.args.state.bars s.args.state.cols) e)
+    ∙ ap with_rows (c.before.rows-shown.ensures ∙ ap (reached_mask s.args.n s.args.state.bars s.args.state.cols) e)
     ∙ ap (either s) (sym (lt-ltb (bar s) s.args.n (omega (arith, e, t.if1.true))))
 
 returns-2 : tie.Need-returns-2

@@ -9,18 +9,18 @@ use lib.IntN.{ℤ}
 use lib.ListN.{length, take, drop}
 use lib.Seq.{length-take-le}
 use mir.Facts.{to_z-of_z}
-use Rattle.layout.specs.Slips.{slipOf, slipLength}
+use Rattle.layout.specs.Slips.{slip_of, slip_length}
 use Rattle.sheet.proofs.write_arrays.Statement.{statement}
 use Rattle.sheet.proofs.write_arrays.Tie as tie
 
 -- the parts that are lent are the first entries
-fronts : (slip : List ℕ) (edition m n : ℕ) (cols : List ℕ) (rowPrices columnPrices : List ℤ) {read total : ℤ} → read ≡ total → m ≤ length cols → n ≤ length columnPrices
-    → slipOf edition (length (take (m - 0) cols)) (length (take (n - 0) columnPrices)) (take (m - 0) cols) (take (m - 0) rowPrices) (take (n - 0) columnPrices) read
-    ++ drop (slipLength edition (length (take (m - 0) cols)) (length (take (n - 0) columnPrices))) slip
-    ≡ slipOf edition m n (take m cols) (take m rowPrices) (take n columnPrices) total ++ drop (slipLength edition m n) slip
-fronts slip edition m n cols rowPrices columnPrices {total} e h k =
+fronts : (slip : List ℕ) (edition m n : ℕ) (cols : List ℕ) (prices_of_rows prices_of_columns : List ℤ) {read total : ℤ} → read ≡ total → m ≤ length cols → n ≤ length prices_of_columns
+    → slip_of edition (length (take (m - 0) cols)) (length (take (n - 0) prices_of_columns)) (take (m - 0) cols) (take (m - 0) prices_of_rows) (take (n - 0) prices_of_columns) read
+    ++ drop (slip_length edition (length (take (m - 0) cols)) (length (take (n - 0) prices_of_columns))) slip
+    ≡ slip_of edition m n (take m cols) (take m prices_of_rows) (take n prices_of_columns) total ++ drop (slip_length edition m n) slip
+fronts slip edition m n cols prices_of_rows prices_of_columns {total} e h k =
     rw (sub-zero m, sub-zero n, e)
-    (ap₂ (λ (a b : ℕ). slipOf edition a b (take m cols) (take m rowPrices) (take n columnPrices) total ++ drop (slipLength edition a b) slip) (length-take-le m cols h) (length-take-le n columnPrices k))
+    (ap₂ (λ (a b : ℕ). slip_of edition a b (take m cols) (take m prices_of_rows) (take n prices_of_columns) total ++ drop (slip_length edition a b) slip) (length-take-le m cols h) (length-take-le n prices_of_columns k))
 
 sub-write-slip : tie.Need-overflow-sub-write-slip
 sub-write-slip c = search rules
@@ -38,7 +38,7 @@ part-write-slip-start-2 : tie.Need-slice-bounds-write-slip-start-2
 part-write-slip-start-2 c = search rules
 
 part-write-slip-end-2 : tie.Need-slice-bounds-write-slip-end-2
-part-write-slip-end-2 c = omega (arith, c.before.before.before.all-row-prices.given.0)
+part-write-slip-end-2 c = omega (arith, c.before.before.before.all_row_prices.given.0)
 
 sub-write-slip-3 : tie.Need-overflow-sub-write-slip-3
 sub-write-slip-3 c = search rules

@@ -5,7 +5,7 @@ use borrow.Author.Rules.{rules}
 use lib.IntN.{ℤ}
 use lib.ListN.{take, drop}
 use mir.Facts.{to_z-of_z}
-use Rattle.layout.specs.Slips.{slipOf, slipLength}
+use Rattle.layout.specs.Slips.{slip_of, slip_length}
 use Rattle.sheet.proofs.write_state.Statement.{statement}
 use Rattle.sheet.proofs.write_state.Tie as tie
 
@@ -21,7 +21,7 @@ returns c =
     let u = start.args in
     let s = u.state in
     c.before.before.write-arrays.ensures
-    ∙ ap (λ (t : ℤ). slipOf u.edition u.m u.n (take u.m s.cols) (take u.m s.row_prices) (take u.n s.col_prices) t ++ drop (slipLength u.edition u.m u.n) u.slip.now) (to_z-of_z start.ranges.total)
+    ∙ ap (λ (t : ℤ). slip_of u.edition u.m u.n (take u.m s.cols) (take u.m s.row_prices) (take u.n s.col_prices) t ++ drop (slip_length u.edition u.m u.n) u.slip.now) (to_z-of_z start.ranges.total)
 
 pub write-state-spec : {M : Type 1} → statement M
 write-state-spec = tie.close (tie.spec write-arrays-requires same_length returns)

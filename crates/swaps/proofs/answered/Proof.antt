@@ -4,7 +4,7 @@ use mathlib.Core.Path.{ap, ◌∙◌}
 use borrow.Author.Rules.{rules}
 use mir.Syntax.{w64}
 use Rattle.ints.proofs.Bits.{read_back}
-use Rattle.swaps.specs.Entries.{lent_of, toldOf}
+use Rattle.swaps.specs.Entries.{lent_of, told_of}
 use Rattle.swaps.specs.Found.{CanFindIn}
 use Rattle.swaps.proofs.Entering.{can-total, refused-outcome, told-outcome}
 use Rattle.swaps.proofs.answered.Statement.{statement}
@@ -25,7 +25,7 @@ returns : tie.Need-returns
 returns c =
     let v = c.before in
     let u = v.before.before.before.before.before.before.args in
-    ap toldOf (refused-outcome u.m u.n u.costs.now u.bars.now u.cols.now u.us.now u.vs.now (lent_of u.list.now u.indices.now u.numbers.now) v.verdict.given.1)
+    ap told_of (refused-outcome u.m u.n u.costs.now u.bars.now u.cols.now u.us.now u.vs.now (lent_of u.list.now u.indices.now u.numbers.now) v.verdict.given.1)
 
 enum_told : tie.Need-enum-told
 enum_told c = search rules
@@ -52,7 +52,7 @@ returns-2 c =
     let f = c.before.before.before.before.before in
     let t = f.before.before.before.before in
     let u = (start t.before).args in
-    ap toldOf
+    ap told_of
     (told-outcome u.m u.n u.costs.now u.bars.now u.cols.now u.us.now u.vs.now (lent_of u.list.now u.indices.now u.numbers.now) t.before.enum_told.given.1
     (read_back w64 t.total_of.result t.total_of.type-inv ∙ t.total_of.ensures) f.find-second.ensures)
 

@@ -1,7 +1,7 @@
 -- `lent_long` runs test 3 of list 6 and then 4. Assumes nothing.
 use mathlib.Core.Path.{sym, ◌∙◌}
 use borrow.Author.Rules.{rules}
-use Rattle.matrix.proofs.Verdicts.{passed_first, then-assoc, after}
+use Rattle.matrix.proofs.Verdicts.{passed_first, then_assoc, after}
 use Rattle.swaps.proofs.lent_long.Statement.{statement}
 use Rattle.swaps.proofs.lent_long.Tie as tie
 
@@ -12,7 +12,7 @@ rooms-long-requires : tie.Need-rooms-long-requires
 rooms-long-requires c κs = λ e. c.before.before.before.requires (passed_first _ _ (sym c.list-long.ensures ∙ e))
 
 returns : tie.Need-returns
-returns c = after _ c.rooms-long.ensures c.before.list-long.ensures ∙ then-assoc _ _ _
+returns c = after _ c.rooms_long_lem.ensures c.before.list-long.ensures ∙ then_assoc _ _ _
 
 pub lent-long-spec : {M : Type 1} → statement M
 lent-long-spec = tie.close (tie.spec list-long-requires rooms-long-requires returns)

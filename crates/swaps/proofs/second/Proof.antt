@@ -4,8 +4,8 @@ use borrow.Author.Rules.{rules}
 use Rattle.assignment.specs.Pairings.{Night}
 use Rattle.bars.proofs.Passed.{square-unbarred}
 use Rattle.matrix.specs.declared.Verdict.{Verdict}
-use Rattle.swaps.specs.Entries.{lent_of, outcome, toldOf, secondSquare}
-use Rattle.swaps.proofs.Entering.{square-can-find}
+use Rattle.swaps.specs.Entries.{lent_of, outcome, told_of, second_square}
+use Rattle.swaps.proofs.Entering.{square_can_find}
 use Rattle.swaps.proofs.second.Statement.{statement}
 use Rattle.swaps.proofs.second.Tie as tie
 
@@ -23,7 +23,7 @@ answered-requires : tie.Need-answered-requires
 answered-requires c κs = λ e.
     let t = c.before.before.before.before in
     let u = (start t).args in
-    square-can-find u.n u.costs.now u.cols.now u.rows.now u.us.now u.vs.now (lent_of u.list.now u.indices.now u.numbers.now) (sym t.tested.ensures ∙ e)
+    square_can_find u.n u.costs.now u.cols.now u.rows.now u.us.now u.vs.now (lent_of u.list.now u.indices.now u.numbers.now) (sym t.tested.ensures ∙ e)
 
 same_length : tie.Need-same-length
 same_length c = search rules
@@ -35,13 +35,13 @@ same-length-3 : tie.Need-same-length-3
 same-length-3 c = search rules
 
 returns : tie.Need-returns
-unfolding secondSquare
+unfolding second_square
 returns c =
     let a = c.before.before.before.before.before in
     let t = a.before.before.before.before.before in
     let u = (start t).args in
     a.answered.ensures
-    ∙ ap₂ (λ (night : Night) (v : Verdict). toldOf (outcome night u.cols.now u.us.now u.vs.now (lent_of u.list.now u.indices.now u.numbers.now) v))
+    ∙ ap₂ (λ (night : Night) (v : Verdict). told_of (outcome night u.cols.now u.us.now u.vs.now (lent_of u.list.now u.indices.now u.numbers.now) v))
     (square-unbarred u.n u.costs.now) t.tested.ensures
 
 pub second_spec : {M : Type 1} → statement M

@@ -2,10 +2,10 @@
 use mathlib.Core.Path.{sym, ap, ◌∙◌}
 use mathlib.Core.List.{[]}
 use borrow.Author.Rules.{rules}
-use Rattle.bars.specs.Barred.{nightOf}
+use Rattle.bars.specs.Barred.{night_of}
 use Rattle.matrix.specs.declared.Verdict.{Verdict}
-use Rattle.swaps.specs.Entries.{lent_of, outcome, toldOf, secondOblong}
-use Rattle.swaps.proofs.Entering.{oblong-can-find}
+use Rattle.swaps.specs.Entries.{lent_of, outcome, told_of, second_oblong}
+use Rattle.swaps.proofs.Entering.{oblong_can_find}
 use Rattle.swaps.proofs.second_oblong.Statement.{statement}
 use Rattle.swaps.proofs.second_oblong.Tie as tie
 
@@ -23,7 +23,7 @@ answered-requires : tie.Need-answered-requires
 answered-requires c κs = λ e.
     let t = c.before.before.before.before in
     let u = (start t).args in
-    oblong-can-find u.m u.n u.costs.now u.cols.now u.us.now u.vs.now (lent_of u.list.now u.indices.now u.numbers.now) (sym t.tested-oblong.ensures ∙ e)
+    oblong_can_find u.m u.n u.costs.now u.cols.now u.us.now u.vs.now (lent_of u.list.now u.indices.now u.numbers.now) (sym t.tested-oblong.ensures ∙ e)
 
 same_length : tie.Need-same-length
 same_length c = search rules
@@ -35,13 +35,13 @@ same-length-3 : tie.Need-same-length-3
 same-length-3 c = search rules
 
 returns : tie.Need-returns
-unfolding secondOblong
+unfolding second_oblong
 returns c =
     let a = c.before.before.before.before.before in
     let t = a.before.before.before.before.before in
     let u = (start t).args in
     a.answered.ensures
-    ∙ ap (λ (v : Verdict). toldOf (outcome (nightOf u.m u.n u.costs.now []) u.cols.now u.us.now u.vs.now (lent_of u.list.now u.indices.now u.numbers.now) v))
+    ∙ ap (λ (v : Verdict). told_of (outcome (night_of u.m u.n u.costs.now []) u.cols.now u.us.now u.vs.now (lent_of u.list.now u.indices.now u.numbers.now) v))
     t.tested-oblong.ensures
 
 pub second-oblong-spec : {M : Type 1} → statement M

@@ -6,22 +6,22 @@ use native.Mathlib.Omega.{arith}
 use borrow.Author.Rules.{rules}
 use lib.ListN.{length}
 use Rattle.matrix.specs.Asked.{ColumnsListed}
-use Rattle.matrix.specs.Limits.{sheetSide}
+use Rattle.matrix.specs.Limits.{sheet_side}
 use Rattle.matrix.specs.Verdicts.{Passes}
-use Rattle.matrix.proofs.SmallLimits.{sheetSide-within}
-use Rattle.matrix.proofs.Verdicts.{then-iff, passed_first, after}
+use Rattle.matrix.proofs.SmallLimits.{sheet_side-within}
+use Rattle.matrix.proofs.Verdicts.{then_iff, passed_first, after}
 use Rattle.matrix.proofs.Passed.{columns-inside}
-use Rattle.checker.proofs.Oblong.{shaped-oblong-iff}
-use Rattle.swaps.specs.Entries.{secondOblongTests}
+use Rattle.checker.proofs.Oblong.{shaped_oblong_iff}
+use Rattle.swaps.specs.Entries.{second_oblong_tests}
 use Rattle.swaps.proofs.tested_oblong.Statement.{statement}
 use Rattle.swaps.proofs.tested_oblong.Tie as tie
 
 -- past 1, 23, 2 and 3 of lists 1, 3 and 4; past all of 3 and 4; and past 5, 6 and 7
 shape : (c : tie.After-shaped-oblong) → let u = c.before.before.before.before.args in Passes c.shaped-oblong.result
-    → (u.n ≤ sheetSide) × (u.m ≤ u.n) × (length u.costs.now ≡ u.m * u.n) × (u.m ≤ length u.cols.now) × (u.m ≤ length u.us.now) × (u.n ≤ length u.vs.now)
+    → (u.n ≤ sheet_side) × (u.m ≤ u.n) × (length u.costs.now ≡ u.m * u.n) × (u.m ≤ length u.cols.now) × (u.m ≤ length u.us.now) × (u.n ≤ length u.vs.now)
 shape c e =
     let u = c.before.before.before.before.args in
-    (shaped-oblong-iff u.m u.n u.costs.now (length u.cols.now) (length u.us.now) (length u.vs.now)).0 (sym c.shaped-oblong.ensures ∙ e)
+    (shaped_oblong_iff u.m u.n u.costs.now (length u.cols.now) (length u.us.now) (length u.vs.now)).0 (sym c.shaped-oblong.ensures ∙ e)
 
 roomy : (c : tie.After-lent-long) → Passes c.lent-long.result → Passes c.before.shaped-oblong.result
 roomy c e = passed_first _ _ (sym c.lent-long.ensures ∙ e)
@@ -30,15 +30,15 @@ chosen : (c : tie.After-paired-oblong) → let u = c.before.before.before.before
     → Passes c.before.before.shaped-oblong.result × ColumnsListed u.m u.n u.cols.now
 chosen c e =
     let u = c.before.before.before.before.before.before.args in
-    let t = (then-iff _ _).0 (sym c.paired-oblong.ensures ∙ e) in
+    let t = (then_iff _ _).0 (sym c.paired-oblong.ensures ∙ e) in
     let r = roomy c.before t.0 in
-    (r, record { listed = (shape c.before.before r).3; inside = (columns-inside u.m u.n u.cols.now).0 ((then-iff _ _).0 ((then-iff _ _).0 t.1).0).1 })
+    (r, record { listed = (shape c.before.before r).3; inside = (columns-inside u.m u.n u.cols.now).0 ((then_iff _ _).0 ((then_iff _ _).0 t.1).0).1 })
 
 shaped-oblong-requires : tie.Need-shaped-oblong-requires
 shaped-oblong-requires c κs = search rules
 
 lent-long-requires : tie.Need-lent-long-requires
-lent-long-requires c κs = λ e. le_trans (shape c e).0 sheetSide-within
+lent-long-requires c κs = λ e. le_trans (shape c e).0 sheet_side-within
 
 paired-oblong-requires : tie.Need-paired-oblong-requires
 paired-oblong-requires c κs = λ e. (shape c.before (roomy c e)).3
@@ -50,7 +50,7 @@ priced-requires : tie.Need-priced-requires
 priced-requires c κs = λ e.
     let h = chosen c.before e in
     let s = shape c.before.before.before h.0 in
-    let small = le_trans s.0 sheetSide-within in
+    let small = le_trans s.0 sheet_side-within in
     (le_trans s.1 small, small, s.2, h.1, s.4, s.5, λ i set. absurd (set refl))
 
 spares-not-below-requires : tie.Need-spares-not-below-requires
@@ -61,11 +61,11 @@ spares-not-below-requires c κs = λ e.
     (record { listed = h.1.listed; inside = λ i l. omega (arith, h.1.inside i l, s.5) }, s.5)
 
 returns : tie.Need-returns
-unfolding secondOblongTests
+unfolding second_oblong_tests
 returns c =
     let d = c.before in
     let p = d.before.before in
-    after _ c.spares-not-below.ensures
+    after _ c.spares_not_below_lem.ensures
     (after _ d.priced.ensures
     (after _ p.paired-oblong.ensures (after _ p.before.lent-long.ensures p.before.before.shaped-oblong.ensures)))
 

@@ -10,14 +10,14 @@ use mir.Syntax.{w64}
 use mir.Val.{to_z}
 use mir.Facts.{to_z-of_z}
 use Rattle.lists.specs.Permutations.{at}
-use Rattle.augmentation.specs.DirectHit.{reducedIn, freeAt, LastOf}
-use Rattle.augmentation.proofs.Hits.{Passed, none_passed, one-more-passed, last_found, none_found}
+use Rattle.augmentation.specs.DirectHit.{reduced_in, free_at, LastOf}
+use Rattle.augmentation.proofs.Hits.{Passed, none_passed, one_more_passed, last_found, none_found}
 use Rattle.augmentation.proofs.direct.last_free_at.Statement.{statement}
 use Rattle.augmentation.proofs.direct.last_free_at.Tie as tie
 
 -- the test
 abbrev test : ℕ → List ℤ → List ℤ → List ℕ → ℤ → ℕ → Bool
-test n row v rows h = freeAt n (reducedIn row v) (at rows) h
+test n row v rows h = free_at n (reduced_in row v) (at rows) h
 
 -- The bound is the parameter.
 bounded : {n r : ℕ} (row v : List ℤ) (rows : List ℕ) {x h : ℤ} → x ≡ h → LastOf n (test n row v rows x) r → LastOf n (test n row v rows h) r
@@ -60,7 +60,7 @@ loop-again : tie.Need-loop-preserved invariant-loop decreases-loop
 loop-again c =
     let i = c.before.before in
     let l = i.before.loop in
-    one-more-passed _ _ l.passed l.invariant _ (omega (arith, i.loop-test.true)) (sym c.before.is-free-at.ensures ∙ c.if1.false)
+    one_more_passed _ _ l.passed l.invariant _ (omega (arith, i.loop-test.true)) (sym c.before.is-free-at.ensures ∙ c.if1.false)
 
 returns-2 : tie.Need-returns-2 invariant-loop decreases-loop
 returns-2 c =

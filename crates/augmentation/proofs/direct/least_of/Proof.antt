@@ -10,8 +10,8 @@ use mir.Syntax.{w64}
 use mir.Val.{to_z}
 use Rattle.ints.proofs.Bits.{read_back}
 use Rattle.rules.specs.Lowest.{lowest}
-use Rattle.augmentation.specs.DirectHit.{lesser, reducedIn}
-use Rattle.augmentation.proofs.Hits.{least_first, least_more, least-four-more}
+use Rattle.augmentation.specs.DirectHit.{lesser, reduced_in}
+use Rattle.augmentation.proofs.Hits.{least_first, least_more, least_four_more}
 use Rattle.augmentation.proofs.direct.least_of.Statement.{statement}
 use Rattle.augmentation.proofs.direct.least_of.Tie as tie
 
@@ -19,7 +19,7 @@ use Rattle.augmentation.proofs.direct.least_of.Tie as tie
 record Least (row v : List ℤ) (x : ℤ) (j : ℕ) : Type 0 where
   some : 1 ≤ j
   most : j ≤ length row
-  is : x ≡ (lowest j (reducedIn row v)).value
+  is : x ≡ (lowest j (reduced_in row v)).value
 
 abbrev invariant-loop : tie.invariant-loop
 invariant-loop row v least₀ j₀ least j = Least row v (to_z w64 least) j
@@ -43,7 +43,7 @@ loop-holds c =
     record {
       some = omega arith;
       most = s.requires.1;
-      is = read_back w64 r.result r.type-inv ∙ r.ensures ∙ sym (least_first (reducedIn s.args.row.now s.args.v.now));
+      is = read_back w64 r.result r.type-inv ∙ r.ensures ∙ sym (least_first (reduced_in s.args.row.now s.args.v.now));
     }
 
 sub-loop : tie.Need-overflow-sub-loop invariant-loop decreases-loop invariant-loop2 decreases-loop2
@@ -78,7 +78,7 @@ loop-again c =
       most = four i;
       is =
           read_back w64 c.lesser.result c.lesser.type-inv ∙ c.lesser.ensures ∙ ap₂ lesser l.invariant.is x
-          ∙ sym (least-four-more (reducedIn u.row.now u.v.now) l.j l.invariant.some);
+          ∙ sym (least_four_more (reduced_in u.row.now u.v.now) l.j l.invariant.some);
     }
 
 loop2-holds : tie.Need-loop2-init invariant-loop decreases-loop invariant-loop2 decreases-loop2
@@ -112,7 +112,7 @@ loop2-again c =
       most = omega (arith, i.loop2-test.true);
       is =
           read_back w64 c.lesser2.result c.lesser2.type-inv ∙ c.lesser2.ensures ∙ ap₂ lesser l.invariant.is x
-          ∙ sym (least_more (reducedIn u.row.now u.v.now) l.j l.invariant.some);
+          ∙ sym (least_more (reduced_in u.row.now u.v.now) l.j l.invariant.some);
     }
 
 returns : tie.Need-returns invariant-loop decreases-loop invariant-loop2 decreases-loop2
@@ -120,7 +120,7 @@ returns c =
     let l = c.before.loop2 in
     let u = (start c.before).args in
     let e : l.j ≡ length u.row.now = omega (arith, l.invariant.most, c.loop2-test.false) in
-    l.invariant.is ∙ ap (λ (m : ℕ). (lowest m (reducedIn u.row.now u.v.now)).value) e
+    l.invariant.is ∙ ap (λ (m : ℕ). (lowest m (reduced_in u.row.now u.v.now)).value) e
 
 pub least-of-spec : {M : Type 1} → statement M
 least-of-spec =

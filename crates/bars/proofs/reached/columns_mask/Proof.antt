@@ -9,15 +9,15 @@ use lib.Bits.{bit_or, bit_xor}
 use borrow.Author.Rules.{rules}
 use Rattle.lists.specs.Runs.{upward}
 use Rattle.lists.specs.Permutations.{at}
-use Rattle.lists.proofs.Runs.{upward-none, upward-last}
+use Rattle.lists.proofs.Runs.{upward_none, upward-last}
 use Rattle.lists.specs.Counts.{bit_of}
-use Rattle.bars.specs.Masks.{allowedMask, columnsMask}
+use Rattle.bars.specs.Masks.{allowed_mask, columns_mask}
 use Rattle.bars.proofs.reached.columns_mask.Statement.{statement}
 use Rattle.bars.proofs.reached.columns_mask.Tie as tie
 
 -- the turn, as the definition has it
 abbrev joins : ℕ → List ℕ → ℕ → ℕ → ℕ → ℕ
-joins n bars rows i c = cond (bit_of rows i) (bit_or c (allowedMask n (at bars i))) c
+joins n bars rows i c = cond (bit_of rows i) (bit_or c (allowed_mask n (at bars i))) c
 
 abbrev invariant-loop : tie.invariant-loop
 invariant-loop n bars rows all columns₀ i₀ columns i = (i ≤ n) × (columns ≡ upward 0 i (joins n bars rows) 0) × (all ≡ 2 ^ n - 1)
@@ -31,7 +31,7 @@ full-requires c κs = search rules
 loop-holds : tie.Need-loop-init invariant-loop decreases-loop
 loop-holds c =
     let a = c.before.before.args in
-    (omega arith, sym (upward-none 0 0 (joins a.n a.bars.now a.rows) 0 (omega arith)), c.full.ensures)
+    (omega arith, sym (upward_none 0 0 (joins a.n a.bars.now a.rows) 0 (omega arith)), c.full.ensures)
 
 has-requires : tie.Need-has-requires invariant-loop decreases-loop
 has-requires c κs = omega (arith, c.loop-test.true, c.before.before.before.before.requires)
@@ -57,7 +57,7 @@ turned n bars rows i c all x t e a h came =
     r : ℕ
     r = upward 0 i (joins n bars rows) 0
 
-    joined : bit_of rows i ≡ true → bit_or r (allowedMask n (at bars i)) ≡ joins n bars rows i r
+    joined : bit_of rows i ≡ true → bit_or r (allowed_mask n (at bars i)) ≡ joins n bars rows i r
     joined q = rw q
 
     stayed : bit_of rows i ≡ false → r ≡ joins n bars rows i r
@@ -76,8 +76,8 @@ loop-again c =
       l.invariant.2,
     )
 
-opened : (n : ℕ) (bars : List ℕ) (rows : ℕ) → upward 0 n (joins n bars rows) 0 ≡ columnsMask n bars rows
-unfolding columnsMask
+opened : (n : ℕ) (bars : List ℕ) (rows : ℕ) → upward 0 n (joins n bars rows) 0 ≡ columns_mask n bars rows
+unfolding columns_mask
 opened n bars rows = refl
 
 returns : tie.Need-returns invariant-loop decreases-loop

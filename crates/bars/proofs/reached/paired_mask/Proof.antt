@@ -9,9 +9,9 @@ use lib.Bits.{bit_or}
 use borrow.Author.Rules.{rules}
 use Rattle.lists.specs.Runs.{upward}
 use Rattle.lists.specs.Permutations.{at}
-use Rattle.lists.proofs.Runs.{upward-none, upward-last}
+use Rattle.lists.proofs.Runs.{upward_none, upward-last}
 use Rattle.lists.specs.Counts.{bit_of}
-use Rattle.bars.specs.Masks.{pairedMask}
+use Rattle.bars.specs.Masks.{paired_mask}
 use Rattle.bars.proofs.reached.paired_mask.Statement.{statement}
 use Rattle.bars.proofs.reached.paired_mask.Tie as tie
 
@@ -28,7 +28,7 @@ decreases-loop n cols columns rows set₀ i₀ set i = n - i
 loop-holds : tie.Need-loop-init invariant-loop decreases-loop
 loop-holds c =
     let a = c.before.args in
-    (omega arith, sym (upward-none 0 0 (joins a.cols.now a.columns) a.rows (omega arith)))
+    (omega arith, sym (upward_none 0 0 (joins a.cols.now a.columns) a.rows (omega arith)))
 
 mul-has : tie.Need-overflow-mul-has invariant-loop decreases-loop
 mul-has c = search rules
@@ -78,8 +78,8 @@ loop-again c =
           (⊎_elim (λ y. inl (y.0.taken, y.2 ∙ y.1.ensures)) (λ y. inr (y.0.left, y.1)) c.if1.branch),
     )
 
-opened : (n : ℕ) (cols : List ℕ) (columns rows : ℕ) → upward 0 n (joins cols columns) rows ≡ pairedMask n cols columns rows
-unfolding pairedMask
+opened : (n : ℕ) (cols : List ℕ) (columns rows : ℕ) → upward 0 n (joins cols columns) rows ≡ paired_mask n cols columns rows
+unfolding paired_mask
 opened n cols columns rows = refl
 
 returns : tie.Need-returns invariant-loop decreases-loop

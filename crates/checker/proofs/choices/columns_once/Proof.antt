@@ -1,7 +1,7 @@
 -- `columns_once` hands a refusal on, and answers test 7 where none came. Assumes nothing.
 use mathlib.Core.Path.{◌∙◌}
 use borrow.Author.Rules.{rules}
-use Rattle.matrix.proofs.Verdicts.{fails-then, passed_then, failed-at}
+use Rattle.matrix.proofs.Verdicts.{fails_then, passed_then, failed_at}
 use Rattle.checker.proofs.choices.columns_once.Statement.{statement}
 use Rattle.checker.proofs.choices.columns_once.Tie as tie
 
@@ -9,7 +9,7 @@ enum-known-before : tie.Need-enum-known-before
 enum-known-before c = search rules
 
 returns : tie.Need-returns
-returns c = fails-then _ c.before.before2.given.1
+returns c = fails_then _ c.before.before2.given.1
 
 enum_told : tie.Need-enum-told
 enum_told c = search rules
@@ -22,7 +22,7 @@ fails-if-requires c κs = search rules
 
 returns-2 : tie.Need-returns-2
 returns-2 c =
-    passed_then _ c.before.before.enum_told.given.1 (c.fails-if.ensures ∙ failed-at _ (λ i. i) _ _ c.before.first-row-again.ensures)
+    passed_then _ c.before.before.enum_told.given.1 (c.fails-if.ensures ∙ failed_at _ (λ i. i) _ _ c.before.first-row-again.ensures)
 
 pub columns-once-spec : {M : Type 1} → statement M
 columns-once-spec = tie.close (tie.spec enum-known-before returns enum_told first-row-again-requires fails-if-requires returns-2)

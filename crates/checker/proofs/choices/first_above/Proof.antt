@@ -14,13 +14,13 @@ use mir.Facts.{to_z-of_z}
 use Rattle.ints.proofs.Bits.{read_back}
 use Rattle.lists.specs.Runs.{first}
 use Rattle.lists.specs.Permutations.{at}
-use Rattle.assignment.specs.Pairings.{signedAt}
-use Rattle.matrix.proofs.First.{Clear, clear-start, clear-more, found, ended}
+use Rattle.assignment.specs.Pairings.{signed_at}
+use Rattle.matrix.proofs.First.{Clear, clear_start, clear_more, found, ended}
 use Rattle.checker.proofs.choices.first_above.Statement.{statement}
 use Rattle.checker.proofs.choices.first_above.Tie as tie
 
 abbrev test : List ℕ → List ℤ → ℤ → ℕ → Bool
-test cols vs v i = lt_z v (signedAt vs (at cols i))
+test cols vs v i = lt_z v (signed_at vs (at cols i))
 
 abbrev invariant-loop : tie.invariant-loop
 invariant-loop m cols vs v i₀ i = (i ≤ m) × Clear (test cols vs (to_z w64 v)) i
@@ -41,7 +41,7 @@ priced : (s : tie.Start invariant-loop decreases-loop) (i : ℕ) → i < s.args.
 priced s i l = s.requires.inside i l
 
 loop-holds : tie.Need-loop-init invariant-loop decreases-loop
-loop-holds c = (omega arith, clear-start _)
+loop-holds c = (omega arith, clear_start _)
 
 mul-if1 : tie.Need-overflow-mul-if1 invariant-loop decreases-loop
 mul-if1 c = search rules
@@ -60,11 +60,11 @@ shared-slice-copy-out-if1 c = priced c.before.before.before c.before.before.loop
 
 -- what is compared is the price of the row's column
 tested : (c : tie.After-if12 invariant-loop decreases-loop) → let s = c.before.before.before.before in
-    lt_z (held s) (to_z w64 (of_z w64 (signedAt s.args.vs.now (at s.args.cols.now c.before.before.before.loop.i))))
+    lt_z (held s) (to_z w64 (of_z w64 (signed_at s.args.vs.now (at s.args.cols.now c.before.before.before.loop.i))))
     ≡ test s.args.cols.now s.args.vs.now (held s) c.before.before.before.loop.i
 tested c =
     let s = c.before.before.before.before in
-    ap (lt_z (held s)) (read_back w64 (signedAt s.args.vs.now (at s.args.cols.now c.before.before.before.loop.i)) c.if12.given)
+    ap (lt_z (held s)) (read_back w64 (signed_at s.args.vs.now (at s.args.cols.now c.before.before.before.loop.i)) c.if12.given)
 
 returns : tie.Need-returns invariant-loop decreases-loop
 returns c =
@@ -85,7 +85,7 @@ loop-again c =
     let s = c.before.before.before.before.before in
     let u = s.args in
     let l = c.before.before.before.before.loop in
-    (omega arith, clear-more (test u.cols.now u.vs.now (held s)) l.i l.invariant.1 (sym (tested c.before) ∙ c.if1.false))
+    (omega arith, clear_more (test u.cols.now u.vs.now (held s)) l.i l.invariant.1 (sym (tested c.before) ∙ c.if1.false))
 
 returns-2 : tie.Need-returns-2 invariant-loop decreases-loop
 returns-2 c =

@@ -8,13 +8,13 @@ use borrow.Author.Rules.{rules}
 use borrow.Author.Tests.{lt-ltb, le-ltb}
 use lib.Dec.{ltb}
 use Rattle.lists.specs.Permutations.{at}
-use Rattle.matrix.proofs.First.{Clear, clear-start, clear-more, found, ended}
-use Rattle.checker.specs.Tests.{usedBy}
+use Rattle.matrix.proofs.First.{Clear, clear_start, clear_more, found, ended}
+use Rattle.checker.specs.Tests.{used_by}
 use Rattle.checker.proofs.choices.first_row_again.Statement.{statement}
 use Rattle.checker.proofs.choices.first_row_again.Tie as tie
 
 abbrev test : List ℕ → ℕ → Bool
-test cols i = usedBy cols i (at cols i)
+test cols i = used_by cols i (at cols i)
 
 abbrev invariant-loop : tie.invariant-loop
 invariant-loop m cols i₀ i = (i ≤ m) × Clear (test cols) i
@@ -23,7 +23,7 @@ abbrev decreases-loop : tie.decreases-loop
 decreases-loop m cols i₀ i = m - i
 
 loop-holds : tie.Need-loop-init invariant-loop decreases-loop
-loop-holds c = (omega arith, clear-start _)
+loop-holds c = (omega arith, clear_start _)
 
 mul-first-with : tie.Need-overflow-mul-first-with invariant-loop decreases-loop
 mul-first-with c = search rules
@@ -55,7 +55,7 @@ loop-again c =
     let d = c.before in
     let u = d.before.before.before.before.before.args in
     let l = d.before.before.before.loop in
-    (omega arith, clear-more (test u.cols.now) l.i l.invariant.1 (ap (λ (k : ℕ). ltb k l.i) (sym d.first-with.ensures) ∙ le-ltb _ _ c.if1.false))
+    (omega arith, clear_more (test u.cols.now) l.i l.invariant.1 (ap (λ (k : ℕ). ltb k l.i) (sym d.first-with.ensures) ∙ le-ltb _ _ c.if1.false))
 
 returns-2 : tie.Need-returns-2 invariant-loop decreases-loop
 returns-2 c =

@@ -1,6 +1,6 @@
--- `rows_fit` hands a refusal on, and answers test 23 where none came. Assumes nothing.
+-- `rows_fit_lem` hands a refusal on, and answers test 23 where none came. Assumes nothing.
 use borrow.Author.Rules.{rules}
-use Rattle.matrix.proofs.Verdicts.{fails-then, passed_then}
+use Rattle.matrix.proofs.Verdicts.{fails_then, passed_then}
 use Rattle.checker.proofs.choices.rows_fit.Statement.{statement}
 use Rattle.checker.proofs.choices.rows_fit.Tie as tie
 
@@ -8,7 +8,7 @@ enum-known-before : tie.Need-enum-known-before
 enum-known-before c = search rules
 
 returns : tie.Need-returns
-returns c = fails-then _ c.before.before2.given.1
+returns c = fails_then _ c.before.before2.given.1
 
 enum_told : tie.Need-enum-told
 enum_told c = search rules

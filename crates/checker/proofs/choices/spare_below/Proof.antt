@@ -12,7 +12,7 @@ use mir.Syntax.{w64}
 use Rattle.ints.proofs.Bits.{read_back}
 use Rattle.lists.specs.Permutations.{at}
 use Rattle.lists.specs.Counts.{some}
-use Rattle.assignment.specs.Pairings.{signedAt}
+use Rattle.assignment.specs.Pairings.{signed_at}
 use Rattle.checker.proofs.choices.spare_below.Statement.{statement}
 use Rattle.checker.proofs.choices.spare_below.Tie as tie
 
@@ -30,7 +30,7 @@ returns : tie.Need-returns
 returns c =
     let d = c.before in
     let u = d.before.before.args in
-    with-used (some u.m (λ i. lt_z (signedAt u.vs.now u.j) (signedAt u.vs.now (at u.cols.now i))))
+    with-used (some u.m (λ i. lt_z (signed_at u.vs.now u.j) (signed_at u.vs.now (at u.cols.now i))))
     (ap (λ (k : ℕ). ltb k u.m) (sym d.first-with.ensures) ∙ lt-ltb _ _ c.if1.true)
 
 mul-first-above : tie.Need-overflow-mul-first-above
@@ -47,8 +47,8 @@ returns-2 c =
     let d = c.before.before.before in
     let u = d.before.before.args in
     ap (λ (k : ℕ). ltb k u.m) c.first_above.ensures
-    ∙ ap (λ (z : ℤ). some u.m (λ i. lt_z z (signedAt u.vs.now (at u.cols.now i)))) (read_back w64 (signedAt u.vs.now u.j) c.before.first-above-arg.given)
-    ∙ with-spare (some u.m (λ i. lt_z (signedAt u.vs.now u.j) (signedAt u.vs.now (at u.cols.now i))))
+    ∙ ap (λ (z : ℤ). some u.m (λ i. lt_z z (signed_at u.vs.now (at u.cols.now i)))) (read_back w64 (signed_at u.vs.now u.j) c.before.first-above-arg.given)
+    ∙ with-spare (some u.m (λ i. lt_z (signed_at u.vs.now u.j) (signed_at u.vs.now (at u.cols.now i))))
     (ap (λ (k : ℕ). ltb k u.m) (sym d.first-with.ensures) ∙ le-ltb _ _ c.before.before.if1.false)
 
 pub spare-below-spec : {M : Type 1} → statement M

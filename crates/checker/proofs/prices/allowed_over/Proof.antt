@@ -4,7 +4,7 @@ use mathlib.Core.Bool.{Bool, true, false, not, ◌&&◌}
 use borrow.Author.Rules.{rules}
 use lib.IntN.{ℤ}
 use mir.Facts.{to_z-of_z}
-use Rattle.checker.proofs.Places.{overAt}
+use Rattle.checker.proofs.Places.{over_at}
 use Rattle.checker.proofs.prices.allowed_over.Statement.{statement}
 use Rattle.checker.proofs.prices.allowed_over.Tie as tie
 
@@ -21,7 +21,7 @@ returns : tie.Need-returns
 returns c =
     let d = c.before in
     let u = d.before.args in
-    barred (overAt u.row.now u.u u.vs.now u.j) (sym d.has.ensures ∙ c.if1.true)
+    barred (over_at u.row.now u.u u.vs.now u.j) (sym d.has.ensures ∙ c.if1.true)
 
 over-at-requires : tie.Need-over-at-requires
 over-at-requires c κs = let s = c.before.before in (s.requires.0, rw (to_z-of_z s.ranges.u) s.requires.2, s.requires.3)
@@ -31,8 +31,8 @@ returns-2 c =
     let s = c.before.before.before in
     let u = s.args in
     c.over-at.ensures
-    ∙ ap (λ (z : ℤ). overAt u.row.now z u.vs.now u.j) (to_z-of_z s.ranges.u)
-    ∙ allowed (overAt u.row.now u.u u.vs.now u.j) (sym c.before.before.has.ensures ∙ c.before.if1.false)
+    ∙ ap (λ (z : ℤ). over_at u.row.now z u.vs.now u.j) (to_z-of_z s.ranges.u)
+    ∙ allowed (over_at u.row.now u.u u.vs.now u.j) (sym c.before.before.has.ensures ∙ c.before.if1.false)
 
 pub allowed-over-spec : {M : Type 1} → statement M
 allowed-over-spec = tie.close (tie.spec has-requires returns over-at-requires returns-2)

@@ -7,9 +7,9 @@ use borrow.Author.Rules.{rules}
 use lib.ListN.{length}
 use mir.Syntax.{w64}
 use Rattle.ints.proofs.Bits.{read_back}
-use Rattle.assignment.specs.Pairings.{signedAt}
+use Rattle.assignment.specs.Pairings.{signed_at}
 use Rattle.matrix.proofs.SmallLimits.{side-small}
-use Rattle.matrix.proofs.RowParts.{row-of-length}
+use Rattle.matrix.proofs.RowParts.{row_of_length}
 use Rattle.checker.proofs.Places.{row_first}
 use Rattle.checker.proofs.prices.column_over.Statement.{statement}
 use Rattle.checker.proofs.prices.column_over.Tie as tie
@@ -32,7 +32,7 @@ bits-at-requires c κs = search rules
 row-size : (c : tie.After-row-of) → length c.row_of.result.now ≡ c.before.before.args.n
 row-size c =
     let s = c.before.before in
-    ap length c.row_of.ensures ∙ row-of-length s.args.n s.args.costs.now s.args.i (inside s)
+    ap length c.row_of.ensures ∙ row_of_length s.args.n s.args.costs.now s.args.i (inside s)
 
 first-over-requires : tie.Need-first-over-requires
 first-over-requires c κs =
@@ -42,7 +42,7 @@ first-over-requires c κs =
     let size = row-size d in
     let p = s.requires.1 in (
       λ set. omega (arith, s.requires.2 i (λ e. set (c.bits_at.ensures ∙ e))),
-      rw (read_back w64 (signedAt s.args.us.now i) c.before.first-over-arg.given) (p.row-prices.within i s.requires.0),
+      rw (read_back w64 (signed_at s.args.us.now i) c.before.first-over-arg.given) (p.row-prices.within i s.requires.0),
       record { enough = omega (arith, p.column-prices.enough); within = λ j l. p.column-prices.within j (omega arith) },
     )
 
@@ -54,7 +54,7 @@ returns c =
     let u = s.args in
     c.first-over.ensures
     ∙ row_first u.m u.n u.costs.now u.us.now u.vs.now u.bars.now u.i (inside s) d.row_of.result.now d.row_of.ensures _
-    (read_back w64 (signedAt u.us.now u.i) b.before.first-over-arg.given) b.bits_at.result b.bits_at.ensures
+    (read_back w64 (signed_at u.us.now u.i) b.before.first-over-arg.given) b.bits_at.result b.bits_at.ensures
 
 pub column-over-spec : {M : Type 1} → statement M
 column-over-spec =

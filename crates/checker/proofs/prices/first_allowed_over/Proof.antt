@@ -9,13 +9,13 @@ use mir.Syntax.{w64}
 use mir.Val.{to_z, of_z}
 use mir.Facts.{to_z-of_z}
 use Rattle.lists.specs.Runs.{first}
-use Rattle.matrix.proofs.First.{Clear, clear-start, clear-more, found, ended}
-use Rattle.checker.proofs.Places.{overBits}
+use Rattle.matrix.proofs.First.{Clear, clear_start, clear_more, found, ended}
+use Rattle.checker.proofs.Places.{over_bits}
 use Rattle.checker.proofs.prices.first_allowed_over.Statement.{statement}
 use Rattle.checker.proofs.prices.first_allowed_over.Tie as tie
 
 abbrev invariant-loop : tie.invariant-loop
-invariant-loop row u vs bits j₀ j = (j ≤ length row) × Clear (overBits row (to_z w64 u) vs bits) j
+invariant-loop row u vs bits j₀ j = (j ≤ length row) × Clear (over_bits row (to_z w64 u) vs bits) j
 
 abbrev decreases-loop : tie.decreases-loop
 decreases-loop row u vs bits j₀ j = length row - j
@@ -25,11 +25,11 @@ abbrev held : tie.Start invariant-loop decreases-loop → ℤ
 held s = to_z w64 (of_z w64 s.args.u)
 
 same : (s : tie.Start invariant-loop decreases-loop)
-    → first (length s.args.row.now) (overBits s.args.row.now (held s) s.args.vs.now s.args.bits) ≡ first (length s.args.row.now) (overBits s.args.row.now s.args.u s.args.vs.now s.args.bits)
-same s = ap (λ (z : ℤ). first (length s.args.row.now) (overBits s.args.row.now z s.args.vs.now s.args.bits)) (to_z-of_z s.ranges.u)
+    → first (length s.args.row.now) (over_bits s.args.row.now (held s) s.args.vs.now s.args.bits) ≡ first (length s.args.row.now) (over_bits s.args.row.now s.args.u s.args.vs.now s.args.bits)
+same s = ap (λ (z : ℤ). first (length s.args.row.now) (over_bits s.args.row.now z s.args.vs.now s.args.bits)) (to_z-of_z s.ranges.u)
 
 loop-holds : tie.Need-loop-init invariant-loop decreases-loop
-loop-holds c = (omega arith, clear-start _)
+loop-holds c = (omega arith, clear_start _)
 
 allowed-over-requires : tie.Need-allowed-over-requires invariant-loop decreases-loop
 allowed-over-requires c κs =
@@ -42,7 +42,7 @@ returns c =
     let s = d.before.before.before in
     let u = s.args in
     let l = d.before.before.loop in
-    found (overBits u.row.now (held s) u.vs.now u.bits) (length u.row.now) l.j (omega arith) l.invariant.1 (sym d.allowed-over.ensures ∙ c.if1.true)
+    found (over_bits u.row.now (held s) u.vs.now u.bits) (length u.row.now) l.j (omega arith) l.invariant.1 (sym d.allowed-over.ensures ∙ c.if1.true)
     ∙ same s
 
 add-j : tie.Need-overflow-add-j invariant-loop decreases-loop
@@ -57,14 +57,14 @@ loop-again c =
     let s = d.before.before.before in
     let u = s.args in
     let l = d.before.before.loop in
-    (omega arith, clear-more (overBits u.row.now (held s) u.vs.now u.bits) l.j l.invariant.1 (sym d.allowed-over.ensures ∙ c.if1.false))
+    (omega arith, clear_more (over_bits u.row.now (held s) u.vs.now u.bits) l.j l.invariant.1 (sym d.allowed-over.ensures ∙ c.if1.false))
 
 returns-2 : tie.Need-returns-2 invariant-loop decreases-loop
 returns-2 c =
     let s = c.before.before in
     let u = s.args in
     let l = c.before.loop in
-    ended (overBits u.row.now (held s) u.vs.now u.bits) (length u.row.now) l.j (omega arith) l.invariant.1 ∙ same s
+    ended (over_bits u.row.now (held s) u.vs.now u.bits) (length u.row.now) l.j (omega arith) l.invariant.1 ∙ same s
 
 pub first-allowed-over-spec : {M : Type 1} → statement M
 first-allowed-over-spec =

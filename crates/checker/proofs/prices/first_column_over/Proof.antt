@@ -10,19 +10,19 @@ use mir.Syntax.{w64}
 use mir.Val.{to_z, of_z}
 use mir.Facts.{to_z-of_z}
 use Rattle.lists.specs.Runs.{first}
-use Rattle.matrix.proofs.First.{Clear, clear-start, clear-more, found, ended}
-use Rattle.checker.proofs.Places.{overAt}
+use Rattle.matrix.proofs.First.{Clear, clear_start, clear_more, found, ended}
+use Rattle.checker.proofs.Places.{over_at}
 use Rattle.checker.proofs.prices.first_column_over.Statement.{statement}
 use Rattle.checker.proofs.prices.first_column_over.Tie as tie
 
 abbrev invariant-loop : tie.invariant-loop
-invariant-loop row u vs j₀ j = (j ≤ length row) × Clear (overAt row (to_z w64 u) vs) j
+invariant-loop row u vs j₀ j = (j ≤ length row) × Clear (over_at row (to_z w64 u) vs) j
 
 abbrev decreases-loop : tie.decreases-loop
 decreases-loop row u vs j₀ j = length row - j
 
 abbrev invariant-loop2 : tie.invariant-loop2
-invariant-loop2 row u vs j₀ j = (j ≤ length row) × Clear (overAt row (to_z w64 u) vs) j
+invariant-loop2 row u vs j₀ j = (j ≤ length row) × Clear (over_at row (to_z w64 u) vs) j
 
 abbrev decreases-loop2 : tie.decreases-loop2
 decreases-loop2 row u vs j₀ j = length row - j
@@ -32,17 +32,17 @@ abbrev columns : tie.Start invariant-loop decreases-loop invariant-loop2 decreas
 columns s = length s.args.row.now
 
 abbrev test : tie.Start invariant-loop decreases-loop invariant-loop2 decreases-loop2 → ℕ → Bool
-test s = overAt s.args.row.now (to_z w64 (of_z w64 s.args.u)) s.args.vs.now
+test s = over_at s.args.row.now (to_z w64 (of_z w64 s.args.u)) s.args.vs.now
 
-same : (s : tie.Start invariant-loop decreases-loop invariant-loop2 decreases-loop2) → first (columns s) (test s) ≡ first (columns s) (overAt s.args.row.now s.args.u s.args.vs.now)
-same s = ap (λ (z : ℤ). first (columns s) (overAt s.args.row.now z s.args.vs.now)) (to_z-of_z s.ranges.u)
+same : (s : tie.Start invariant-loop decreases-loop invariant-loop2 decreases-loop2) → first (columns s) (test s) ≡ first (columns s) (over_at s.args.row.now s.args.u s.args.vs.now)
+same s = ap (λ (z : ℤ). first (columns s) (over_at s.args.row.now z s.args.vs.now)) (to_z-of_z s.ranges.u)
 
 -- the test fails at column j too
 more : (test : ℕ → Bool) (j m : ℕ) → m ≡ j + 1 → Clear test j → test j ≡ false → Clear test m
-more test j m e clear z k l = clear-more test j clear z k (omega arith)
+more test j m e clear z k l = clear_more test j clear z k (omega arith)
 
 loop-holds : tie.Need-loop-init invariant-loop decreases-loop invariant-loop2 decreases-loop2
-loop-holds c = (omega arith, clear-start _)
+loop-holds c = (omega arith, clear_start _)
 
 sub-loop : tie.Need-overflow-sub-loop invariant-loop decreases-loop invariant-loop2 decreases-loop2
 sub-loop c = omega (arith, c.loop.invariant.0)
@@ -156,7 +156,7 @@ loop2-again : tie.Need-loop2-preserved invariant-loop decreases-loop invariant-l
 loop2-again c =
     let a = c.before.before.before in (
       omega (arith, c.before.before.loop2-test.true),
-      clear-more (test a.before.before.before) a.loop2.j a.loop2.invariant.1 (sym c.before.over-at5.ensures ∙ c.if5.false),
+      clear_more (test a.before.before.before) a.loop2.j a.loop2.invariant.1 (sym c.before.over-at5.ensures ∙ c.if5.false),
     )
 
 returns-6 : tie.Need-returns-6 invariant-loop decreases-loop invariant-loop2 decreases-loop2

@@ -4,20 +4,20 @@ use mathlib.Core.Path.{sym, ◌∙◌}
 use Prim.Native.Nat.{◌≤◌, ◌-◌}
 use native.Mathlib.Omega.{arith}
 use borrow.Author.Rules.{rules}
-use Rattle.bars.specs.Barred.{nightOf}
-use Rattle.matrix.proofs.First.{Clear, clear-start, clear-more, found, ended}
-use Rattle.checker.specs.Tests.{overIn, but}
+use Rattle.bars.specs.Barred.{night_of}
+use Rattle.matrix.proofs.First.{Clear, clear_start, clear_more, found, ended}
+use Rattle.checker.specs.Tests.{over_in, but}
 use Rattle.checker.proofs.prices.first_row_over.Statement.{statement}
 use Rattle.checker.proofs.prices.first_row_over.Tie as tie
 
 abbrev invariant-loop : tie.invariant-loop
-invariant-loop m n skip costs us vs bars i₀ i = (i ≤ m) × Clear (but skip (overIn (nightOf m n costs bars) us vs)) i
+invariant-loop m n skip costs us vs bars i₀ i = (i ≤ m) × Clear (but skip (over_in (night_of m n costs bars) us vs)) i
 
 abbrev decreases-loop : tie.decreases-loop
 decreases-loop m n skip costs us vs bars i₀ i = m - i
 
 loop-holds : tie.Need-loop-init invariant-loop decreases-loop
-loop-holds c = (omega arith, clear-start _)
+loop-holds c = (omega arith, clear_start _)
 
 row-over-requires : tie.Need-row-over-requires invariant-loop decreases-loop
 row-over-requires c κs = let s = c.before.before.before in (omega arith, s.requires.0, s.requires.1)
@@ -27,7 +27,7 @@ returns c =
     let d = c.before in
     let u = d.before.before.before.before.args in
     let l = d.before.before.loop in
-    found (but u.skip (overIn (nightOf u.m u.n u.costs.now u.bars.now) u.us.now u.vs.now)) u.m l.i (omega arith) l.invariant.1 (sym d.row-over.ensures ∙ c.if1.true)
+    found (but u.skip (over_in (night_of u.m u.n u.costs.now u.bars.now) u.us.now u.vs.now)) u.m l.i (omega arith) l.invariant.1 (sym d.row-over.ensures ∙ c.if1.true)
 
 add-i : tie.Need-overflow-add-i invariant-loop decreases-loop
 add-i c = search rules
@@ -40,13 +40,13 @@ loop-again c =
     let d = c.before in
     let u = d.before.before.before.before.args in
     let l = d.before.before.loop in
-    (omega arith, clear-more (but u.skip (overIn (nightOf u.m u.n u.costs.now u.bars.now) u.us.now u.vs.now)) l.i l.invariant.1 (sym d.row-over.ensures ∙ c.if1.false))
+    (omega arith, clear_more (but u.skip (over_in (night_of u.m u.n u.costs.now u.bars.now) u.us.now u.vs.now)) l.i l.invariant.1 (sym d.row-over.ensures ∙ c.if1.false))
 
 returns-2 : tie.Need-returns-2 invariant-loop decreases-loop
 returns-2 c =
     let u = c.before.before.before.args in
     let l = c.before.loop in
-    ended (but u.skip (overIn (nightOf u.m u.n u.costs.now u.bars.now) u.us.now u.vs.now)) u.m l.i (omega arith) l.invariant.1
+    ended (but u.skip (over_in (night_of u.m u.n u.costs.now u.bars.now) u.us.now u.vs.now)) u.m l.i (omega arith) l.invariant.1
 
 pub first-row-over-spec : {M : Type 1} → statement M
 first-row-over-spec =

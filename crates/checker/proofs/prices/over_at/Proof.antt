@@ -10,8 +10,8 @@ use mir.Facts.{to_z-of_z}
 use Rattle.ints.proofs.Bits.{read_back}
 use Rattle.ints.proofs.Shapes.{zlin}
 use Rattle.ints.proofs.Sums.{sum}
-use Rattle.ints.proofs.Tests.{lt-ltZ, le-ltZ, le-or-lt}
-use Rattle.assignment.specs.Pairings.{signedAt}
+use Rattle.ints.proofs.Tests.{lt_lt_z, le_lt_z, le_or_lt}
+use Rattle.assignment.specs.Pairings.{signed_at}
 use Rattle.matrix.proofs.SmallLimits.{K-small}
 use Rattle.checker.proofs.prices.over_at.Statement.{statement}
 use Rattle.checker.proofs.prices.over_at.Tie as tie
@@ -19,9 +19,9 @@ use Rattle.checker.proofs.prices.over_at.Tie as tie
 -- A price taken to the other side changes no test.
 moved : (c u v : ℤ) → lt_z (c -ℤ u) v ≡ lt_z (c -ℤ (u +ℤ v)) (pos 0)
 moved c u v = ⊎_elim
-    (λ h. le-ltZ (c -ℤ u) v h ∙ sym (le-ltZ (c -ℤ (u +ℤ v)) (pos 0) (omega (zlin, sum u v))))
-    (λ h. lt-ltZ (c -ℤ u) v h ∙ sym (lt-ltZ (c -ℤ (u +ℤ v)) (pos 0) (omega (zlin, sum u v))))
-    (le-or-lt v (c -ℤ u))
+    (λ h. le_lt_z (c -ℤ u) v h ∙ sym (le_lt_z (c -ℤ (u +ℤ v)) (pos 0) (omega (zlin, sum u v))))
+    (λ h. lt_lt_z (c -ℤ u) v h ∙ sym (lt_lt_z (c -ℤ (u +ℤ v)) (pos 0) (omega (zlin, sum u v))))
+    (le_or_lt v (c -ℤ u))
 
 mul-reduced-cost : tie.Need-overflow-mul-reduced-cost
 mul-reduced-cost c = search rules
@@ -46,9 +46,9 @@ returns c =
     ap₂ lt_z
     (read_back w64 r.result r.type-inv
     ∙ r.ensures
-    ∙ ap₂ ◌-ℤ◌ (read_back w32 (signedAt u.row.now u.j) c.before.before.reduced-cost-arg.given) (to_z-of_z s.ranges.u))
-    (read_back w64 (signedAt u.vs.now u.j) c.result.given)
-    ∙ moved (signedAt u.row.now u.j) u.u (signedAt u.vs.now u.j)
+    ∙ ap₂ ◌-ℤ◌ (read_back w32 (signed_at u.row.now u.j) c.before.before.reduced-cost-arg.given) (to_z-of_z s.ranges.u))
+    (read_back w64 (signed_at u.vs.now u.j) c.result.given)
+    ∙ moved (signed_at u.row.now u.j) u.u (signed_at u.vs.now u.j)
 
 pub over-at-spec : {M : Type 1} → statement M
 over-at-spec =

@@ -6,7 +6,7 @@ use lib.IntN.{◌+ℤ◌, ◌-ℤ◌}
 use lib.ListN.{length}
 use mir.Syntax.{w32, w64}
 use Rattle.ints.proofs.Bits.{read_back}
-use Rattle.assignment.specs.Pairings.{signedAt}
+use Rattle.assignment.specs.Pairings.{signed_at}
 use Rattle.matrix.proofs.SmallLimits.{side-small}
 use Rattle.matrix.proofs.Places.{place_in}
 use Rattle.matrix.proofs.Codes.{filled-small}
@@ -48,8 +48,8 @@ shared-slice-copy-out-slack-3 c = omega (arith, c.before.before.requires.1, c.be
 slack-requires : tie.Need-slack-requires
 slack-requires c κs =
     let s = c.before.before.before in (
-      rw (read_back w64 (signedAt s.args.us.now s.args.i) c.before.slack-arg2.given) (s.requires.2.row-prices.within s.args.i s.requires.0),
-      rw (read_back w64 (signedAt s.args.vs.now s.args.j) c.slack-arg3.given) (s.requires.2.column-prices.within s.args.j s.requires.1),
+      rw (read_back w64 (signed_at s.args.us.now s.args.i) c.before.slack-arg2.given) (s.requires.2.row-prices.within s.args.i s.requires.0),
+      rw (read_back w64 (signed_at s.args.vs.now s.args.j) c.slack-arg3.given) (s.requires.2.column-prices.within s.args.j s.requires.1),
     )
 
 returns : tie.Need-returns
@@ -57,8 +57,8 @@ returns c =
     let u = c.before.before.before.before.args in
     read_back w64 c.slack.result c.slack.type-inv
     ∙ c.slack.ensures
-    ∙ ap₂ ◌-ℤ◌ (read_back w32 (signedAt u.costs.now (u.i * u.n + u.j)) c.before.before.before.slack-arg.given)
-    (ap₂ ◌+ℤ◌ (read_back w64 (signedAt u.us.now u.i) c.before.before.slack-arg2.given) (read_back w64 (signedAt u.vs.now u.j) c.before.slack-arg3.given))
+    ∙ ap₂ ◌-ℤ◌ (read_back w32 (signed_at u.costs.now (u.i * u.n + u.j)) c.before.before.before.slack-arg.given)
+    (ap₂ ◌+ℤ◌ (read_back w64 (signed_at u.us.now u.i) c.before.before.slack-arg2.given) (read_back w64 (signed_at u.vs.now u.j) c.before.slack-arg3.given))
 
 pub slack-at-spec : {M : Type 1} → statement M
 slack-at-spec =

@@ -7,10 +7,10 @@ use lib.IntN.{ℤ}
 use mir.Syntax.{w64}
 use Rattle.ints.proofs.Bits.{read_back}
 use Rattle.lists.specs.Permutations.{at}
-use Rattle.bars.specs.Barred.{nightOf}
-use Rattle.matrix.specs.Verdicts.{failsBy}
+use Rattle.bars.specs.Barred.{night_of}
+use Rattle.matrix.specs.Verdicts.{fails_by}
 use Rattle.matrix.specs.Refusals.{PricesNotCost}
-use Rattle.matrix.proofs.Verdicts.{fails-then, passed_then, clear-at-by, found-at-by}
+use Rattle.matrix.proofs.Verdicts.{fails_then, passed_then, clear_at_by, found_at_by}
 use Rattle.checker.specs.Tests.{slack}
 use Rattle.checker.proofs.prices.tight_on.Statement.{statement}
 use Rattle.checker.proofs.prices.tight_on.Tie as tie
@@ -19,7 +19,7 @@ enum-known-before : tie.Need-enum-known-before
 enum-known-before c = search rules
 
 returns : tie.Need-returns
-returns c = fails-then _ c.before.before2.given.1
+returns c = fails_then _ c.before.before2.given.1
 
 enum_told : tie.Need-enum-told
 enum_told c = search rules
@@ -29,7 +29,7 @@ first-row-loose-requires c κs = c.before.before.before.requires c.enum_told.giv
 
 returns-2 : tie.Need-returns-2
 returns-2 c =
-    passed_then _ c.before.before.enum_told.given.1 (sym (clear-at-by _ _ _ _ _ c.before.first-row-loose.ensures c.if1.true))
+    passed_then _ c.before.before.enum_told.given.1 (sym (clear_at_by _ _ _ _ _ c.before.first-row-loose.ensures c.if1.true))
 
 paired-slack-requires : tie.Need-paired-slack-requires
 paired-slack-requires c κs =
@@ -46,8 +46,8 @@ returns-3 c =
     let u = d.before.before.before.before.args in
     passed_then _ d.before.enum_told.given.1
     (c.fails_by.ensures
-    ∙ ap (λ (z : ℤ). failsBy PricesNotCost d.first-row-loose.result z true) (read_back w64 s.paired-slack.result s.paired-slack.type-inv ∙ s.paired-slack.ensures)
-    ∙ found-at-by _ (λ i. i) (λ i. slack (nightOf u.m u.n u.costs.now []) u.us.now u.vs.now i (at u.cols.now i)) _ _ d.first-row-loose.ensures s.before.if1.false)
+    ∙ ap (λ (z : ℤ). fails_by PricesNotCost d.first-row-loose.result z true) (read_back w64 s.paired-slack.result s.paired-slack.type-inv ∙ s.paired-slack.ensures)
+    ∙ found_at_by _ (λ i. i) (λ i. slack (night_of u.m u.n u.costs.now []) u.us.now u.vs.now i (at u.cols.now i)) _ _ d.first-row-loose.ensures s.before.if1.false)
 
 pub tight-on-spec : {M : Type 1} → statement M
 tight-on-spec =

@@ -9,13 +9,13 @@ use lib.IntN.{ℤ}
 use mir.Syntax.{w64}
 use Rattle.ints.proofs.Bits.{read_back}
 use Rattle.lists.proofs.Runs.{first_holds}
-use Rattle.matrix.specs.Verdicts.{failsBy}
+use Rattle.matrix.specs.Verdicts.{fails_by}
 use Rattle.matrix.specs.Refusals.{PricesOverCost}
 use Rattle.matrix.proofs.Places.{place_in}
 use Rattle.matrix.proofs.Codes.{filled-small}
-use Rattle.matrix.proofs.Verdicts.{fails-then, passed_then, clear-at-by, found-at-by}
-use Rattle.bars.specs.Barred.{nightOf}
-use Rattle.checker.specs.Tests.{slack, overFirst, overIn, but}
+use Rattle.matrix.proofs.Verdicts.{fails_then, passed_then, clear_at_by, found_at_by}
+use Rattle.bars.specs.Barred.{night_of}
+use Rattle.checker.specs.Tests.{slack, over_first, over_in, but}
 use Rattle.checker.specs.Asked.{BitsFit, Priced}
 use Rattle.checker.proofs.But.{but-holds}
 use Rattle.checker.proofs.prices.under_costs.Statement.{statement}
@@ -29,7 +29,7 @@ enum-known-before : tie.Need-enum-known-before
 enum-known-before c = search rules
 
 returns : tie.Need-returns
-returns c = fails-then _ c.before.before2.given.1
+returns c = fails_then _ c.before.before2.given.1
 
 enum_told : tie.Need-enum-told
 enum_told c = search rules
@@ -39,7 +39,7 @@ first-row-over-requires c κs = shown c
 
 returns-2 : tie.Need-returns-2
 returns-2 c =
-    passed_then _ c.before.before.enum_told.given.1 (sym (clear-at-by _ _ _ _ _ c.before.first-row-over.ensures c.if1.true))
+    passed_then _ c.before.before.enum_told.given.1 (sym (clear_at_by _ _ _ _ _ c.before.first-row-over.ensures c.if1.true))
 
 column-over-requires : tie.Need-column-over-requires
 column-over-requires c κs = let p = shown c.before.before in (c.if1.false, p.0, p.1)
@@ -49,11 +49,11 @@ column-below : (c : tie.After-column-over) → c.column-over.result < c.before.b
 column-below c =
     let u = c.before.before.before.before.before.before.args in
     let i = c.before.before.first-row-over in
-    let night = nightOf u.m u.n u.costs.now u.bars.now in
-    let test = overIn night u.us.now u.vs.now in
+    let night = night_of u.m u.n u.costs.now u.bars.now in
+    let test = over_in night u.us.now u.vs.now in
     let here = ap (but u.skip test) i.ensures ∙ first_holds (but u.skip test) u.m (omega (arith, i.ensures, c.before.if1.false)) in
     let holds = but-holds u.skip test i.result here in
-    omega (arith, c.column-over.ensures, ltb-true (overFirst night u.us.now u.vs.now i.result) u.n holds)
+    omega (arith, c.column-over.ensures, ltb-true (over_first night u.us.now u.vs.now i.result) u.n holds)
 
 -- a place fits: there are few of them
 place-small : (c : tie.After-column-over)
@@ -82,13 +82,13 @@ returns-3 c =
     let f = s.before in
     let d = f.before.before in
     let u = d.before.before.before.before.args in
-    let night = nightOf u.m u.n u.costs.now u.bars.now in
+    let night = night_of u.m u.n u.costs.now u.bars.now in
     let i = d.first-row-over.result in
     passed_then _ d.before.enum_told.given.1
     (c.fails_by.ensures
-    ∙ ap₂ (λ (j : ℕ) (z : ℤ). failsBy PricesOverCost (i * u.n + j) z true) f.column-over.ensures
+    ∙ ap₂ (λ (j : ℕ) (z : ℤ). fails_by PricesOverCost (i * u.n + j) z true) f.column-over.ensures
     (read_back w64 s.slack-at.result s.slack-at.type-inv ∙ s.slack-at.ensures ∙ ap (slack night u.us.now u.vs.now i) f.column-over.ensures)
-    ∙ found-at-by _ (λ k. k * u.n + overFirst night u.us.now u.vs.now k) (λ k. slack night u.us.now u.vs.now k (overFirst night u.us.now u.vs.now k)) _ _ d.first-row-over.ensures f.before.if1.false)
+    ∙ found_at_by _ (λ k. k * u.n + over_first night u.us.now u.vs.now k) (λ k. slack night u.us.now u.vs.now k (over_first night u.us.now u.vs.now k)) _ _ d.first-row-over.ensures f.before.if1.false)
 
 pub under-costs-spec : {M : Type 1} → statement M
 under-costs-spec =

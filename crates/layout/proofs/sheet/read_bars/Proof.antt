@@ -7,7 +7,7 @@ use lib.ListN.{length, length-set}
 use lib.Seq.{sets}
 use Rattle.layout.specs.Values.{value_of}
 use Rattle.layout.specs.Fields.{fields}
-use Rattle.layout.proofs.Stores.{none_read, next-read}
+use Rattle.layout.proofs.Stores.{none_read, next_read}
 use Rattle.layout.proofs.sheet.read_bars.Statement.{statement}
 use Rattle.layout.proofs.sheet.read_bars.Tie as tie
 
@@ -48,7 +48,7 @@ loop-again c =
       omega arith,
       omega arith,
       simp length-set l.invariant.2,
-      next-read value_of u.at 8 u.sheet.now u.bars.now l.place l.i l.bars c.value-at.result l.invariant.1 l.invariant.3 c.value-at.ensures.0,
+      next_read value_of u.at 8 u.sheet.now u.bars.now l.place l.i l.bars c.value-at.result l.invariant.1 l.invariant.3 c.value-at.ensures.0,
     )
 
 same_length : tie.Need-same-length invariant-loop decreases-loop

@@ -7,8 +7,8 @@ use borrow.Author.Rules.{rules}
 use lib.ListN.{length, drop}
 use lib.Seq.{sets}
 use Rattle.layout.specs.Values.{bytes_of}
-use Rattle.layout.proofs.Values.{length-bytesOf}
-use Rattle.layout.proofs.Stores.{field-written, all-written}
+use Rattle.layout.proofs.Values.{length-bytes_of}
+use Rattle.layout.proofs.Stores.{field_written, all_written}
 use Rattle.layout.proofs.slip.write_columns.Statement.{statement}
 use Rattle.layout.proofs.slip.write_columns.Tie as tie
 
@@ -52,7 +52,7 @@ loop-again c =
       omega arith,
       w.auto.0 ∙ l.invariant.2,
       ap (λ (room : List ℕ). sets room (l.place + 2) (flat_map (bytes_of 2) (drop (l.i + 1) u.cols.now))) w.ensures
-          ∙ field-written (bytes_of 2) 2 (length-bytesOf 2) l.room l.place (l.place + 2) u.cols.now l.i 0 c.before.before.before.before.before.loop-test.true refl
+          ∙ field_written (bytes_of 2) 2 (length-bytes_of 2) l.room l.place (l.place + 2) u.cols.now l.i 0 c.before.before.before.before.before.loop-test.true refl
           ∙ l.invariant.3,
     )
 
@@ -63,7 +63,7 @@ returns : tie.Need-returns invariant-loop decreases-loop
 returns c =
     let l = c.before.loop in
     let u = c.before.before.before.before.args in
-    sym (all-written (bytes_of 2) 2 (length-bytesOf 2) l.room l.place u.cols.now l.i c.loop-test.false) ∙ l.invariant.3
+    sym (all_written (bytes_of 2) 2 (length-bytes_of 2) l.room l.place u.cols.now l.i c.loop-test.false) ∙ l.invariant.3
 
 pub write-columns-spec : {M : Type 1} → statement M
 write-columns-spec =

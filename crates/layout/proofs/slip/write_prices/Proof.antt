@@ -9,15 +9,15 @@ use lib.Seq.{sets}
 use lib.IntN.{pos}
 use mir.Syntax.{w64}
 use Rattle.ints.proofs.Bits.{read_back}
-use Rattle.layout.specs.Values.{bytes_of, wrapped, signedBytes}
-use Rattle.layout.proofs.Values.{length-signedBytes}
-use Rattle.layout.proofs.Stores.{field-written, all-written}
+use Rattle.layout.specs.Values.{bytes_of, wrapped, signed_bytes}
+use Rattle.layout.proofs.Values.{length-signed_bytes}
+use Rattle.layout.proofs.Stores.{field_written, all_written}
 use Rattle.layout.proofs.slip.write_prices.Statement.{statement}
 use Rattle.layout.proofs.slip.write_prices.Tie as tie
 
 abbrev invariant-loop : tie.invariant-loop
 invariant-loop room₀ at prices place₀ i₀ room place i =
-    (i ≤ length prices) × (place ≡ at + i * 8) × (length room ≡ length room₀) × (sets room place (flat_map (signedBytes 8) (drop i prices)) ≡ sets room₀ at (flat_map (signedBytes 8) prices))
+    (i ≤ length prices) × (place ≡ at + i * 8) × (length room ≡ length room₀) × (sets room place (flat_map (signed_bytes 8) (drop i prices)) ≡ sets room₀ at (flat_map (signed_bytes 8) prices))
 
 abbrev decreases-loop : tie.decreases-loop
 decreases-loop room₀ at prices place₀ i₀ room place i = length prices - i
@@ -55,8 +55,8 @@ loop-again c =
       omega arith,
       omega arith,
       w.auto.0 ∙ l.invariant.2,
-      ap (λ (room : List ℕ). sets room (l.place + 8) (flat_map (signedBytes 8) (drop (l.i + 1) u.prices.now))) (w.ensures ∙ ap (λ (x : ℕ). sets l.room l.place (bytes_of 8 x)) (b.wrapped.ensures ∙ ap (wrapped 8) (read_back w64 (get_or u.prices.now l.i (pos 0)) b.before.wrapped-arg.given)))
-          ∙ field-written (signedBytes 8) 8 (length-signedBytes 8) l.room l.place (l.place + 8) u.prices.now l.i (pos 0) b.before.before.before.loop-test.true refl
+      ap (λ (room : List ℕ). sets room (l.place + 8) (flat_map (signed_bytes 8) (drop (l.i + 1) u.prices.now))) (w.ensures ∙ ap (λ (x : ℕ). sets l.room l.place (bytes_of 8 x)) (b.wrapped.ensures ∙ ap (wrapped 8) (read_back w64 (get_or u.prices.now l.i (pos 0)) b.before.wrapped-arg.given)))
+          ∙ field_written (signed_bytes 8) 8 (length-signed_bytes 8) l.room l.place (l.place + 8) u.prices.now l.i (pos 0) b.before.before.before.loop-test.true refl
           ∙ l.invariant.3,
     )
 
@@ -67,7 +67,7 @@ returns : tie.Need-returns invariant-loop decreases-loop
 returns c =
     let l = c.before.loop in
     let u = c.before.before.before.args in
-    sym (all-written (signedBytes 8) 8 (length-signedBytes 8) l.room l.place u.prices.now l.i c.loop-test.false) ∙ l.invariant.3
+    sym (all_written (signed_bytes 8) 8 (length-signed_bytes 8) l.room l.place u.prices.now l.i c.loop-test.false) ∙ l.invariant.3
 
 pub write-prices-spec : {M : Type 1} → statement M
 write-prices-spec =

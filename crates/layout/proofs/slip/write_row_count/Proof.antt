@@ -8,19 +8,19 @@ use borrow.Author.Rules.{rules}
 use lib.ListN.{length}
 use lib.Seq.{sets}
 use Rattle.layout.specs.Values.{bytes_of}
-use Rattle.layout.specs.Slips.{rowCount, rowCountLength}
+use Rattle.layout.specs.Slips.{row_count, row_count_length}
 use Rattle.layout.proofs.Trailers.{counted, uncounted}
 use Rattle.layout.proofs.slip.write_row_count.Statement.{statement}
 use Rattle.layout.proofs.slip.write_row_count.Tie as tie
 
 -- an edition with a row count, and one without
-long : {edition : ℕ} → edition ≡ 3 → rowCountLength edition ≡ 2
+long : {edition : ℕ} → edition ≡ 3 → row_count_length edition ≡ 2
 long e = ap (λ (t : Bool). cond t 2 0) (counted e)
 
-there : {edition : ℕ} (m : ℕ) → edition ≡ 3 → bytes_of 2 m ≡ rowCount edition m
+there : {edition : ℕ} (m : ℕ) → edition ≡ 3 → bytes_of 2 m ≡ row_count edition m
 there m e = ap (λ (t : Bool). cond t (bytes_of 2 m) []) (sym (counted e))
 
-absent : {edition : ℕ} (room : List ℕ) (at m : ℕ) → ((edition ≡ 3) → ⊥) → room ≡ sets room at (rowCount edition m)
+absent : {edition : ℕ} (room : List ℕ) (at m : ℕ) → ((edition ≡ 3) → ⊥) → room ≡ sets room at (row_count edition m)
 absent room at m h = ap (λ (t : Bool). sets room at (cond t (bytes_of 2 m) [])) (sym (uncounted h))
 
 write-value-requires : tie.Need-write-value-requires

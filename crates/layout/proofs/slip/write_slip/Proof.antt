@@ -9,37 +9,37 @@ use lib.ListN.{length, drop}
 use lib.Seq.{sets}
 use mir.Facts.{to_z-of_z}
 use Rattle.layout.specs.Values.{bytes_of}
-use Rattle.layout.specs.Trailers.{slipMark, trailer}
-use Rattle.layout.specs.Slips.{slipBody, bodyLength, rowCount, rowCountLength, slipDistance, slipOf, slipLength}
+use Rattle.layout.specs.Trailers.{slip_mark, trailer}
+use Rattle.layout.specs.Slips.{slip_body, body_length, row_count, row_count_length, slip_distance, slip_of, slip_length}
 use Rattle.layout.specs.Asked.{Slipped}
-use Rattle.layout.proofs.Stores.{stored-then, sets-front}
-use Rattle.layout.proofs.Slips.{length-body, length-rowCount, length-slipOf}
+use Rattle.layout.proofs.Stores.{stored_then, sets_front}
+use Rattle.layout.proofs.Slips.{length_body, length-row_count, length-slip_of}
 use Rattle.layout.proofs.slip.write_slip.Statement.{statement}
 use Rattle.layout.proofs.slip.write_slip.Tie as tie
 
-mark : bytes_of 4 0x50494C53 ≡ slipMark
+mark : bytes_of 4 0x50494C53 ≡ slip_mark
 unfolding bytes_of
 mark = refl
 
 -- body, row count and trailer are the slip
-module _ (room : List ℕ) (edition : ℕ) (cols : List ℕ) (rowPrices columnPrices : List ℤ) (total : ℤ) (q : Slipped edition cols rowPrices columnPrices room) where
+module _ (room : List ℕ) (edition : ℕ) (cols : List ℕ) (prices_of_rows prices_of_columns : List ℤ) (total : ℤ) (q : Slipped edition cols prices_of_rows prices_of_columns room) where
   abbrev m : ℕ
   m = length cols
 
   abbrev n : ℕ
-  n = length columnPrices
+  n = length prices_of_columns
 
   abbrev end : ℕ
-  end = slipDistance edition m n
+  end = slip_distance edition m n
 
-  joined : {p r t : List ℕ} {x : ℤ} {c : ℕ} → x ≡ total → c ≡ rowCountLength edition → p ≡ sets room 0 (slipBody cols rowPrices columnPrices x) → r ≡ sets p (bodyLength m n) (rowCount edition m)
-      → t ≡ sets r (bodyLength m n + c) (trailer (bodyLength m n + c) n edition (bytes_of 4 0x50494C53)) → t ≡ slipOf edition m n cols rowPrices columnPrices total ++ drop (slipLength edition m n) room
+  joined : {p r t : List ℕ} {x : ℤ} {c : ℕ} → x ≡ total → c ≡ row_count_length edition → p ≡ sets room 0 (slip_body cols prices_of_rows prices_of_columns x) → r ≡ sets p (body_length m n) (row_count edition m)
+      → t ≡ sets r (body_length m n + c) (trailer (body_length m n + c) n edition (bytes_of 4 0x50494C53)) → t ≡ slip_of edition m n cols prices_of_rows prices_of_columns total ++ drop (slip_length edition m n) room
   joined {p} {r} g k d e f =
-      let last = trailer end n edition slipMark in
-      stored-then room (slipBody cols rowPrices columnPrices total) (rowCount edition m ++ last) 0 (bodyLength m n) (d ∙ ap (λ (y : ℤ). sets room 0 (slipBody cols rowPrices columnPrices y)) g) (omega (arith, length-body m n cols rowPrices columnPrices total refl q.rows refl))
-      (stored-then p (rowCount edition m) last (bodyLength m n) end e (omega (arith, length-rowCount edition m))
-      (f ∙ ap₂ (λ (c : ℕ) (l : List ℕ). sets r (bodyLength m n + c) (trailer (bodyLength m n + c) n edition l)) k mark))
-      ∙ sets-front (slipOf edition m n cols rowPrices columnPrices total) room (slipLength edition m n) (length-slipOf edition m n cols rowPrices columnPrices total refl q.rows refl) q.roomy
+      let last = trailer end n edition slip_mark in
+      stored_then room (slip_body cols prices_of_rows prices_of_columns total) (row_count edition m ++ last) 0 (body_length m n) (d ∙ ap (λ (y : ℤ). sets room 0 (slip_body cols prices_of_rows prices_of_columns y)) g) (omega (arith, length_body m n cols prices_of_rows prices_of_columns total refl q.rows refl))
+      (stored_then p (row_count edition m) last (body_length m n) end e (omega (arith, length-row_count edition m))
+      (f ∙ ap₂ (λ (c : ℕ) (l : List ℕ). sets r (body_length m n + c) (trailer (body_length m n + c) n edition l)) k mark))
+      ∙ sets_front (slip_of edition m n cols prices_of_rows prices_of_columns total) room (slip_length edition m n) (length-slip_of edition m n cols prices_of_rows prices_of_columns total refl q.rows refl) q.roomy
 
 mul-body : tie.Need-overflow-mul-body
 mul-body c = search rules

@@ -9,7 +9,7 @@ use lib.ListN.{length, get_or, drop, drop_of_length-le}
 use Rattle.lists.specs.Parts.{part}
 use Rattle.lists.proofs.Parts.{part_length, part_at}
 use Rattle.layout.specs.Values.{value_of}
-use Rattle.layout.proofs.Values.{value-more, more-below}
+use Rattle.layout.proofs.Values.{value_more, more_below}
 use Rattle.layout.proofs.value.value_at.Statement.{statement}
 use Rattle.layout.proofs.value.value_at.Tie as tie
 
@@ -25,13 +25,13 @@ module _ (bytes : List ℕ) (at width k v b : ℕ) (some : 0 < k) (within : k �
   turn : v * 256 + b ≡ value_of (drop (k - 1) (part at width bytes))
   turn =
       let one : k ≡ suc (k - 1) = omega arith in
-      value-more (part at width bytes) (k - 1) v b (omega (arith, part_length at width bytes reach))
+      value_more (part at width bytes) (k - 1) v b (omega (arith, part_length at width bytes reach))
       (e ∙ ap (λ (i : ℕ). value_of (drop i (part at width bytes))) one) (byte ∙ sym (part_at at width bytes (k - 1) 0 (omega arith)))
 
   turn_below : v * 256 + b < 256 ^ (width - (k - 1))
   turn_below =
       let one : width - (k - 1) ≡ suc (width - k) = omega arith in
-      rw one (more-below (width - k) v b small low)
+      rw one (more_below (width - k) v b small low)
 
   turn-fits : width ≤ 8 → v * 256 + b < 2 ^ 64
   turn-fits eight = omega (arith, turn_below, pow-le-pow_right {n = 256} (omega arith) {i = width - (k - 1)} {j = 8} (omega arith))

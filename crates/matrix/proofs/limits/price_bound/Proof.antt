@@ -2,7 +2,7 @@
 use mathlib.Core.Path.{◌∙◌}
 use native.Mathlib.Omega.{arith}
 use mir.Facts.{to_z-of_z}
-use Rattle.matrix.proofs.Multiples.{multiple, multiple-fits}
+use Rattle.matrix.proofs.Multiples.{multiple, multiple_fits}
 use borrow.Author.Rules.{rules}
 use Rattle.matrix.proofs.limits.price_bound.Statement.{statement}
 use Rattle.matrix.proofs.limits.price_bound.Tie as tie
@@ -11,12 +11,12 @@ bound-requires : tie.Need-bound-requires
 bound-requires c κs = search rules
 
 mul-result : tie.Need-overflow-mul-result
-mul-result c = multiple-fits 10 (omega arith) c.bound.result c.bound.ensures c.bound.type-inv
+mul-result c = multiple_fits 10 (omega arith) c.bound.result c.bound.ensures c.bound.type-inv
 
 returns : tie.Need-returns
 returns c =
     let b = c.bound in
-    to_z-of_z (multiple-fits 10 (omega arith) b.result b.ensures b.type-inv) ∙ multiple 10 (omega arith) b.result b.ensures b.type-inv
+    to_z-of_z (multiple_fits 10 (omega arith) b.result b.ensures b.type-inv) ∙ multiple 10 (omega arith) b.result b.ensures b.type-inv
 
 pub price-bound-spec : {M : Type 1} → statement M
 price-bound-spec = tie.close (tie.spec bound-requires mul-result returns)

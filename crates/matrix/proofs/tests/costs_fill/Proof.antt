@@ -4,7 +4,7 @@ use native.Mathlib.Nat.{mul-le-mul}
 use native.Mathlib.Omega.{arith}
 use borrow.Author.Rules.{rules}
 use Rattle.matrix.proofs.SmallLimits.{side-small}
-use Rattle.matrix.proofs.Verdicts.{fails-then, passed_then}
+use Rattle.matrix.proofs.Verdicts.{fails_then, passed_then}
 use Rattle.matrix.proofs.tests.costs_fill.Statement.{statement}
 use Rattle.matrix.proofs.tests.costs_fill.Tie as tie
 
@@ -12,7 +12,7 @@ enum-known-before : tie.Need-enum-known-before
 enum-known-before c = search rules
 
 returns : tie.Need-returns
-returns c = fails-then _ c.before.before2.given.1
+returns c = fails_then _ c.before.before2.given.1
 
 enum_told : tie.Need-enum-told
 enum_told c = search rules

@@ -7,7 +7,7 @@ use borrow.Author.Rules.{rules}
 use borrow.Author.Tests.{le-leb, lt-leb}
 use lib.Dec.{leb}
 use Rattle.lists.specs.Permutations.{at}
-use Rattle.matrix.proofs.First.{Clear, clear-start, clear-more, found, ended}
+use Rattle.matrix.proofs.First.{Clear, clear_start, clear_more, found, ended}
 use Rattle.matrix.proofs.tests.first_column_outside.Statement.{statement}
 use Rattle.matrix.proofs.tests.first_column_outside.Tie as tie
 
@@ -21,7 +21,7 @@ abbrev decreases-loop : tie.decreases-loop
 decreases-loop n cols count i₀ i = count - i
 
 loop-holds : tie.Need-loop-init invariant-loop decreases-loop
-loop-holds c = (omega arith, clear-start _)
+loop-holds c = (omega arith, clear_start _)
 
 mul-if1 : tie.Need-overflow-mul-if1 invariant-loop decreases-loop
 mul-if1 c = search rules
@@ -48,7 +48,7 @@ loop-again : tie.Need-loop-preserved invariant-loop decreases-loop
 loop-again c =
     let u = c.before.before.before.before.args in
     let l = c.before.before.before.loop in
-    (omega arith, clear-more (test u.n u.cols.now) l.i l.invariant.1 (lt-leb _ _ c.if1.false))
+    (omega arith, clear_more (test u.n u.cols.now) l.i l.invariant.1 (lt-leb _ _ c.if1.false))
 
 returns-2 : tie.Need-returns-2 invariant-loop decreases-loop
 returns-2 c =

@@ -16,18 +16,18 @@ use Rattle.ints.proofs.Shapes.{zlin}
 use Rattle.ints.proofs.Bits.{read_back, read_wide, wide_fits}
 use Rattle.lists.specs.Runs.{first}
 use Rattle.lists.specs.Counts.{some}
-use Rattle.lists.proofs.Runs.{first-le}
-use Rattle.assignment.specs.Pairings.{signedAt}
+use Rattle.lists.proofs.Runs.{first_le}
+use Rattle.assignment.specs.Pairings.{signed_at}
 use Rattle.matrix.specs.Limits.{K}
 use Rattle.matrix.specs.Tests.{outside}
 use Rattle.matrix.proofs.SmallLimits.{K-small}
 use Rattle.matrix.proofs.Bounds.{outside-within}
-use Rattle.matrix.proofs.First.{Clear, clear-start, clear-more, found, ended}
+use Rattle.matrix.proofs.First.{Clear, clear_start, clear_more, found, ended}
 use Rattle.matrix.proofs.tests.first_cost_outside.Statement.{statement}
 use Rattle.matrix.proofs.tests.first_cost_outside.Tie as tie
 
 abbrev test : ℤ → List ℤ → ℕ → Bool
-test limit costs k = outside limit (signedAt costs k)
+test limit costs k = outside limit (signed_at costs k)
 
 abbrev invariant-loop : tie.invariant-loop
 invariant-loop limit costs k₀ k = (k ≤ length costs) × Clear (test (to_z w64 limit) costs) k
@@ -77,10 +77,10 @@ returns c =
     let costs = s.args.costs.now in
     let t = test s.args.limit costs in
     let e = sym (ap (λ (z : ℤ). some (length costs) (test z costs)) (narrowed c.before.before)) ∙ sym c.before.some-cost-outside.ensures ∙ not-true _ c.if2.true in
-    omega (arith, first-le t (length costs), ltb-false (first (length costs) t) (length costs) e)
+    omega (arith, first_le t (length costs), ltb-false (first (length costs) t) (length costs) e)
 
 loop-holds : tie.Need-loop-init invariant-loop decreases-loop
-loop-holds c = (omega arith, clear-start _)
+loop-holds c = (omega arith, clear_start _)
 
 mul-outside : tie.Need-overflow-mul-outside invariant-loop decreases-loop
 mul-outside c = search rules
@@ -89,7 +89,7 @@ shared-slice-copy-out-outside : tie.Need-shared-slice-copy-out-outside invariant
 shared-slice-copy-out-outside c = search rules
 
 cast-outside : tie.Need-overflow-cast-outside invariant-loop decreases-loop
-cast-outside c = wide_fits (signedAt c.before.before.before.before.before.before.args.costs.now c.before.before.loop.k) c.outside-arg.given
+cast-outside c = wide_fits (signed_at c.before.before.before.before.before.before.args.costs.now c.before.before.loop.k) c.outside-arg.given
 
 outside-requires-2 : tie.Need-outside-requires-2 invariant-loop decreases-loop
 outside-requires-2 c κs = let s = c.before.before.before.before.before.before in rw (to_z-of_z s.ranges.limit) s.requires
@@ -99,7 +99,7 @@ tested : (c : tie.After-outside2 invariant-loop decreases-loop) → let s = c.be
     c.outside2.result ≡ test (held s) s.args.costs.now c.before.before.before.loop.k
 tested c =
     let s = c.before.before.before.before.before.before.before in
-    let x = signedAt s.args.costs.now c.before.before.before.loop.k in
+    let x = signed_at s.args.costs.now c.before.before.before.loop.k in
     c.outside2.ensures ∙ ap (outside (held s)) (read_wide x c.before.outside-arg.given)
 
 returns-2 : tie.Need-returns-2 invariant-loop decreases-loop
@@ -119,7 +119,7 @@ loop-again : tie.Need-loop-preserved invariant-loop decreases-loop
 loop-again c =
     let s = c.before.before.before.before.before.before.before.before in
     let l = c.before.before.before.before.loop in
-    (omega arith, clear-more (test (held s) s.args.costs.now) l.k l.invariant.1 (sym (tested c.before) ∙ c.if3.false))
+    (omega arith, clear_more (test (held s) s.args.costs.now) l.k l.invariant.1 (sym (tested c.before) ∙ c.if3.false))
 
 returns-3 : tie.Need-returns-3 invariant-loop decreases-loop
 returns-3 c =

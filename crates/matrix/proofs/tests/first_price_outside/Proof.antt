@@ -11,14 +11,14 @@ use mir.Val.{to_z, of_z}
 use mir.Facts.{to_z-of_z}
 use Rattle.ints.proofs.Bits.{read_back}
 use Rattle.lists.specs.Runs.{first}
-use Rattle.assignment.specs.Pairings.{signedAt}
+use Rattle.assignment.specs.Pairings.{signed_at}
 use Rattle.matrix.specs.Tests.{outside}
-use Rattle.matrix.proofs.First.{Clear, clear-start, clear-more, found, ended}
+use Rattle.matrix.proofs.First.{Clear, clear_start, clear_more, found, ended}
 use Rattle.matrix.proofs.tests.first_price_outside.Statement.{statement}
 use Rattle.matrix.proofs.tests.first_price_outside.Tie as tie
 
 abbrev test : ℤ → List ℤ → ℕ → Bool
-test limit prices i = outside limit (signedAt prices i)
+test limit prices i = outside limit (signed_at prices i)
 
 abbrev invariant-loop : tie.invariant-loop
 invariant-loop limit n prices i₀ i = (i ≤ n) × Clear (test (to_z w64 limit) prices) i
@@ -34,7 +34,7 @@ same : (s : tie.Start invariant-loop decreases-loop) → first s.args.n (test (h
 same s = ap (λ (z : ℤ). first s.args.n (test z s.args.prices.now)) (to_z-of_z s.ranges.limit)
 
 loop-holds : tie.Need-loop-init invariant-loop decreases-loop
-loop-holds c = (omega arith, clear-start _)
+loop-holds c = (omega arith, clear_start _)
 
 mul-outside : tie.Need-overflow-mul-outside invariant-loop decreases-loop
 mul-outside c = search rules
@@ -49,7 +49,7 @@ outside-requires c κs = let s = c.before.before.before in rw (to_z-of_z s.range
 tested : (c : tie.After-outside invariant-loop decreases-loop) → c.outside.result ≡ test (held c.before.before.before.before) c.before.before.before.before.args.prices.now c.before.before.before.loop.i
 tested c =
     let s = c.before.before.before.before in
-    let x = signedAt s.args.prices.now c.before.before.before.loop.i in
+    let x = signed_at s.args.prices.now c.before.before.before.loop.i in
     c.outside.ensures ∙ ap (outside (held s)) (read_back w64 x c.before.outside-arg.given)
 
 returns : tie.Need-returns invariant-loop decreases-loop
@@ -69,7 +69,7 @@ loop-again : tie.Need-loop-preserved invariant-loop decreases-loop
 loop-again c =
     let s = c.before.before.before.before.before in
     let l = c.before.before.before.before.loop in
-    (omega arith, clear-more (test (held s) s.args.prices.now) l.i l.invariant.1 (sym (tested c.before) ∙ c.if1.false))
+    (omega arith, clear_more (test (held s) s.args.prices.now) l.i l.invariant.1 (sym (tested c.before) ∙ c.if1.false))
 
 returns-2 : tie.Need-returns-2 invariant-loop decreases-loop
 returns-2 c =

@@ -1,6 +1,6 @@
 -- `list_short` hands a refusal on, and answers test 3 of `cost` where none came. Assumes nothing.
 use borrow.Author.Rules.{rules}
-use Rattle.matrix.proofs.Verdicts.{fails-then, passed_then}
+use Rattle.matrix.proofs.Verdicts.{fails_then, passed_then}
 use Rattle.matrix.proofs.tests.list_short.Statement.{statement}
 use Rattle.matrix.proofs.tests.list_short.Tie as tie
 
@@ -8,7 +8,7 @@ enum-known-before : tie.Need-enum-known-before
 enum-known-before c = search rules
 
 returns : tie.Need-returns
-returns c = fails-then _ c.before.before2.given.1
+returns c = fails_then _ c.before.before2.given.1
 
 enum_told : tie.Need-enum-told
 enum_told c = search rules

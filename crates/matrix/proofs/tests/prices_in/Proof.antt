@@ -9,11 +9,11 @@ use mir.Val.{to_z, of_z}
 use mir.Facts.{to_z-of_z}
 use Rattle.ints.specs.Parts.{Within}
 use Rattle.lists.specs.Runs.{first}
-use Rattle.lists.proofs.Runs.{first-le}
-use Rattle.assignment.specs.Pairings.{signedAt}
+use Rattle.lists.proofs.Runs.{first_le}
+use Rattle.assignment.specs.Pairings.{signed_at}
 use Rattle.matrix.specs.Tests.{outside}
 use Rattle.matrix.proofs.SmallLimits.{side-small}
-use Rattle.matrix.proofs.Verdicts.{fails-then, passed_then, failed-at, clear_at, found-then}
+use Rattle.matrix.proofs.Verdicts.{fails_then, passed_then, failed_at, clear_at, found_then}
 use Rattle.matrix.proofs.tests.prices_in.Statement.{statement}
 use Rattle.matrix.proofs.tests.prices_in.Tie as tie
 
@@ -23,24 +23,24 @@ limit-near s = rw (to_z-of_z s.ranges.limit) s.requires.0
 
 -- what the two searches find
 rows-found : (c : tie.After-first-price-outside) → let u = c.before.before.before.args in
-    c.first-price-outside.result ≡ first u.m (λ i. outside u.limit (signedAt u.us.now i))
+    c.first-price-outside.result ≡ first u.m (λ i. outside u.limit (signed_at u.us.now i))
 rows-found c =
     let s = c.before.before.before in
     let u = s.args in
-    c.first-price-outside.ensures ∙ ap (λ (z : ℤ). first u.m (λ i. outside z (signedAt u.us.now i))) (to_z-of_z s.ranges.limit)
+    c.first-price-outside.ensures ∙ ap (λ (z : ℤ). first u.m (λ i. outside z (signed_at u.us.now i))) (to_z-of_z s.ranges.limit)
 
 columns-found : (c : tie.After-first-price-outside2) → let u = c.before.before.before.before.before.args in
-    c.first-price-outside2.result ≡ first u.n (λ j. outside u.limit (signedAt u.vs.now j))
+    c.first-price-outside2.result ≡ first u.n (λ j. outside u.limit (signed_at u.vs.now j))
 columns-found c =
     let s = c.before.before.before.before.before in
     let u = s.args in
-    c.first-price-outside2.ensures ∙ ap (λ (z : ℤ). first u.n (λ j. outside z (signedAt u.vs.now j))) (to_z-of_z s.ranges.limit)
+    c.first-price-outside2.ensures ∙ ap (λ (z : ℤ). first u.n (λ j. outside z (signed_at u.vs.now j))) (to_z-of_z s.ranges.limit)
 
 enum-known-before : tie.Need-enum-known-before
 enum-known-before c = search rules
 
 returns : tie.Need-returns
-returns c = fails-then _ c.before.before2.given.1
+returns c = fails_then _ c.before.before2.given.1
 
 enum_told : tie.Need-enum-told
 enum_told c = search rules
@@ -54,7 +54,7 @@ fails-if-requires c κs = search rules
 returns-2 : tie.Need-returns-2
 returns-2 c =
     passed_then _ c.before.before.before.enum_told.given.1
-    (found-then _ (λ i. i) _ _ (rows-found c.before.before) _ c.before.if1.true c.fails-if.ensures)
+    (found_then _ (λ i. i) _ _ (rows-found c.before.before) _ c.before.if1.true c.fails-if.ensures)
 
 first-price-outside-requires-2 : tie.Need-first-price-outside-requires-2
 first-price-outside-requires-2 c κs = let s = c.before.before.before.before in (limit-near s, (s.requires.1 c.before.before.enum_told.given.1).3)
@@ -63,7 +63,7 @@ add-fails-if : tie.Need-overflow-add-fails-if
 add-fails-if c =
     let d = c.before.before.before in
     let u = d.before.before.args in
-    omega (arith, side-small, d.before.before.requires.1 d.enum_told.given.1, columns-found c, first-le (λ j. outside u.limit (signedAt u.vs.now j)) u.n)
+    omega (arith, side-small, d.before.before.requires.1 d.enum_told.given.1, columns-found c, first_le (λ j. outside u.limit (signed_at u.vs.now j)) u.n)
 
 fails-if-requires-2 : tie.Need-fails-if-requires-2
 fails-if-requires-2 c κs = search rules
@@ -73,7 +73,7 @@ returns-3 c =
     let d = c.before.before.before in
     passed_then _ d.before.enum_told.given.1
     (passed_then _ (clear_at _ (λ i. i) _ _ (rows-found d) c.before.before.if1.false)
-    (c.fails-if2.ensures ∙ failed-at _ (λ j. d.before.before.before.args.m + j) _ _ (columns-found c.before)))
+    (c.fails-if2.ensures ∙ failed_at _ (λ j. d.before.before.before.args.m + j) _ _ (columns-found c.before)))
 
 pub prices-in-spec : {M : Type 1} → statement M
 prices-in-spec =

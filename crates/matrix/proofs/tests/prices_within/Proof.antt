@@ -6,7 +6,7 @@ use lib.IntN.{ℤ}
 use mir.Syntax.{w64}
 use Rattle.ints.proofs.Bits.{read_back}
 use Rattle.matrix.specs.Refusals.{PriceOutside}
-use Rattle.matrix.specs.Tests.{pricesIn}
+use Rattle.matrix.specs.Tests.{prices_in}
 use Rattle.matrix.specs.Verdicts.{◌then◌}
 use Rattle.matrix.proofs.SmallLimits.{K-small}
 use Rattle.matrix.proofs.tests.prices_within.Statement.{statement}
@@ -24,8 +24,8 @@ returns : tie.Need-returns
 returns c =
     let b = c.before.price-bound in
     let u = c.before.before.args in
-    c.prices-in.ensures
-    ∙ ap (λ (z : ℤ). u.before then pricesIn PriceOutside z u.m u.n u.us.now u.vs.now) (read_back w64 b.result b.type-inv ∙ b.ensures)
+    c.prices_in_lem.ensures
+    ∙ ap (λ (z : ℤ). u.before then prices_in PriceOutside z u.m u.n u.us.now u.vs.now) (read_back w64 b.result b.type-inv ∙ b.ensures)
 
 pub prices-within-spec : {M : Type 1} → statement M
 prices-within-spec = tie.close (tie.spec price-bound-requires prices-in-requires returns)

@@ -4,7 +4,7 @@ use borrow.Author.Rules.{rules}
 use borrow.Author.Tests.{lt-ltb, le-ltb}
 use Rattle.matrix.specs.Refusals.{RoomShort}
 use Rattle.matrix.proofs.SmallLimits.{side-small}
-use Rattle.matrix.proofs.Verdicts.{fails-then, passed_then, failsIf-iff, refused-then}
+use Rattle.matrix.proofs.Verdicts.{fails_then, passed_then, fails_if_iff, refused_then}
 use Rattle.matrix.proofs.tests.rooms_long.Statement.{statement}
 use Rattle.matrix.proofs.tests.rooms_long.Tie as tie
 
@@ -12,7 +12,7 @@ enum-known-before : tie.Need-enum-known-before
 enum-known-before c = search rules
 
 returns : tie.Need-returns
-returns c = fails-then _ c.before.before2.given.1
+returns c = fails_then _ c.before.before2.given.1
 
 enum_told : tie.Need-enum-told
 enum_told c = search rules
@@ -26,7 +26,7 @@ fails-if-requires c κs = search rules
 returns-2 : tie.Need-returns-2
 returns-2 c =
     passed_then _ c.before.before.enum_told.given.1
-    (refused-then RoomShort 1 _ _ (lt-ltb _ _ c.before.if1.true) c.fails-if.ensures)
+    (refused_then RoomShort 1 _ _ (lt-ltb _ _ c.before.if1.true) c.fails-if.ensures)
 
 fails-if-requires-2 : tie.Need-fails-if-requires-2
 fails-if-requires-2 c κs = search rules
@@ -34,7 +34,7 @@ fails-if-requires-2 c κs = search rules
 returns-3 : tie.Need-returns-3
 returns-3 c =
     passed_then _ c.before.before.enum_told.given.1
-    (passed_then _ ((failsIf-iff _ _ _).1 (le-ltb _ _ c.before.if1.false)) c.fails-if2.ensures)
+    (passed_then _ ((fails_if_iff _ _ _).1 (le-ltb _ _ c.before.if1.false)) c.fails-if2.ensures)
 
 pub rooms-long-spec : {M : Type 1} → statement M
 rooms-long-spec =

@@ -14,8 +14,8 @@ use mir.Facts.{to_z-of_z}
 use Rattle.ints.specs.Parts.{Within}
 use Rattle.ints.proofs.Shapes.{zlin}
 use Rattle.lists.specs.Counts.{some}
-use Rattle.lists.proofs.Counts.{some-none, some-last}
-use Rattle.assignment.specs.Pairings.{signedAt}
+use Rattle.lists.proofs.Counts.{some_none, some-last}
+use Rattle.assignment.specs.Pairings.{signed_at}
 use Rattle.matrix.specs.Limits.{K}
 use Rattle.matrix.specs.Tests.{outside}
 use Rattle.matrix.proofs.SmallLimits.{K-small}
@@ -24,7 +24,7 @@ use Rattle.matrix.proofs.tests.some_cost_outside.Statement.{statement}
 use Rattle.matrix.proofs.tests.some_cost_outside.Tie as tie
 
 abbrev test : ℤ → List ℤ → ℕ → Bool
-test limit costs k = outside limit (signedAt costs k)
+test limit costs k = outside limit (signed_at costs k)
 
 negated_fits : (limit : ℤ) → Within K limit → SFits w32 (pos 0 -ℤ limit)
 negated_fits limit near = omega (zlin, K-small)
@@ -44,7 +44,7 @@ sub_low : tie.Need-overflow-sub-low invariant-loop decreases-loop
 sub_low c = minus-fits c.ranges.limit (negated_fits c.args.limit c.requires)
 
 loop-holds : tie.Need-loop-init invariant-loop decreases-loop
-loop-holds c = (omega arith, sym (some-none _))
+loop-holds c = (omega arith, sym (some_none _))
 
 mul-cost : tie.Need-overflow-mul-cost invariant-loop decreases-loop
 mul-cost c = search rules
@@ -63,7 +63,7 @@ loop-again c =
     let s = c.before.before.before in
     let u = s.args in
     let l = c.before.before.loop in
-    let x = signedAt u.costs.now l.k in
+    let x = signed_at u.costs.now l.k in
     let held = to_z w32 (of_z w32 u.limit) in
     let t = tested x u.limit (record { sfits = c.cost.given }) s.ranges.limit s.requires in
     let e : suc l.k ≡ l.k + 1 = omega arith in (

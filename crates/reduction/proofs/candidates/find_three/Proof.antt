@@ -12,7 +12,7 @@ use lib.ListN.{length}
 use mir.Syntax.{w64}
 use mir.Val.{SFits, to_z, of_z}
 use Rattle.ints.proofs.Bits.{read_back}
-use Rattle.assignment.specs.Pairings.{signedAt}
+use Rattle.assignment.specs.Pairings.{signed_at}
 use Rattle.reduction.specs.declared.candidates.Three.{Three}
 use Rattle.reduction.specs.Ranges.{NextBelow}
 use Rattle.reduction.specs.Candidates.{FoundThree, insert}
@@ -22,7 +22,7 @@ use Rattle.reduction.proofs.candidates.find_three.Tie as tie
 
 -- the reduced cost at column j
 abbrev at : List ℤ → List ℤ → ℕ → ℤ
-at row v j = signedAt row j -ℤ signedAt v j
+at row v j = signed_at row j -ℤ signed_at v j
 
 -- the loop's head at column j
 abbrev Head : List ℤ → List ℤ → Three → ℕ → Type 0

@@ -7,7 +7,7 @@ use borrow.Author.Rules.{rules}
 use lib.IntN.{ℤ}
 use lib.ListN.{length, drop, set}
 use Rattle.lists.specs.Permutations.{table}
-use Rattle.lists.proofs.Tables.{filled_none, filled_more, filled-length, filled-all}
+use Rattle.lists.proofs.Tables.{filled_none, filled_more, filled-length, filled_all}
 use Rattle.reduction.specs.Candidates.{unseen}
 use Rattle.reduction.proofs.candidates.forget.Statement.{statement}
 use Rattle.reduction.proofs.candidates.forget.Tie as tie
@@ -61,7 +61,7 @@ returns c =
     let l = c.before.loop in
     let l₀ = c.before.before.args.limits.now in
     let long = ap length l.invariant.1 ∙ filled-length l.k (λ i. unseen) l₀ l.invariant.0 in
-    l.invariant.1 ∙ filled-all l.k (λ i. unseen) l₀ (omega (arith, long))
+    l.invariant.1 ∙ filled_all l.k (λ i. unseen) l₀ (omega (arith, long))
 
 pub forget-spec : {M : Type 1} → statement M
 forget-spec = tie.close (tie.spec invariant-loop decreases-loop loop-holds mul-limits slice-set-of-limits add-k loop-less loop-again same_length returns)

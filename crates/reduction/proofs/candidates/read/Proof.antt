@@ -21,7 +21,7 @@ find-three-requires : tie.Need-find-three-requires
 find-three-requires c κs = let s = c.before in (s.requires.0, s.requires.1)
 
 cast-kept : tie.Need-overflow-cast-kept
-cast-kept c = let d = finding (c) in omega (arith, d.find-three.ensures.places.kept.p-inside, (start d).pre.4)
+cast-kept c = let d = finding (c) in omega (arith, d.find-three.ensures.places.kept.p_inside, (start d).pre.4)
 
 mul-kept : tie.Need-overflow-mul-kept
 mul-kept c = search rules
@@ -33,7 +33,7 @@ slice-write-kept : tie.Need-slice-write-kept
 slice-write-kept c = search rules
 
 cast-kept-2 : tie.Need-overflow-cast-kept-2
-cast-kept-2 c = let d = finding c.before in omega (arith, d.find-three.ensures.places.kept.q-inside, (start d).pre.4)
+cast-kept-2 c = let d = finding c.before in omega (arith, d.find-three.ensures.places.kept.q_inside, (start d).pre.4)
 
 mul-kept-3 : tie.Need-overflow-mul-kept-3
 mul-kept-3 c = search rules
@@ -52,7 +52,7 @@ slice-write-kept-2 c =
     omega (arith, s.pre.2.kept-size, s.pre.3, length-set u.kept.now (3 * u.i) e.find-three.result.first.place)
 
 cast-kept-3 : tie.Need-overflow-cast-kept-3
-cast-kept-3 c = let d = finding c.before.before in omega (arith, d.find-three.ensures.places.kept.r-inside, (start d).pre.4)
+cast-kept-3 c = let d = finding c.before.before in omega (arith, d.find-three.ensures.places.kept.r_inside, (start d).pre.4)
 
 mul-kept-5 : tie.Need-overflow-mul-kept-5
 mul-kept-5 c = search rules

@@ -1,7 +1,7 @@
 -- `recall` answers the first two of the columns kept. Assumes nothing.
 use mathlib.Core.Path.{◌∙◌}
 use borrow.Author.Rules.{rules}
-use Rattle.reduction.proofs.Recalled.{first-two-cong}
+use Rattle.reduction.proofs.Recalled.{first_two_cong}
 use Rattle.reduction.proofs.candidates.recall.Statement.{statement}
 use Rattle.reduction.proofs.candidates.recall.Tie as tie
 
@@ -62,7 +62,7 @@ first-two-requires c κs = search rules
 returns : tie.Need-returns
 returns c =
     let d = c.before in
-    c.first_two.ensures ∙ first-two-cong d.before.before.low-at.ensures d.before.low-at2.ensures d.low-at3.ensures
+    c.first_two.ensures ∙ first_two_cong d.before.before.low-at.ensures d.before.low-at2.ensures d.low-at3.ensures
 
 pub recall-spec : {M : Type 1} → statement M
 recall-spec =

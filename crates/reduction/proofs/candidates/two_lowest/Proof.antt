@@ -6,7 +6,7 @@ use borrow.Author.Rules.{rules}
 use lib.Signed.{lt_z}
 use mir.Syntax.{w64}
 use Rattle.ints.proofs.Bits.{read_back}
-use Rattle.assignment.specs.Pairings.{signedAt}
+use Rattle.assignment.specs.Pairings.{signed_at}
 use Rattle.reduction.specs.Candidates.{seen}
 use Rattle.reduction.proofs.Rooms.{told-settled, told-seen, recallable}
 use Rattle.reduction.proofs.candidates.two_lowest.Statement.{statement}
@@ -16,11 +16,11 @@ abbrev start : tie.After-limit → tie.Start
 start c = c.before.before.before
 
 -- there are candidates
-is-limit : (c : tie.Then3) → lt_z (signedAt (start c.before.before).args.limits.now (start c.before.before).args.i) seen ≡ true
+is-limit : (c : tie.Then3) → lt_z (signed_at (start c.before.before).args.limits.now (start c.before.before).args.i) seen ≡ true
 is-limit c =
     let d = c.before.before in
     let u = (start d).args in
-    rw (read_back w64 (signedAt u.limits.now u.i) d.limit.given) at c.if3.true
+    rw (read_back w64 (signed_at u.limits.now u.i) d.limit.given) at c.if3.true
 
 find-umins-plain-requires : tie.Need-find-umins-plain-requires
 find-umins-plain-requires c κs = search rules
@@ -68,7 +68,7 @@ returns-3 c =
     let d = t.before.before in
     let s = start d in
     told-settled s.pre.4 (is-limit t) r.recall.ensures
-    (rw (read_back w64 (signedAt s.args.limits.now s.args.i) d.limit.given) at (sym c.before.settled.ensures ∙ c.if4.true))
+    (rw (read_back w64 (signed_at s.args.limits.now s.args.i) d.limit.given) at (sym c.before.settled.ensures ∙ c.if4.true))
 
 read-requires : tie.Need-read-requires
 read-requires c κs = search rules

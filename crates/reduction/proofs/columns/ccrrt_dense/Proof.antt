@@ -7,7 +7,7 @@ use Rattle.assignment.specs.Pairings.{square}
 use Rattle.rules.specs.Columns.{Claims, claims}
 use Rattle.matrix.proofs.SmallLimits.{side-small}
 use Rattle.reduction.specs.Columns.{claims_of}
-use Rattle.reduction.proofs.Stages.{roomLent, frontLent, Cleared, ready, claims-are, cleared, claims-claimable, ready-to-transfer, stage-ends, room-ends, after-length}
+use Rattle.reduction.proofs.Stages.{room_lent, front_lent, Cleared, ready, claims_are, cleared, claims_claimable, ready_to_transfer, stage-ends, room-ends, after-length}
 use Rattle.reduction.proofs.columns.ccrrt_dense.Statement.{statement}
 use Rattle.reduction.proofs.columns.ccrrt_dense.Tie as tie
 
@@ -80,7 +80,7 @@ claimed : (c : tie.After-claim-all)
     claims_of c.claim-all.new.1.0 c.claim-all.new.1.1.0 c.claim-all.new.1.1.1.0 ≡ claims u.n (square u.n u.costs.now).cost
 claimed c =
     let d = filling c in
-    claims-are (start d).pre d.before.before.before.before.fill.ensures (minima-at d).minima.ensures.0 (minima-at d).minima.ensures.1 d.fill2.ensures c.claim-all.ensures
+    claims_are (start d).pre d.before.before.before.before.fill.ensures (minima-at d).minima.ensures.0 (minima-at d).minima.ensures.1 d.fill2.ensures c.claim-all.ensures
 
 sub-fill-2 : tie.Need-overflow-sub-fill-2
 sub-fill-2 c = search rules
@@ -104,7 +104,7 @@ at_clear : (c : tie.After-fill3)
     let u = (start d).args in
     let a = (claiming c).claim-all in
     Cleared u.n (square u.n u.costs.now).cost u.room.now a.last.1.0 (minima-at d).minima.last.1.1.1.0
-    (frontLent u.n c.fill3.new.0 (roomLent u.n a.last.1.1.1.0 (roomLent u.n d.fill2.last.0 u.room.now)))
+    (front_lent u.n c.fill3.new.0 (room_lent u.n a.last.1.1.1.0 (room_lent u.n d.fill2.last.0 u.room.now)))
 at_clear c =
     let d = filling (claiming c) in
     cleared (start d).pre d.before.before.before.before.fill.ensures (minima-at d).minima.ensures.0 (minima-at d).minima.ensures.1 d.fill2.ensures
@@ -113,19 +113,19 @@ at_clear c =
 transfers-requires : tie.Need-transfers-requires
 transfers-requires c κs =
     let d = c.before.before.before.before.before in
-    ready-to-transfer (start (filling (claiming d))).requires (at_clear d)
+    ready_to_transfer (start (filling (claiming d))).requires (at_clear d)
 
 same_length : tie.Need-same-length
 same_length c =
     let d = claiming (clearing c) in
     let s = start (filling d) in
-    ap (λ (x : Claims). length x.cols) (claimed d) ∙ (claims-claimable s.args.n (square s.args.n s.args.costs.now).cost).cols-size ∙ sym s.pre.cols-size
+    ap (λ (x : Claims). length x.cols) (claimed d) ∙ (claims_claimable s.args.n (square s.args.n s.args.costs.now).cost).cols-size ∙ sym s.pre.cols-size
 
 same-length-2 : tie.Need-same-length-2
 same-length-2 c =
     let d = claiming (clearing c) in
     let s = start (filling d) in
-    ap (λ (x : Claims). length x.rows) (claimed d) ∙ (claims-claimable s.args.n (square s.args.n s.args.costs.now).cost).rows-size ∙ sym s.pre.rows-size
+    ap (λ (x : Claims). length x.rows) (claimed d) ∙ (claims_claimable s.args.n (square s.args.n s.args.costs.now).cost).rows-size ∙ sym s.pre.rows-size
 
 same-length-3 : tie.Need-same-length-3
 same-length-3 c =

@@ -5,7 +5,7 @@ use borrow.Author.Rules.{rules}
 use Rattle.lists.specs.Permutations.{at}
 use Rattle.matrix.proofs.SmallLimits.{side-small}
 use Rattle.reduction.specs.Columns.{claims_of}
-use Rattle.reduction.proofs.Claims.{claim-wins, claim-loses}
+use Rattle.reduction.proofs.Claims.{claim_wins, claim_loses}
 use Rattle.reduction.proofs.columns.claim.Statement.{statement}
 use Rattle.reduction.proofs.columns.claim.Tie as tie
 
@@ -61,7 +61,7 @@ same-length-2 : tie.Need-same-length-2
 same-length-2 c = search rules
 
 returns : tie.Need-returns
-returns c = let u = c.before.before.before.args in claim-wins u.j (claims_of u.cols.now u.rows.now u.marks.now) c.if1.true
+returns c = let u = c.before.before.before.args in claim_wins u.j (claims_of u.cols.now u.rows.now u.marks.now) c.if1.true
 
 same-length-3 : tie.Need-same-length-3
 same-length-3 c = search rules
@@ -70,7 +70,7 @@ same-length-4 : tie.Need-same-length-4
 same-length-4 c = search rules
 
 returns-2 : tie.Need-returns-2
-returns-2 c = let u = c.before.before.before.args in claim-loses u.j (claims_of u.cols.now u.rows.now u.marks.now) c.if1.false
+returns-2 c = let u = c.before.before.before.args in claim_loses u.j (claims_of u.cols.now u.rows.now u.marks.now) c.if1.false
 
 pub claim-spec : {M : Type 1} → statement M
 claim-spec =

@@ -4,7 +4,7 @@ use Prim.Native.Nat.{◌≤◌, ◌-◌}
 use native.Mathlib.Omega.{arith}
 use borrow.Author.Rules.{rules}
 use Rattle.reduction.specs.Columns.{claims_of}
-use Rattle.reduction.proofs.Claims.{Head, head-start, head-claimable, head-next, head-ends}
+use Rattle.reduction.proofs.Claims.{Head, head_start, head_claimable, head_next, head_ends}
 use Rattle.reduction.proofs.columns.claim_all.Statement.{statement}
 use Rattle.reduction.proofs.columns.claim_all.Tie as tie
 
@@ -18,7 +18,7 @@ decreases-loop n cols₀ rows₀ marks₀ turn₀ cols rows marks turn = n - tur
 loop-holds : tie.Need-loop-init invariant-loop decreases-loop
 loop-holds c =
     let s = c.before.before.before in
-    (omega arith, head-start s.args.n (s.args.n - 0) (claims_of s.args.cols.now s.args.rows.now s.args.marks.now) (omega arith) s.requires.1)
+    (omega arith, head_start s.args.n (s.args.n - 0) (claims_of s.args.cols.now s.args.rows.now s.args.marks.now) (omega arith) s.requires.1)
 
 add_turn : tie.Need-overflow-add-turn invariant-loop decreases-loop
 add_turn c = search rules
@@ -29,7 +29,7 @@ sub-claim c = search rules
 claim-requires : tie.Need-claim-requires invariant-loop decreases-loop
 claim-requires c κs =
     let a = c.before.before.before.before in
-    (a.before.before.before.before.requires.0, omega arith, head-claimable a.loop.invariant.1 _ (omega arith))
+    (a.before.before.before.before.requires.0, omega arith, head_claimable a.loop.invariant.1 _ (omega arith))
 
 loop-less : tie.Need-loop-smaller invariant-loop decreases-loop
 loop-less c = search rules
@@ -38,7 +38,7 @@ loop-again : tie.Need-loop-preserved invariant-loop decreases-loop
 loop-again c =
     let d = c.before.before.before.before.before.before in
     let a = d.before.before.before.before.before in
-    (omega arith, head-next a.loop.invariant.1 _ (omega arith) _ d.claim.ensures)
+    (omega arith, head_next a.loop.invariant.1 _ (omega arith) _ d.claim.ensures)
 
 same_length : tie.Need-same-length invariant-loop decreases-loop
 same_length c = c.before.loop.invariant.1.claimable.cols-size ∙ sym c.before.before.before.before.before.requires.1.cols-size
@@ -50,7 +50,7 @@ same-length-3 : tie.Need-same-length-3 invariant-loop decreases-loop
 same-length-3 c = c.before.loop.invariant.1.claimable.marks-size ∙ sym c.before.before.before.before.before.requires.1.marks-size
 
 returns : tie.Need-returns invariant-loop decreases-loop
-returns c = head-ends c.before.loop.invariant.1 (omega arith)
+returns c = head_ends c.before.loop.invariant.1 (omega arith)
 
 pub claim-all-spec : {M : Type 1} → statement M
 claim-all-spec =

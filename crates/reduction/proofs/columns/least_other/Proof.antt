@@ -9,25 +9,25 @@ use lib.IntN.{ℤ, ◌-ℤ◌}
 use lib.ListN.{length}
 use mir.Syntax.{w64}
 use Rattle.ints.proofs.Bits.{read_back}
-use Rattle.assignment.specs.Pairings.{signedAt}
-use Rattle.rules.specs.Lowest.{least, leastBut}
+use Rattle.assignment.specs.Pairings.{signed_at}
+use Rattle.rules.specs.Lowest.{least, least_but}
 use Rattle.reduction.proofs.Bits.{reduced-back}
-use Rattle.reduction.proofs.Turns.{leastBut-none, leastBut-same, leastBut-other, leastBut-pass}
+use Rattle.reduction.proofs.Turns.{least_but_none, least_but-same, least_but_other, least_but-pass}
 use Rattle.reduction.proofs.columns.least_other.Statement.{statement}
 use Rattle.reduction.proofs.columns.least_other.Tie as tie
 
 -- the reduced cost at column k
 abbrev at : List ℤ → List ℤ → ℕ → ℤ
-at row v k = signedAt row k -ℤ signedAt v k
+at row v k = signed_at row k -ℤ signed_at v k
 
 abbrev invariant-loop : tie.invariant-loop
-invariant-loop row v j found₀ k₀ found k = (k ≤ length row) × (found ≡ leastBut k (at row v) j)
+invariant-loop row v j found₀ k₀ found k = (k ≤ length row) × (found ≡ least_but k (at row v) j)
 
 abbrev decreases-loop : tie.decreases-loop
 decreases-loop row v j found₀ k₀ found k = length row - k
 
 loop-holds : tie.Need-loop-init invariant-loop decreases-loop
-loop-holds c = (omega arith, sym (leastBut-none (at c.args.row.now c.args.v.now) c.args.j))
+loop-holds c = (omega arith, sym (least_but_none (at c.args.row.now c.args.v.now) c.args.j))
 
 mul-reduced-cost : tie.Need-overflow-mul-reduced-cost invariant-loop decreases-loop
 mul-reduced-cost c = search rules
@@ -45,7 +45,7 @@ reduced-cost-requires : tie.Need-reduced-cost-requires invariant-loop decreases-
 reduced-cost-requires c κs =
     let s = c.before.before.before.before.before in
     let k = c.before.before.before.before.loop.k in
-    rw (read_back w64 (signedAt s.args.v.now k) c.reduced-cost-arg2.given) (s.requires.1 k c.before.before.before.loop-test.true)
+    rw (read_back w64 (signed_at s.args.v.now k) c.reduced-cost-arg2.given) (s.requires.1 k c.before.before.before.loop-test.true)
 
 least-requires : tie.Need-least-requires invariant-loop decreases-loop
 least-requires c κs = search rules
@@ -68,12 +68,12 @@ loop-again c =
     let k = l.k in
     let m = c.next-least.ensures in (
       m.most,
-      leastBut-pass f d.if1.found u.j (k + 1) c.next-least.result m.on
+      least_but-pass f d.if1.found u.j (k + 1) c.next-least.result m.on
           (⊎_elim
           (λ w. w.5 ∙ w.4.ensures ∙ ap₂ least l.invariant.1
-          (reduced-back (signedAt u.row.now k) (signedAt u.v.now k) w.3.result w.1.given w.2.given w.3.ok w.3.ensures) ∙ sym
-          (leastBut-other f u.j k w.0.taken))
-          (λ w. w.1 ∙ l.invariant.1 ∙ sym (leastBut-same f u.j k w.0.left))
+          (reduced-back (signed_at u.row.now k) (signed_at u.v.now k) w.3.result w.1.given w.2.given w.3.ok w.3.ensures) ∙ sym
+          (least_but_other f u.j k w.0.taken))
+          (λ w. w.1 ∙ l.invariant.1 ∙ sym (least_but-same f u.j k w.0.left))
           d.if1.branch) m.passed,
     )
 
@@ -82,7 +82,7 @@ returns c =
     let u = c.before.before.args in
     let l = c.before.loop in
     let e : l.k ≡ length u.row.now = omega arith in
-    l.invariant.1 ∙ ap (λ (m : ℕ). leastBut m (at u.row.now u.v.now) u.j) e
+    l.invariant.1 ∙ ap (λ (m : ℕ). least_but m (at u.row.now u.v.now) u.j) e
 
 pub least-other-spec : {M : Type 1} → statement M
 least-other-spec =

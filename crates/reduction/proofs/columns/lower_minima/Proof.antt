@@ -12,40 +12,40 @@ use lib.ListN.{length, set, drop}
 use mir.Syntax.{w64}
 use Rattle.ints.proofs.Bits.{read_back, read_wide, wide_fits}
 use Rattle.lists.specs.Permutations.{at, table}
-use Rattle.lists.proofs.Tables.{filled_none, filled_more, filled-length, filled-all, filled_next, filled-kept}
-use Rattle.assignment.specs.Pairings.{signedAt}
+use Rattle.lists.proofs.Tables.{filled_none, filled_more, filled-length, filled_all, filled_next, filled-kept}
+use Rattle.assignment.specs.Pairings.{signed_at}
 use Rattle.rules.specs.declared.Low.{Low}
 use Rattle.rules.specs.Lowest.{low}
 use Rattle.matrix.proofs.SmallLimits.{side-small}
-use Rattle.reduction.specs.Columns.{lowAt}
+use Rattle.reduction.specs.Columns.{low_at}
 use Rattle.reduction.proofs.columns.lower_minima.Statement.{statement}
 use Rattle.reduction.proofs.columns.lower_minima.Tie as tie
 
 -- The first j columns have row i beside them already.
 abbrev Filled : ℕ → ℕ → List ℤ → List ℤ → List ℤ → List ℕ → List ℕ → Type 0
 Filled i j row v₀ v rows₀ rows =
-    (rows ≡ table j (λ k. (lowAt i row v₀ rows₀ k).place) ++ drop j rows₀) × (v ≡ table j (λ k. (lowAt i row v₀ rows₀ k).value) ++ drop j v₀)
+    (rows ≡ table j (λ k. (low_at i row v₀ rows₀ k).place) ++ drop j rows₀) × (v ≡ table j (λ k. (low_at i row v₀ rows₀ k).value) ++ drop j v₀)
 
-same-price : (i j : ℕ) (row v₀ v : List ℤ) (rows₀ : List ℕ) → j < length v₀ → v ≡ table j (λ k. (lowAt i row v₀ rows₀ k).value) ++ drop j v₀
-    → signedAt v j ≡ signedAt v₀ j
-same-price i j row v₀ v rows₀ h e = ap (λ (x : List ℤ). signedAt x j) e ∙ filled_next (λ k. (lowAt i row v₀ rows₀ k).value) v₀ j (pos 0) h
+same-price : (i j : ℕ) (row v₀ v : List ℤ) (rows₀ : List ℕ) → j < length v₀ → v ≡ table j (λ k. (low_at i row v₀ rows₀ k).value) ++ drop j v₀
+    → signed_at v j ≡ signed_at v₀ j
+same-price i j row v₀ v rows₀ h e = ap (λ (x : List ℤ). signed_at x j) e ∙ filled_next (λ k. (low_at i row v₀ rows₀ k).value) v₀ j (pos 0) h
 
 module _ (i j : ℕ) (row v₀ v v' : List ℤ) (rows₀ rows rows' : List ℕ) (here : j < length v₀) (there : j < length rows₀)
-    (er : rows ≡ table j (λ k. (lowAt i row v₀ rows₀ k).place) ++ drop j rows₀) (ev : v ≡ table j (λ k. (lowAt i row v₀ rows₀ k).value) ++ drop j v₀) where
+    (er : rows ≡ table j (λ k. (low_at i row v₀ rows₀ k).place) ++ drop j rows₀) (ev : v ≡ table j (λ k. (low_at i row v₀ rows₀ k).value) ++ drop j v₀) where
   -- a column that row i lowers
-  lowered : lt_z (signedAt row j) (signedAt v₀ j) ≡ true → rows' ≡ set rows j i → v' ≡ set v j (signedAt row j) → Filled i (j + 1) row v₀ v' rows₀ rows'
+  lowered : lt_z (signed_at row j) (signed_at v₀ j) ≡ true → rows' ≡ set rows j i → v' ≡ set v j (signed_at row j) → Filled i (j + 1) row v₀ v' rows₀ rows'
   lowered t r p =
-      let q : low (signedAt row j) i ≡ lowAt i row v₀ rows₀ j = ap (λ (b : Bool). cond b (low (signedAt row j) i) (low (signedAt v₀ j) (at rows₀ j))) (sym t) in (
-        r ∙ ap₂ (λ (x : List ℕ) (y : Low). set x j y.place) er q ∙ filled_more j (λ k. (lowAt i row v₀ rows₀ k).place) rows₀ there,
-        p ∙ ap₂ (λ (x : List ℤ) (y : Low). set x j y.value) ev q ∙ filled_more j (λ k. (lowAt i row v₀ rows₀ k).value) v₀ here,
+      let q : low (signed_at row j) i ≡ low_at i row v₀ rows₀ j = ap (λ (b : Bool). cond b (low (signed_at row j) i) (low (signed_at v₀ j) (at rows₀ j))) (sym t) in (
+        r ∙ ap₂ (λ (x : List ℕ) (y : Low). set x j y.place) er q ∙ filled_more j (λ k. (low_at i row v₀ rows₀ k).place) rows₀ there,
+        p ∙ ap₂ (λ (x : List ℤ) (y : Low). set x j y.value) ev q ∙ filled_more j (λ k. (low_at i row v₀ rows₀ k).value) v₀ here,
       )
 
   -- a column that it leaves
-  kept : lt_z (signedAt row j) (signedAt v₀ j) ≡ false → rows' ≡ rows → v' ≡ v → Filled i (j + 1) row v₀ v' rows₀ rows'
+  kept : lt_z (signed_at row j) (signed_at v₀ j) ≡ false → rows' ≡ rows → v' ≡ v → Filled i (j + 1) row v₀ v' rows₀ rows'
   kept t r p =
-      let q : lowAt i row v₀ rows₀ j ≡ low (signedAt v₀ j) (at rows₀ j) = ap (λ (b : Bool). cond b (low (signedAt row j) i) (low (signedAt v₀ j) (at rows₀ j))) t in (
-        r ∙ er ∙ filled-kept (λ k. (lowAt i row v₀ rows₀ k).place) rows₀ j 0 there (ap (λ (y : Low). y.place) q),
-        p ∙ ev ∙ filled-kept (λ k. (lowAt i row v₀ rows₀ k).value) v₀ j (pos 0) here (ap (λ (y : Low). y.value) q),
+      let q : low_at i row v₀ rows₀ j ≡ low (signed_at v₀ j) (at rows₀ j) = ap (λ (b : Bool). cond b (low (signed_at row j) i) (low (signed_at v₀ j) (at rows₀ j))) t in (
+        r ∙ er ∙ filled-kept (λ k. (low_at i row v₀ rows₀ k).place) rows₀ j 0 there (ap (λ (y : Low). y.place) q),
+        p ∙ ev ∙ filled-kept (λ k. (low_at i row v₀ rows₀ k).value) v₀ j (pos 0) here (ap (λ (y : Low). y.value) q),
       )
 
 abbrev invariant-loop : tie.invariant-loop
@@ -64,7 +64,7 @@ shared-slice-copy-out-cost : tie.Need-shared-slice-copy-out-cost invariant-loop 
 shared-slice-copy-out-cost c = search rules
 
 cast-cost : tie.Need-overflow-cast-cost invariant-loop decreases-loop
-cast-cost c = wide_fits (signedAt c.before.before.before.args.row.now c.before.before.loop.j) c.cost.given
+cast-cost c = wide_fits (signed_at c.before.before.before.args.row.now c.before.before.loop.j) c.cost.given
 
 mul-if1 : tie.Need-overflow-mul-if1 invariant-loop decreases-loop
 mul-if1 c = search rules
@@ -101,12 +101,12 @@ loop-again c =
     let u = s.args in
     let l = a.loop in
     let j = l.j in
-    let f : ℕ → Low = λ k. lowAt u.i u.row.now u.v.now u.rows.now k in
+    let f : ℕ → Low = λ k. low_at u.i u.row.now u.v.now u.rows.now k in
     let more = d.before.before.loop-test.true in
     let here : j < length u.v.now = omega (arith, s.requires.2, more) in
     let there : j < length u.rows.now = omega (arith, s.requires.1, more) in
-    let wide = read_wide (signedAt u.row.now j) d.before.cost.given in
-    let tested = ap₂ lt_z wide (read_back w64 (signedAt l.v j) d.if12.given ∙ same-price u.i j u.row.now u.v.now l.v u.rows.now here l.invariant.3.1) in
+    let wide = read_wide (signed_at u.row.now j) d.before.cost.given in
+    let tested = ap₂ lt_z wide (read_back w64 (signed_at l.v j) d.if12.given ∙ same-price u.i j u.row.now u.v.now l.v u.rows.now here l.invariant.3.1) in
     let next : Filled u.i (j + 1) u.row.now u.v.now c.if1.v u.rows.now c.if1.rows =
     ⊎_elim
     (λ w. lowered u.i j u.row.now u.v.now l.v c.if1.v u.rows.now l.rows c.if1.rows here there l.invariant.3.0 l.invariant.3.1
@@ -131,9 +131,9 @@ returns c =
     let s = c.before.before in
     let u = s.args in
     let l = c.before.loop in
-    let f : ℕ → Low = λ k. lowAt u.i u.row.now u.v.now u.rows.now k in (
-      l.invariant.3.0 ∙ filled-all l.j (λ k. (f k).place) u.rows.now (omega (arith, s.requires.1)) ∙ ap (λ (m : ℕ). table m (λ k. (f k).place)) s.requires.1,
-      l.invariant.3.1 ∙ filled-all l.j (λ k. (f k).value) u.v.now (omega (arith, s.requires.2)) ∙ ap (λ (m : ℕ). table m (λ k. (f k).value)) s.requires.2,
+    let f : ℕ → Low = λ k. low_at u.i u.row.now u.v.now u.rows.now k in (
+      l.invariant.3.0 ∙ filled_all l.j (λ k. (f k).place) u.rows.now (omega (arith, s.requires.1)) ∙ ap (λ (m : ℕ). table m (λ k. (f k).place)) s.requires.1,
+      l.invariant.3.1 ∙ filled_all l.j (λ k. (f k).value) u.v.now (omega (arith, s.requires.2)) ∙ ap (λ (m : ℕ). table m (λ k. (f k).value)) s.requires.2,
     )
 
 pub lower-minima-spec : {M : Type 1} → statement M

@@ -7,7 +7,7 @@ use lib.ListN.{length}
 use Rattle.lists.specs.Permutations.{table}
 use Rattle.lists.proofs.Tables.{length-table}
 use Rattle.reduction.proofs.RowParts.{row-length}
-use Rattle.reduction.proofs.Minima.{lowestOf, places, values, places-one, values_one, places-more, values-more}
+use Rattle.reduction.proofs.Minima.{lowest_of, places, values, places_one, values_one, places_more, values_more}
 use Rattle.reduction.proofs.columns.minima.Statement.{statement}
 use Rattle.reduction.proofs.columns.minima.Tie as tie
 
@@ -37,7 +37,7 @@ loop-holds c =
     let one : 0 < n = s.requires.3 in (
       omega arith,
       one,
-      c.before.before.before.before.before.before.fill.ensures ∙ ap (λ (m : ℕ). table m (λ k. 0)) s.requires.1 ∙ places-one n costs row.result.now one s.requires.0.size row.ensures,
+      c.before.before.before.before.before.before.fill.ensures ∙ ap (λ (m : ℕ). table m (λ k. 0)) s.requires.1 ∙ places_one n costs row.result.now one s.requires.0.size row.ensures,
       c.before.widen.ensures ∙ values_one n costs row.result.now one s.requires.0.size row.ensures,
     )
 
@@ -47,12 +47,12 @@ start c = c.before.before.before.before.before.before.before.before.before.befor
 rows-size : (c : tie.At-loop invariant-loop decreases-loop) → length c.loop.rows ≡ (start c).args.n
 rows-size c =
     let u = (start c).args in
-    ap length c.loop.invariant.2 ∙ length-table u.n (λ j. (lowestOf u.n u.costs.now c.loop.i j).place)
+    ap length c.loop.invariant.2 ∙ length-table u.n (λ j. (lowest_of u.n u.costs.now c.loop.i j).place)
 
 prices-size : (c : tie.At-loop invariant-loop decreases-loop) → length c.loop.v ≡ (start c).args.n
 prices-size c =
     let u = (start c).args in
-    ap length c.loop.invariant.3 ∙ length-table u.n (λ j. (lowestOf u.n u.costs.now c.loop.i j).value)
+    ap length c.loop.invariant.3 ∙ length-table u.n (λ j. (lowest_of u.n u.costs.now c.loop.i j).value)
 
 row-requires-2 : tie.Need-row-requires-2 invariant-loop decreases-loop
 row-requires-2 c κs = (c.loop-test.true, (start c.before).pre.0.size)
@@ -83,8 +83,8 @@ loop-again c =
     let more = r.before.loop-test.true in (
       omega arith,
       omega arith,
-      d.lower-minima.ensures.0 ∙ places-more n l.i costs r.row2.result.now more s.pre.0.size r.row2.ensures l.invariant.0 l.rows l.v l.invariant.2 l.invariant.3,
-      d.lower-minima.ensures.1 ∙ values-more n l.i costs r.row2.result.now more s.pre.0.size r.row2.ensures l.invariant.0 l.rows l.v l.invariant.2 l.invariant.3,
+      d.lower-minima.ensures.0 ∙ places_more n l.i costs r.row2.result.now more s.pre.0.size r.row2.ensures l.invariant.0 l.rows l.v l.invariant.2 l.invariant.3,
+      d.lower-minima.ensures.1 ∙ values_more n l.i costs r.row2.result.now more s.pre.0.size r.row2.ensures l.invariant.0 l.rows l.v l.invariant.2 l.invariant.3,
     )
 
 same_length : tie.Need-same-length invariant-loop decreases-loop

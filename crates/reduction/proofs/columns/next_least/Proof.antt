@@ -10,7 +10,7 @@ use lib.ListN.{length}
 use mir.Syntax.{w64}
 use mir.Val.{SFits, to_z, of_z}
 use mir.Facts.{to_z-of_z}
-use Rattle.assignment.specs.Pairings.{signedAt}
+use Rattle.assignment.specs.Pairings.{signed_at}
 use Rattle.rules.specs.declared.LeastSoFar.TheVariants.{Of}
 use Rattle.reduction.specs.Ranges.{NextBelow}
 use Rattle.reduction.specs.Columns.{NextLeast}
@@ -40,7 +40,7 @@ returns-2 c =
     let t = c.before.before.found.given in
     let u = c.before.before.before.before.args in
     let fits : SFits w64 t.0.0 = search rules in
-    rw t.1 (least_kept (λ k. signedAt u.row.now k -ℤ signedAt u.v.now k) t.0.0 u.from (length u.row.now) c.next-below.result fits c.next-below.ensures)
+    rw t.1 (least_kept (λ k. signed_at u.row.now k -ℤ signed_at u.v.now k) t.0.0 u.from (length u.row.now) c.next-below.result fits c.next-below.ensures)
 
 pub next-least-spec : {M : Type 1} → statement M
 next-least-spec =

@@ -6,10 +6,10 @@ use native.Mathlib.Omega.{arith}
 use borrow.Author.Rules.{rules}
 use lib.IntN.{ℤ}
 use Rattle.assignment.specs.Pairings.{square}
-use Rattle.rules.specs.Columns.{lowerColumn}
+use Rattle.rules.specs.Columns.{lower_column}
 use Rattle.matrix.proofs.SmallLimits.{side-small}
-use Rattle.reduction.specs.Columns.{transferOf}
-use Rattle.reduction.proofs.Transfers.{transfer-joins, transfer-lowers, transfer-passes}
+use Rattle.reduction.specs.Columns.{transfer_of}
+use Rattle.reduction.proofs.Transfers.{transfer_joins, transfer_lowers, transfer_passes}
 use Rattle.reduction.proofs.columns.transfer.Statement.{statement}
 use Rattle.reduction.proofs.columns.transfer.Tie as tie
 
@@ -31,7 +31,7 @@ same_length c = search rules
 returns : tie.Need-returns
 returns c =
     let u = c.before.before.args in
-    λ s em ej. transfer-joins u.n (square u.n u.costs.now).cost s u.i (transferOf u.v.now u.frees.now u.count) (em ∙ c.if1.true)
+    λ s em ej. transfer_joins u.n (square u.n u.costs.now).cost s u.i (transfer_of u.v.now u.frees.now u.count) (em ∙ c.if1.true)
 
 lower-column-requires : tie.Need-lower-column-requires
 lower-column-requires c κs = search rules
@@ -45,13 +45,13 @@ returns-2 c =
     let u = d.before.before.before.args in
     let cost = (square u.n u.costs.now).cost in
     λ s em ej.
-    ap (λ (l : List ℤ). transferOf l u.frees.now u.count) (c.before.lower-column.ensures ∙ ap (λ (k : ℕ). lowerColumn u.n cost u.i k u.v.now) (sym ej))
-    ∙ transfer-lowers u.n cost s u.i (transferOf u.v.now u.frees.now u.count) (λ z. d.before.if1.false (sym em ∙ z)) (em ∙ d.if2.true)
+    ap (λ (l : List ℤ). transfer_of l u.frees.now u.count) (c.before.lower-column.ensures ∙ ap (λ (k : ℕ). lower_column u.n cost u.i k u.v.now) (sym ej))
+    ∙ transfer_lowers u.n cost s u.i (transfer_of u.v.now u.frees.now u.count) (λ z. d.before.if1.false (sym em ∙ z)) (em ∙ d.if2.true)
 
 returns-3 : tie.Need-returns-3
 returns-3 c =
     let u = c.before.before.before.args in
-    λ s em ej. transfer-passes u.n (square u.n u.costs.now).cost s u.i (transferOf u.v.now u.frees.now u.count)
+    λ s em ej. transfer_passes u.n (square u.n u.costs.now).cost s u.i (transfer_of u.v.now u.frees.now u.count)
     (λ z. c.before.if1.false (sym em ∙ z)) (λ z. c.if2.false (sym em ∙ z))
 
 pub transfer-spec : {M : Type 1} → statement M

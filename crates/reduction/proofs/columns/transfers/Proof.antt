@@ -7,7 +7,7 @@ use borrow.Author.Rules.{rules}
 use Rattle.lists.specs.Parts.{part}
 use Rattle.matrix.proofs.SmallLimits.{side-small}
 use Rattle.reduction.specs.Columns.{claims_of, Transferred, transferring}
-use Rattle.reduction.proofs.Transfers.{run_none, run-next, room-sized, prices-sized, count-at-most, frees-sized, mark-is, prices-near}
+use Rattle.reduction.proofs.Transfers.{run_none, run_next, room_sized, prices_sized, count_at_most, frees_sized, mark_is, prices-near}
 use Rattle.reduction.proofs.columns.transfers.Statement.{statement}
 use Rattle.reduction.proofs.columns.transfers.Tie as tie
 
@@ -37,7 +37,7 @@ mul-mark : tie.Need-overflow-mul-mark invariant-loop decreases-loop
 mul-mark c = omega (arith, side-small, (start c.before).pre.squared.small, c.before.loop.invariant.0)
 
 slice-read-mark : tie.Need-slice-read-mark invariant-loop decreases-loop
-slice-read-mark c = let a = c.before.before in omega (arith, room-sized (start a).requires a.loop.i a.loop.invariant.2)
+slice-read-mark c = let a = c.before.before in omega (arith, room_sized (start a).requires a.loop.i a.loop.invariant.2)
 
 mul-j : tie.Need-overflow-mul-j invariant-loop decreases-loop
 mul-j c = omega (arith, side-small, (start c.before.before).pre.squared.small)
@@ -51,7 +51,7 @@ cast-j c =
       arith,
       side-small,
       (start c.before.before.before).pre.squared.small,
-      (start c.before.before.before).pre.col-below
+      (start c.before.before.before).pre.col_below
           c.before.before.before.loop.i c.before.before.loop-test.true,
     )
 
@@ -62,7 +62,7 @@ part-transfer-start : tie.Need-slice-bounds-transfer-start invariant-loop decrea
 part-transfer-start c = search rules
 
 part-transfer-end : tie.Need-slice-bounds-transfer-end invariant-loop decreases-loop
-part-transfer-end c = let a = c.before.before.before.before in omega (arith, room-sized (start a).requires a.loop.i a.loop.invariant.2)
+part-transfer-end c = let a = c.before.before.before.before in omega (arith, room_sized (start a).requires a.loop.i a.loop.invariant.2)
 
 transfer-requires : tie.Need-transfer-requires invariant-loop decreases-loop
 transfer-requires c κs =
@@ -71,7 +71,7 @@ transfer-requires c κs =
     let i = a.loop.i in
     let l = c.before.before.before.before.loop-test.true in
     let h = a.loop.invariant.2 in
-    (t.squared, l, t.col-below i l, prices-sized t i h, prices-near t i h l, frees-sized t i h, omega (arith, count-at-most t i h))
+    (t.squared, l, t.col_below i l, prices_sized t i h, prices-near t i h l, frees_sized t i h, omega (arith, count_at_most t i h))
 
 add-i : tie.Need-overflow-add-i invariant-loop decreases-loop
 add-i c = search rules
@@ -89,17 +89,17 @@ loop-again c =
     let h = a.loop.invariant.2 in (
       omega arith,
       refl,
-      run-next t i h _ _ _ d.transfer.auto.1.1.1.1.1.1.0
+      run_next t i h _ _ _ d.transfer.auto.1.1.1.1.1.1.0
           (d.transfer.ensures
           (claims_of (start a).args.cols.now [] (part ((start a).args.n + (start a).args.n + (start a).args.n) (start a).args.n (start a).args.room.now))
-          (mark-is t i h l) refl),
+          (mark_is t i h l) refl),
     )
 
 same_length : tie.Need-same-length invariant-loop decreases-loop
-same_length c = let t = (start c.before).pre in prices-sized t c.before.loop.i c.before.loop.invariant.2 ∙ sym t.prices-size
+same_length c = let t = (start c.before).pre in prices_sized t c.before.loop.i c.before.loop.invariant.2 ∙ sym t.prices-size
 
 same-length-2 : tie.Need-same-length-2 invariant-loop decreases-loop
-same-length-2 c = let t = (start c.before).pre in room-sized t c.before.loop.i c.before.loop.invariant.2 ∙ sym t.room-size
+same-length-2 c = let t = (start c.before).pre in room_sized t c.before.loop.i c.before.loop.invariant.2 ∙ sym t.room-size
 
 returns : tie.Need-returns invariant-loop decreases-loop
 returns c =

@@ -5,7 +5,7 @@ use lib.Signed.{lt_z}
 use mir.Syntax.{w64}
 use mir.Facts.{to_z-of_z}
 use Rattle.ints.proofs.Bits.{read_back}
-use Rattle.assignment.specs.Pairings.{signedAt}
+use Rattle.assignment.specs.Pairings.{signed_at}
 use Rattle.reduction.proofs.Bits.{reduced-back}
 use Rattle.reduction.proofs.lowest.below.Statement.{statement}
 use Rattle.reduction.proofs.lowest.below.Tie as tie
@@ -25,7 +25,7 @@ shared-slice-copy-out-reduced-cost-2 c = search rules
 reduced-cost-requires : tie.Need-reduced-cost-requires
 reduced-cost-requires c κs =
     let s = c.before.before in
-    rw (read_back w64 (signedAt s.args.v.now s.args.j) c.reduced-cost-arg2.given) (s.requires.1 s.args.j s.requires.2)
+    rw (read_back w64 (signed_at s.args.v.now s.args.j) c.reduced-cost-arg2.given) (s.requires.1 s.args.j s.requires.2)
 
 returns : tie.Need-returns
 returns c =
@@ -33,7 +33,7 @@ returns c =
     let u = s.args in
     let r = c.reduced-cost in
     ap₂ lt_z
-    (reduced-back (signedAt u.row.now u.j) (signedAt u.v.now u.j) r.result c.before.before.reduced-cost-arg.given c.before.reduced-cost-arg2.given r.type-inv
+    (reduced-back (signed_at u.row.now u.j) (signed_at u.v.now u.j) r.result c.before.before.reduced-cost-arg.given c.before.reduced-cost-arg2.given r.type-inv
     r.ensures)
     (to_z-of_z s.ranges.bound)
 

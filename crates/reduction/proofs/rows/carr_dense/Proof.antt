@@ -5,18 +5,18 @@ use borrow.Author.Rules.{rules}
 use Rattle.lists.specs.Parts.{part}
 use Rattle.lists.specs.Permutations.{table}
 use Rattle.assignment.specs.Pairings.{square}
-use Rattle.rules.specs.Rows.{Passing, passStart}
+use Rattle.rules.specs.Rows.{Passing, pass_start}
 use Rattle.reduction.specs.Candidates.{unseen}
-use Rattle.reduction.specs.Columns.{stageAt}
-use Rattle.reduction.specs.Rows.{passingAt, Keeping}
-use Rattle.reduction.proofs.Lasting.{kept-none}
-use Rattle.reduction.proofs.Looks.{Head, head-start, sized, ready, head-next, nearer, head-ends}
+use Rattle.reduction.specs.Columns.{stage_at}
+use Rattle.reduction.specs.Rows.{passing_at, Keeping}
+use Rattle.reduction.proofs.Lasting.{kept_none}
+use Rattle.reduction.proofs.Looks.{Head, head_start, sized, ready, head_next, nearer, head_ends}
 use Rattle.reduction.proofs.rows.carr_dense.Statement.{statement}
 use Rattle.reduction.proofs.rows.carr_dense.Tie as tie
 
 abbrev invariant-loop : tie.invariant-loop
 invariant-loop n costs cols₀ rows₀ v₀ room₀ limits₀ count pass₀ cols rows v room limits pass =
-    Head n (square n costs).cost count (passStart (stageAt cols₀ rows₀ v₀ (part 0 n room₀) count)) (passingAt cols rows v (part 0 n room) pass)
+    Head n (square n costs).cost count (pass_start (stage_at cols₀ rows₀ v₀ (part 0 n room₀) count)) (passing_at cols rows v (part 0 n room) pass)
     × Keeping n costs v room limits
 
 abbrev decreases-loop : tie.decreases-loop
@@ -26,7 +26,7 @@ abbrev start : tie.At-loop invariant-loop decreases-loop → tie.Start invariant
 start c = c.before.before.before.before.before.before.before
 
 abbrev passing-at : tie.At-loop invariant-loop decreases-loop → Passing
-passing-at c = passingAt c.loop.cols c.loop.rows c.loop.v (part 0 (start c).args.n c.loop.room) c.loop.pass
+passing-at c = passing_at c.loop.cols c.loop.rows c.loop.v (part 0 (start c).args.n c.loop.room) c.loop.pass
 
 -- a look, from the turn's end, and the turn that it is made in
 abbrev looked : tie.After-limits2 invariant-loop decreases-loop → tie.After-look invariant-loop decreases-loop
@@ -44,11 +44,11 @@ loop-holds c =
     let s = d.before.before.before.before.before in
     let u = s.args in
     let marked = d.forget.ensures ∙ ap (λ (k : ℕ). table k (λ i. unseen)) s.requires.2 in (
-      head-start s.requires.0,
+      head_start s.requires.0,
       record {
         room-size = s.requires.1;
         limits-size = d.forget.auto.0 ∙ s.requires.2;
-        kept = kept-none u.n (square u.n u.costs.now).cost u.v.now (part u.n (u.n + u.n + u.n) u.room.now) _ marked;
+        kept = kept_none u.n (square u.n u.costs.now).cost u.v.now (part u.n (u.n + u.n + u.n) u.room.now) _ marked;
       },
     )
 
@@ -70,7 +70,7 @@ loop-again c =
     let l = looked c in
     let t = turn l.before in
     let a = t.before.before in
-    (head-next (start a).pre.0 (passing-at a) a.loop.inv.0 t.if1.taken _ l.look.ensures.0, l.look.ensures.1)
+    (head_next (start a).pre.0 (passing-at a) a.loop.inv.0 t.if1.taken _ l.look.ensures.0, l.look.ensures.1)
 
 same_length : tie.Need-same-length invariant-loop decreases-loop
 same_length c = let a = c.before.before in (sized (start a).requires.0 (passing-at a) a.loop.invariant.0).cols-size ∙ sym (start a).requires.0.cols-size
@@ -88,7 +88,7 @@ same-length-5 : tie.Need-same-length-5 invariant-loop decreases-loop
 same-length-5 c = let a = c.before.before in a.loop.invariant.1.limits-size ∙ sym (start a).requires.2
 
 returns : tie.Need-returns invariant-loop decreases-loop
-returns c = let a = c.before.before in head-ends (start a).requires.0 (passing-at a) a.loop.invariant.0 c.if1.false
+returns c = let a = c.before.before in head_ends (start a).requires.0 (passing-at a) a.loop.invariant.0 c.if1.false
 
 pub carr-dense-spec : {M : Type 1} → statement M
 carr-dense-spec =

@@ -8,8 +8,8 @@ use mir.Facts.{to_z-of_z}
 use Rattle.rules.specs.declared.TwoLowest.TheVariants.{Two}
 use Rattle.matrix.proofs.SmallLimits.{side-small}
 use Rattle.reduction.specs.Rows.{Inside}
-use Rattle.reduction.proofs.Nearness.{twice-fits}
-use Rattle.reduction.proofs.Choices.{choose_one, choose-lowers, choose-second, choose-first, choose-late}
+use Rattle.reduction.proofs.Nearness.{twice_fits}
+use Rattle.reduction.proofs.Choices.{choose_one, choose_lowers, choose-second, choose-first, choose_late}
 use Rattle.reduction.proofs.rows.choose.Statement.{statement}
 use Rattle.reduction.proofs.rows.choose.Tie as tie
 
@@ -17,10 +17,10 @@ inside : (c : tie.After-two2) → Inside c.before.before.before.args.n (Two c.tw
 inside c = subst (Inside c.before.before.before.args.n) c.two2.given.1 c.before.before.before.requires.4
 
 lowest-back : (c : tie.After-two2) → to_z w64 (of_z w64 c.two2.given.0.0.value) ≡ c.two2.given.0.0.value
-lowest-back c = to_z-of_z (twice-fits (inside c).2)
+lowest-back c = to_z-of_z (twice_fits (inside c).2)
 
 second_back : (c : tie.After-two2) → to_z w64 (of_z w64 c.two2.given.0.1.0.value) ≡ c.two2.given.0.1.0.value
-second_back c = to_z-of_z (twice-fits (inside c).3)
+second_back c = to_z-of_z (twice_fits (inside c).3)
 
 enum-known-two : tie.Need-enum-known-two
 enum-known-two c = search rules
@@ -81,7 +81,7 @@ returns-2 c =
     let u = t.before.before.before.args in
     c.lower-price.ensures
     ∙ rw (lowest-back t, second_back t)
-    (choose-lowers u.n u.early u.v.now u.rows.now u.two t.two2.given.0.0 t.two2.given.0.1.0 t.two2.given.1
+    (choose_lowers u.n u.early u.v.now u.rows.now u.two t.two2.given.0.0 t.two2.given.0.1.0 t.two2.given.1
     c.before.before.if1.true (rw (lowest-back t, second_back t) at c.before.if2.true))
 
 returns-3 : tie.Need-returns-3
@@ -102,7 +102,7 @@ returns-5 : tie.Need-returns-5
 returns-5 c =
     let t = c.before.before.before.before.before in
     let u = t.before.before.before.args in
-    c.keep-price4.ensures ∙ choose-late u.n u.early u.v.now u.rows.now u.two t.two2.given.0.0 t.two2.given.0.1.0 t.two2.given.1 c.before.if1.false
+    c.keep-price4.ensures ∙ choose_late u.n u.early u.v.now u.rows.now u.two t.two2.given.0.0 t.two2.given.0.1.0 t.two2.given.1 c.before.if1.false
 
 pub choose_spec : {M : Type 1} → statement M
 choose_spec =

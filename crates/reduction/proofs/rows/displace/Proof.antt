@@ -1,6 +1,6 @@
 -- `displace` does what its definition says, in each of the three ways. Assumes nothing.
 use borrow.Author.Rules.{rules}
-use Rattle.reduction.proofs.Choices.{displace-back, displace-next, displace-none}
+use Rattle.reduction.proofs.Choices.{displace-back, displace_next, displace_none}
 use Rattle.reduction.proofs.rows.displace.Statement.{statement}
 use Rattle.reduction.proofs.rows.displace.Tie as tie
 
@@ -42,12 +42,12 @@ same-length-2 c = search rules
 returns-2 : tie.Need-returns-2
 returns-2 c =
     let u = c.before.before.before.args in
-    displace-next u.n u.frees.now u.pass u.back u.i0 c.before.if1.true c.if2.false
+    displace_next u.n u.frees.now u.pass u.back u.i0 c.before.if1.true c.if2.false
 
 returns-3 : tie.Need-returns-3
 returns-3 c =
     let u = c.before.before.args in
-    displace-none u.n u.frees.now u.pass u.back u.i0 c.if1.false
+    displace_none u.n u.frees.now u.pass u.back u.i0 c.if1.false
 
 pub displace-spec : {M : Type 1} → statement M
 displace-spec =

@@ -13,30 +13,30 @@ use mir.Val.{SFits, to_z, of_z}
 use mir.Facts.{to_z-of_z}
 use Rattle.lists.specs.Parts.{part}
 use Rattle.lists.specs.Permutations.{at}
-use Rattle.assignment.specs.Pairings.{square, signedAt}
+use Rattle.assignment.specs.Pairings.{square, signed_at}
 use Rattle.rules.specs.declared.Choice.{Choice}
-use Rattle.rules.specs.Lowest.{reduced, twoLowest}
-use Rattle.rules.specs.Rows.{Passing, choose, displace, isEarly, look}
+use Rattle.rules.specs.Lowest.{reduced, two_lowest}
+use Rattle.rules.specs.Rows.{Passing, choose, displace, is_early, look}
 use Rattle.matrix.proofs.SmallLimits.{side-small}
-use Rattle.reduction.specs.Rows.{Inside, passingAt}
+use Rattle.reduction.specs.Rows.{Inside, passing_at}
 use Rattle.reduction.proofs.RowParts.{row-length}
-use Rattle.reduction.proofs.RoomParts.{back-lent, back-length, backReturned, front-left, frontReturned, front-part}
-use Rattle.reduction.proofs.Nearness.{twoLowest-near}
+use Rattle.reduction.proofs.RoomParts.{back-lent, back-length, back_returned, front_left, front_returned, front_part}
+use Rattle.reduction.proofs.Nearness.{two_lowest-near}
 use Rattle.reduction.proofs.Choices.{choose-below}
 use Rattle.reduction.proofs.Looks.{choice_of, look_is}
-use Rattle.reduction.proofs.Lasting.{lent-roomy, lent-keeps, two-told, keeping-look}
+use Rattle.reduction.proofs.Lasting.{lent-roomy, lent_keeps, two_told, keeping_look}
 use Rattle.reduction.proofs.rows.look.Statement.{statement}
 use Rattle.reduction.proofs.rows.look.Tie as tie
 
 -- the pass under way at entry, and the row at `current`
 abbrev passing-at : tie.Start → Passing
-passing-at s = passingAt s.args.cols.now s.args.rows.now s.args.v.now (part 0 s.args.n s.args.room.now) s.args.pass
+passing-at s = passing_at s.args.cols.now s.args.rows.now s.args.v.now (part 0 s.args.n s.args.room.now) s.args.pass
 
 abbrev row_of : tie.Start → ℕ
 row_of s = at s.args.room.now s.args.pass.current
 
 row_is : (s : tie.Start) → row_of s ≡ at (part 0 s.args.n s.args.room.now) s.args.pass.current
-row_is s = sym (get_or-take s.args.n s.args.room.now s.args.pass.current 0 s.requires.0.current-below)
+row_is s = sym (get_or-take s.args.n s.args.room.now s.args.pass.current 0 s.requires.0.current_below)
 
 row_below : (s : tie.Start) → row_of s < s.args.n
 row_below s = omega (arith, row_is s, s.requires.0.row_below)
@@ -89,17 +89,17 @@ two-lowest-requires c κs =
       lent-roomy u.n (row_of s) u.costs.now row u.v.now (row_below s) s.pre.0.squared.size r.row.ensures u.room.now u.limits.now s.pre.1,
       omega (arith, l, row_below s),
       omega (arith, side-small, l, s.pre.0.squared.small),
-      lent-keeps u.n (row_of s) u.costs.now row u.v.now (row_below s) s.pre.0.squared.size r.row.ensures u.room.now u.limits.now s.pre.1,
+      lent_keeps u.n (row_of s) u.costs.now row u.v.now (row_below s) s.pre.0.squared.size r.row.ensures u.room.now u.limits.now s.pre.1,
     )
 
 two_is : (c : tie.After-two-lowest)
     → let s = start (row_read c) in
-    c.two-lowest.result ≡ twoLowest s.args.n (reduced (square s.args.n s.args.costs.now).cost (signedAt s.args.v.now) (row_of s))
+    c.two-lowest.result ≡ two_lowest s.args.n (reduced (square s.args.n s.args.costs.now).cost (signed_at s.args.v.now) (row_of s))
 two_is c =
     let r = row_read c in
     let s = start r in
     let u = s.args in
-    two-told u.n (row_of s) u.costs.now r.row.result.now u.v.now (row_below s) s.pre.0.squared.size r.row.ensures u.room.now u.limits.now s.pre.1
+    two_told u.n (row_of s) u.costs.now r.row.result.now u.v.now (row_below s) s.pre.0.squared.size r.row.ensures u.room.now u.limits.now s.pre.1
     c.two-lowest.ensures
 
 is-early-requires : tie.Need-is-early-requires
@@ -115,7 +115,7 @@ choose-requires c κs =
       p.rows-size,
       p.near-prices,
       subst (Inside s.args.n) (sym (two_is d))
-          (twoLowest-near s.args.n s.args.costs.now s.args.v.now p.squared p.near-prices (row_of s) (row_below s)),
+          (two_lowest-near s.args.n s.args.costs.now s.args.v.now p.squared p.near-prices (row_of s) (row_below s)),
     )
 
 abbrev begin : tie.After-choose → tie.Start
@@ -127,8 +127,8 @@ choice-is c =
     let u = s.args in
     let d = telling c in
     c.choose.ensures ∙ ap (λ (e : Bool). choose u.n e u.v.now u.rows.now d.two-lowest.result) c.before.before.before.is-early.ensures
-    ∙ ap (choose u.n (isEarly u.n u.pass) u.v.now u.rows.now)
-    (two_is d ∙ ap (λ (i : ℕ). twoLowest u.n (reduced (square u.n u.costs.now).cost (signedAt u.v.now) i)) (row_is s))
+    ∙ ap (choose u.n (is_early u.n u.pass) u.v.now u.rows.now)
+    (two_is d ∙ ap (λ (i : ℕ). two_lowest u.n (reduced (square u.n u.costs.now).cost (signed_at u.v.now) i)) (row_is s))
 
 column : (c : tie.After-choose) → c.choose.result.column < (begin c).args.n
 column c =
@@ -136,8 +136,8 @@ column c =
     let u = s.args in
     let i = at (part 0 u.n u.room.now) u.pass.current in
     subst (λ (w : Choice). w.column < u.n) (sym (choice-is c))
-    (choose-below u.n (isEarly u.n u.pass) u.v.now u.rows.now (twoLowest u.n (reduced (square u.n u.costs.now).cost (signedAt u.v.now) i))
-    (twoLowest-near u.n u.costs.now u.v.now s.pre.0.squared s.pre.0.near-prices i s.pre.0.row_below))
+    (choose-below u.n (is_early u.n u.pass) u.v.now u.rows.now (two_lowest u.n (reduced (square u.n u.costs.now).cost (signed_at u.v.now) i))
+    (two_lowest-near u.n u.costs.now u.v.now s.pre.0.squared s.pre.0.near-prices i s.pre.0.row_below))
 
 price-fits : (c : tie.After-struct-told) → SFits w64 c.before.choose.result.price
 price-fits c = search rules
@@ -191,16 +191,16 @@ kept-size c =
     let z = (begin c).requires.1.room-size in
     omega (arith, (telling c).two-lowest.auto, ap length (back-lent u.n u.room.now z), back-length u.n u.room.now z)
 
-front-lent : (c : tie.After-choose)
+front_lent_lem : (c : tie.After-choose)
     → let u = (begin c).args in
-    take (u.n - 0) (drop 0 (backReturned u.n u.room.now (begin c).requires.1.room-size (kept_of c) (kept-size c))) ≡ part 0 u.n u.room.now
-front-lent c = let u = (begin c).args in front-left u.n u.room.now (begin c).requires.1.room-size (kept_of c) (kept-size c)
+    take (u.n - 0) (drop 0 (back_returned u.n u.room.now (begin c).requires.1.room-size (kept_of c) (kept-size c))) ≡ part 0 u.n u.room.now
+front_lent_lem c = let u = (begin c).args in front_left u.n u.room.now (begin c).requires.1.room-size (kept_of c) (kept-size c)
 
 displace-requires : tie.Need-displace-requires
 displace-requires c κs =
     let a = c.before.before.before in
     let p = (begin a).requires.0 in
-    (p.squared.small, ap length (front-lent a) ∙ p.frees-size, p.current-below, p.left-most, p.looks-fit)
+    (p.squared.small, ap length (front_lent_lem a) ∙ p.frees-size, p.current_below, p.left-most, p.looks_fit)
 
 same_length : tie.Need-same-length
 same_length c = search rules
@@ -229,17 +229,17 @@ returns c =
     let r = row_read (telling a) in
     let frees = d.displace.new.1.0 in
     let size = s.pre.1.room-size in
-    let frees-size : length frees ≡ u.n = omega (arith, d.displace.auto, ap length (front-lent a), s.pre.0.frees-size) in
-    let front = front-part u.n u.room.now size (kept_of a) (kept-size a) frees frees-size in
+    let frees-size : length frees ≡ u.n = omega (arith, d.displace.auto, ap length (front_lent_lem a), s.pre.0.frees-size) in
+    let front = front_part u.n u.room.now size (kept_of a) (kept-size a) frees frees-size in
     let cost = (square u.n u.costs.now).cost in
-    let e : passingAt (set x.pairs.cols i w.column) (set x.pairs.rows w.column i) (set x.prices w.column (to_z w64 (of_z w64 w.price)))
-    (part 0 u.n (frontReturned u.n u.room.now size (kept_of a) (kept-size a) frees frees-size)) d.displace.result ≡ look u.n cost x
-    = ap₂ (λ (z : ℤ) (f : List ℕ). passingAt (set x.pairs.cols i w.column) (set x.pairs.rows w.column i) (set x.prices w.column z) f d.displace.result)
+    let e : passing_at (set x.pairs.cols i w.column) (set x.pairs.rows w.column i) (set x.prices w.column (to_z w64 (of_z w64 w.price)))
+    (part 0 u.n (front_returned u.n u.room.now size (kept_of a) (kept-size a) frees frees-size)) d.displace.result ≡ look u.n cost x
+    = ap₂ (λ (z : ℤ) (f : List ℕ). passing_at (set x.pairs.cols i w.column) (set x.pairs.rows w.column i) (set x.prices w.column z) f d.displace.result)
     (to_z-of_z (price-fits d.before.before.before)) front
     ∙ look_is u.n cost x i (row_is s) w (choice-is a) frees d.displace.result
-    (d.displace.ensures ∙ ap (λ (f : List ℕ). displace u.n f u.pass w.back (at u.rows.now w.column)) (front-lent a)) in (
+    (d.displace.ensures ∙ ap (λ (f : List ℕ). displace u.n f u.pass w.back (at u.rows.now w.column)) (front_lent_lem a)) in (
       e,
-      keeping-look u.n i u.costs.now r.row.result.now u.v.now (row_below s) s.pre.0.squared.size r.row.ensures u.room.now u.limits.now s.pre.1
+      keeping_look u.n i u.costs.now r.row.result.now u.v.now (row_below s) s.pre.0.squared.size r.row.ensures u.room.now u.limits.now s.pre.1
           (telling a).two-lowest.ensures x _ refl e (kept-size a) frees frees-size (omega (arith, (telling a).two-lowest.auto, s.pre.1.limits-size)),
     )
 

@@ -6,16 +6,16 @@ use native.Mathlib.Omega.{arith}
 use borrow.Author.Rules.{rules}
 use lib.ListN.{length, get_or}
 use Rattle.lists.proofs.Tables.{length-table}
-use Rattle.score.specs.Characters.{placeCost, costTable}
+use Rattle.score.specs.Characters.{place_cost, cost_table}
 use Rattle.score.specs.Asked.{numbered}
 use Rattle.score.proofs.CharacterCosts.{numbered_below, cost-at}
 use Rattle.score.proofs.characters.cost.Statement.{statement}
 use Rattle.score.proofs.characters.cost.Tie as tie
 
 -- the table is 1,296 long
-size : length costTable ≡ 1296
-unfolding costTable
-size = length-table 1296 placeCost
+size : length cost_table ≡ 1296
+unfolding cost_table
+size = length-table 1296 place_cost
 
 -- both numbers are below 36
 first : (c : tie.After-number) → c.number.result < 36

@@ -1,7 +1,7 @@
 -- `pair_score` answers the score of two references of its lists. Assumes nothing.
 use mathlib.Core.Path.{ap₂, sym, ◌∙◌, subst}
 use Rattle.score.specs.Characters.{Reference}
-use Rattle.score.specs.Score.{scoreOf}
+use Rattle.score.specs.Score.{score_of}
 use Rattle.score.proofs.Places.{reference-inside, reference-known}
 use Rattle.score.proofs.sheets.pair_score.Statement.{statement}
 use Rattle.score.proofs.sheets.pair_score.Tie as tie
@@ -26,7 +26,7 @@ total-requires c κs =
     )
 
 returns : tie.Need-returns
-returns c = c.total.ensures ∙ ap₂ scoreOf c.before.before.reference.ensures c.before.reference2.ensures
+returns c = c.total.ensures ∙ ap₂ score_of c.before.before.reference.ensures c.before.reference2.ensures
 
 pub pair-score-spec : {M : Type 1} → statement M
 pair-score-spec = tie.close (tie.spec reference-requires reference-requires-2 total-requires returns)

@@ -1,14 +1,14 @@
 -- `score_at` answers the score of a row's and a column's reference. Assumes nothing.
 use native.Mathlib.Omega.{arith}
-use Rattle.score.proofs.Places.{side-positive, row_below, column-below}
+use Rattle.score.proofs.Places.{side_positive, row_below, column-below}
 use Rattle.score.proofs.sheets.score_at.Statement.{statement}
 use Rattle.score.proofs.sheets.score_at.Tie as tie
 
 div_row : tie.Need-nonzero-div-row
-div_row c = let s = c.before.before.before in side-positive s.args.n s.args.k s.requires.2
+div_row c = let s = c.before.before.before in side_positive s.args.n s.args.k s.requires.2
 
 rem-column : tie.Need-nonzero-rem-column
-rem-column c = let s = c.before.before.before in side-positive s.args.n s.args.k s.requires.2
+rem-column c = let s = c.before.before.before in side_positive s.args.n s.args.k s.requires.2
 
 pair-score-requires : tie.Need-pair-score-requires
 pair-score-requires c κs =

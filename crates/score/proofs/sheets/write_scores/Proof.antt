@@ -8,18 +8,18 @@ use borrow.Author.Rules.{rules}
 use lib.IntN.{ℤ, pos}
 use lib.ListN.{length, get_or, drop}
 use lib.Seq.{sets}
-use Rattle.lists.proofs.Tables.{length-table, getD-table}
-use Rattle.layout.specs.Values.{bytes_of, signedBytes}
-use Rattle.layout.proofs.Values.{length-signedBytes}
-use Rattle.layout.proofs.Stores.{field-written, all-written}
-use Rattle.matrix.proofs.SmallLimits.{sheetSide-small}
-use Rattle.score.specs.ScoreSheet.{scoreAt, scores}
+use Rattle.lists.proofs.Tables.{length-table, get_d_table}
+use Rattle.layout.specs.Values.{bytes_of, signed_bytes}
+use Rattle.layout.proofs.Values.{length-signed_bytes}
+use Rattle.layout.proofs.Stores.{field_written, all_written}
+use Rattle.matrix.proofs.SmallLimits.{sheet_side-small}
+use Rattle.score.specs.ScoreSheet.{score_at, scores}
 use Rattle.score.proofs.sheets.write_scores.Statement.{statement}
 use Rattle.score.proofs.sheets.write_scores.Tie as tie
 
 -- the bytes of costs from k on
 abbrev left : ℕ → List ℤ → List ℕ
-left k costs = flat_map (signedBytes 4) (drop k costs)
+left k costs = flat_map (signed_bytes 4) (drop k costs)
 
 -- a turn, over plain variables: the next cost is written
 module _ (n : ℕ) (firsts seconds : List ℕ) where
@@ -27,21 +27,21 @@ module _ (n : ℕ) (firsts seconds : List ℕ) where
   costs = scores n firsts seconds
 
   size : length costs ≡ n * n
-  size = length-table (n * n) (scoreAt n firsts seconds)
+  size = length-table (n * n) (score_at n firsts seconds)
 
-  turn : (sheet written : List ℕ) (k score : ℕ) → k < n * n → pos score ≡ scoreAt n firsts seconds k → written ≡ sets sheet (4 * k) (bytes_of 4 score)
+  turn : (sheet written : List ℕ) (k score : ℕ) → k < n * n → pos score ≡ score_at n firsts seconds k → written ≡ sets sheet (4 * k) (bytes_of 4 score)
       → sets written (4 * (k + 1)) (left (k + 1) costs) ≡ sets sheet (4 * k) (left k costs)
   turn sheet written k score l e f =
-      let next : pos score ≡ get_or costs k (pos 0) = e ∙ sym (getD-table (n * n) (scoreAt n firsts seconds) (pos 0) k l) in
-      ap (λ (w : List ℕ). sets w (4 * (k + 1)) (left (k + 1) costs)) (f ∙ ap (λ (z : ℤ). sets sheet (4 * k) (signedBytes 4 z)) next)
-      ∙ field-written (signedBytes 4) 4 (length-signedBytes 4) sheet (4 * k) (4 * (k + 1)) costs k (pos 0) (omega (arith, size)) (omega arith)
+      let next : pos score ≡ get_or costs k (pos 0) = e ∙ sym (get_d_table (n * n) (score_at n firsts seconds) (pos 0) k l) in
+      ap (λ (w : List ℕ). sets w (4 * (k + 1)) (left (k + 1) costs)) (f ∙ ap (λ (z : ℤ). sets sheet (4 * k) (signed_bytes 4 z)) next)
+      ∙ field_written (signed_bytes 4) 4 (length-signed_bytes 4) sheet (4 * k) (4 * (k + 1)) costs k (pos 0) (omega (arith, size)) (omega arith)
 
   done : (sheet : List ℕ) (k : ℕ) → n * n ≤ k → sets sheet (4 * k) (left k costs) ≡ sheet
-  done sheet k h = all-written (signedBytes 4) 4 (length-signedBytes 4) sheet (4 * k) costs k (omega (arith, size))
+  done sheet k h = all_written (signed_bytes 4) 4 (length-signed_bytes 4) sheet (4 * k) costs k (omega (arith, size))
 
 abbrev invariant-loop : tie.invariant-loop
 invariant-loop sheet₀ table firsts seconds n count k₀ sheet k =
-    (k ≤ n * n) × (length sheet ≡ length sheet₀) × (sets sheet (4 * k) (left k (scores n firsts seconds)) ≡ sets sheet₀ 0 (flat_map (signedBytes 4) (scores n firsts seconds)))
+    (k ≤ n * n) × (length sheet ≡ length sheet₀) × (sets sheet (4 * k) (left k (scores n firsts seconds)) ≡ sets sheet₀ 0 (flat_map (signed_bytes 4) (scores n firsts seconds)))
 
 abbrev decreases-loop : tie.decreases-loop
 decreases-loop sheet₀ table firsts seconds n count k₀ sheet k = n * n - k
@@ -49,7 +49,7 @@ decreases-loop sheet₀ table firsts seconds n count k₀ sheet k = n * n - k
 mul-count : tie.Need-overflow-mul-count invariant-loop decreases-loop
 mul-count c =
     let s = c.before.before.before.before in
-    let few : s.args.n ≤ 64 = omega (arith, sheetSide-small, s.requires.1.few) in
+    let few : s.args.n ≤ 64 = omega (arith, sheet_side-small, s.requires.1.few) in
     omega (arith, mul-le-mul few few)
 
 loop-holds : tie.Need-loop-init invariant-loop decreases-loop

@@ -8,30 +8,30 @@ use lib.IntN.{ℤ}
 use lib.ListN.{length, drop}
 use lib.Seq.{sets}
 use Rattle.lists.proofs.Tables.{length-table}
-use Rattle.layout.specs.Values.{bytes_of, signedBytes}
-use Rattle.layout.specs.Trailers.{sheetMark, trailer}
-use Rattle.layout.specs.Sheets.{sheetOf}
-use Rattle.layout.proofs.Values.{length-signedBytes}
-use Rattle.layout.proofs.Fields.{length-flatMap}
-use Rattle.layout.proofs.Stores.{stored-then, sets-front}
+use Rattle.layout.specs.Values.{bytes_of, signed_bytes}
+use Rattle.layout.specs.Trailers.{sheet_mark, trailer}
+use Rattle.layout.specs.Sheets.{sheet_of}
+use Rattle.layout.proofs.Values.{length-signed_bytes}
+use Rattle.layout.proofs.Fields.{length_flat_map}
+use Rattle.layout.proofs.Stores.{stored_then, sets_front}
 use Rattle.layout.proofs.Sheets.{sheet-length}
-use Rattle.score.specs.ScoreSheet.{referenceCount, sheetLength, scoreAt, scores}
+use Rattle.score.specs.ScoreSheet.{reference_count, sheet_length, score_at, scores}
 use Rattle.score.proofs.sheets.write_sheet.Statement.{statement}
 use Rattle.score.proofs.sheets.write_sheet.Tie as tie
 
-mark : bytes_of 4 0x4843544D ≡ sheetMark
+mark : bytes_of 4 0x4843544D ≡ sheet_mark
 unfolding bytes_of
 mark = refl
 
 -- costs and trailer are the sheet
-module _ (n : ℕ) (costs : List ℤ) (size : length costs ≡ n * n) (room : List ℕ) (roomy : sheetLength n ≤ length room) where
-  joined : {p t : List ℕ} → p ≡ sets room 0 (flat_map (signedBytes 4) costs) → t ≡ sets p (4 * (n * n)) (trailer (4 * (n * n)) n 1 (bytes_of 4 0x4843544D))
-      → t ≡ sheetOf [] n costs ++ drop (sheetLength n) room
+module _ (n : ℕ) (costs : List ℤ) (size : length costs ≡ n * n) (room : List ℕ) (roomy : sheet_length n ≤ length room) where
+  joined : {p t : List ℕ} → p ≡ sets room 0 (flat_map (signed_bytes 4) costs) → t ≡ sets p (4 * (n * n)) (trailer (4 * (n * n)) n 1 (bytes_of 4 0x4843544D))
+      → t ≡ sheet_of [] n costs ++ drop (sheet_length n) room
   joined {p} d e =
       let far : 4 * (n * n) ≡ 4 * length costs + 0 = omega (arith, size) in
-      stored-then room (flat_map (signedBytes 4) costs) (trailer (4 * length costs + 0) n 1 sheetMark) 0 (4 * (n * n)) d (omega (arith, size, length-flatMap (signedBytes 4) 4 (length-signedBytes 4) costs))
-      (e ∙ ap (λ (m : List ℕ). sets p (4 * (n * n)) (trailer (4 * (n * n)) n 1 m)) mark ∙ ap (λ (k : ℕ). sets p (4 * (n * n)) (trailer k n 1 sheetMark)) far)
-      ∙ sets-front (sheetOf [] n costs) room (sheetLength n) (omega (arith, size, sheet-length 1 [] n costs [])) roomy
+      stored_then room (flat_map (signed_bytes 4) costs) (trailer (4 * length costs + 0) n 1 sheet_mark) 0 (4 * (n * n)) d (omega (arith, size, length_flat_map (signed_bytes 4) 4 (length-signed_bytes 4) costs))
+      (e ∙ ap (λ (m : List ℕ). sets p (4 * (n * n)) (trailer (4 * (n * n)) n 1 m)) mark ∙ ap (λ (k : ℕ). sets p (4 * (n * n)) (trailer k n 1 sheet_mark)) far)
+      ∙ sets_front (sheet_of [] n costs) room (sheet_length n) (omega (arith, size, sheet-length 1 [] n costs [])) roomy
 
 mul-distance : tie.Need-overflow-mul-distance
 mul-distance c = search rules
@@ -60,8 +60,8 @@ returns c =
     let first = second.before.before.before.before in
     let s = first.before.before.before.before.before.before.before in
     let u = s.args in
-    let n = referenceCount u.firsts.now in
-    joined n (scores n u.firsts.now u.seconds.now) (length-table (n * n) (scoreAt n u.firsts.now u.seconds.now)) u.sheet.now s.requires.1 first.write-scores.ensures second.write-trailer.ensures
+    let n = reference_count u.firsts.now in
+    joined n (scores n u.firsts.now u.seconds.now) (length-table (n * n) (score_at n u.firsts.now u.seconds.now)) u.sheet.now s.requires.1 first.write-scores.ensures second.write-trailer.ensures
 
 pub write-sheet-spec : {M : Type 1} → statement M
 write-sheet-spec =

@@ -6,10 +6,10 @@ use native.Mathlib.Omega.{arith}
 use borrow.Author.Rules.{rules}
 use lib.ListN.{length}
 use Rattle.lists.specs.Permutations.{at}
-use Rattle.lists.proofs.Runs.{first-le}
-use Rattle.matrix.proofs.Verdicts.{fails-then, passed_then, failed-at}
+use Rattle.lists.proofs.Runs.{first_le}
+use Rattle.matrix.proofs.Verdicts.{fails_then, passed_then, failed_at}
 use Rattle.score.specs.Characters.{foreign}
-use Rattle.score.specs.Score.{pairPlace}
+use Rattle.score.specs.Score.{pair_place}
 use Rattle.score.proofs.tests.characters_known.Statement.{statement}
 use Rattle.score.proofs.tests.characters_known.Tie as tie
 
@@ -18,13 +18,13 @@ below : (c : tie.After-first-foreign) → c.first-foreign.result ≤ 768
 below c =
     let s = c.before.before.before.before in
     let list = s.args.list.now in
-    omega (arith, c.first-foreign.ensures, first-le (λ p. foreign (at list p)) (length list), s.requires.1 c.before.enum_told.given.1)
+    omega (arith, c.first-foreign.ensures, first_le (λ p. foreign (at list p)) (length list), s.requires.1 c.before.enum_told.given.1)
 
 enum-known-before : tie.Need-enum-known-before
 enum-known-before c = search rules
 
 returns : tie.Need-returns
-returns c = fails-then _ c.before.before2.given.1
+returns c = fails_then _ c.before.before2.given.1
 
 enum_told : tie.Need-enum-told
 enum_told c = search rules
@@ -48,7 +48,7 @@ fails-if-requires c κs = search rules
 returns-2 : tie.Need-returns-2
 returns-2 c =
     passed_then _ c.before.before.enum_told.given.1
-    (c.fails-if.ensures ∙ failed-at _ (pairPlace c.before.before.before.before.before.args.start) _ _ c.before.first-foreign.ensures)
+    (c.fails-if.ensures ∙ failed_at _ (pair_place c.before.before.before.before.before.args.start) _ _ c.before.first-foreign.ensures)
 
 pub characters-known-spec : {M : Type 1} → statement M
 characters-known-spec =

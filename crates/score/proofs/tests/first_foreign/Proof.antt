@@ -7,7 +7,7 @@ use native.Mathlib.Omega.{arith}
 use borrow.Author.Rules.{rules}
 use lib.ListN.{length}
 use Rattle.lists.specs.Permutations.{at}
-use Rattle.matrix.proofs.First.{Clear, clear-start, clear-more, found, ended}
+use Rattle.matrix.proofs.First.{Clear, clear_start, clear_more, found, ended}
 use Rattle.score.specs.Characters.{foreign}
 use Rattle.score.proofs.tests.first_foreign.Statement.{statement}
 use Rattle.score.proofs.tests.first_foreign.Tie as tie
@@ -22,7 +22,7 @@ abbrev decreases-loop : tie.decreases-loop
 decreases-loop list p₀ p = length list - p
 
 loop-holds : tie.Need-loop-init invariant-loop decreases-loop
-loop-holds c = (omega arith, clear-start _)
+loop-holds c = (omega arith, clear_start _)
 
 shared-slice-read-foreign : tie.Need-shared-slice-read-foreign invariant-loop decreases-loop
 shared-slice-read-foreign c = search rules
@@ -46,7 +46,7 @@ loop-again : tie.Need-loop-preserved invariant-loop decreases-loop
 loop-again c =
     let l = c.before.before.before.before.loop in
     let list = c.before.before.before.before.before.before.args.list.now in
-    (omega arith, clear-more (test list) l.p l.invariant.1 (sym c.before.foreign.ensures ∙ c.if1.false))
+    (omega arith, clear_more (test list) l.p l.invariant.1 (sym c.before.foreign.ensures ∙ c.if1.false))
 
 returns-2 : tie.Need-returns-2 invariant-loop decreases-loop
 returns-2 c =

@@ -4,13 +4,13 @@ use Prim.Native.Nat.{ℕ, ◌+◌, ◌*◌, ◌≤◌}
 use native.Mathlib.Nat.{mul-le-mul}
 use native.Mathlib.Omega.{arith}
 use borrow.Author.Rules.{rules}
-use Rattle.matrix.proofs.SmallLimits.{sheetSide-small}
+use Rattle.matrix.proofs.SmallLimits.{sheet_side-small}
 use Rattle.sheet.proofs.Editions.{bars-short, count-short}
 use Rattle.sheet.proofs.reading.distance_due.Statement.{statement}
 use Rattle.sheet.proofs.reading.distance_due.Tie as tie
 
 few : (c : tie.Start) → c.args.n ≤ 64
-few c = omega (arith, c.requires.1, sheetSide-small)
+few c = omega (arith, c.requires.1, sheet_side-small)
 
 places : (c : tie.Start) → c.args.m * c.args.n ≤ 4096
 places c = let h : c.args.m ≤ 64 = omega (arith, c.requires.0, few c) in mul-le-mul h (few c)

@@ -3,7 +3,7 @@ use mathlib.Core.Path.{◌≡◌, sym, ◌∙◌}
 use Prim.Native.Nat.{◌-◌, ◌≤◌}
 use native.Mathlib.Omega.{arith}
 use borrow.Author.Rules.{rules}
-use Rattle.matrix.proofs.First.{Clear, clear-start, clear-more, found, ended}
+use Rattle.matrix.proofs.First.{Clear, clear_start, clear_more, found, ended}
 use Rattle.sheet.specs.Reading.{unfit}
 use Rattle.sheet.proofs.reading.first_unfit.Statement.{statement}
 use Rattle.sheet.proofs.reading.first_unfit.Tie as tie
@@ -15,7 +15,7 @@ abbrev decreases-loop : tie.decreases-loop
 decreases-loop sheet count k₀ k = count - k
 
 loop-holds : tie.Need-loop-init invariant-loop decreases-loop
-loop-holds c = (omega arith, clear-start _)
+loop-holds c = (omega arith, clear_start _)
 
 shared-slice-read-unfit : tie.Need-shared-slice-read-unfit invariant-loop decreases-loop
 shared-slice-read-unfit c = search rules
@@ -39,7 +39,7 @@ loop-again : tie.Need-loop-preserved invariant-loop decreases-loop
 loop-again c =
     let u = c.before.before.before.before.before.before.args in
     let l = c.before.before.before.before.loop in
-    (omega arith, clear-more (unfit u.sheet.now) l.k l.invariant.1 (sym c.before.unfit.ensures ∙ c.if1.false))
+    (omega arith, clear_more (unfit u.sheet.now) l.k l.invariant.1 (sym c.before.unfit.ensures ∙ c.if1.false))
 
 returns-2 : tie.Need-returns-2 invariant-loop decreases-loop
 returns-2 c =

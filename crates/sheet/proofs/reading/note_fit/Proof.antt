@@ -5,8 +5,8 @@ use native.Mathlib.Omega.{arith}
 use borrow.Author.Rules.{rules}
 use lib.ListN.{length}
 use Rattle.matrix.specs.Refusals.{NoteUnfit}
-use Rattle.matrix.specs.Verdicts.{failsAt}
-use Rattle.matrix.proofs.Verdicts.{fails-then, passed_then, failed-at}
+use Rattle.matrix.specs.Verdicts.{fails_at}
+use Rattle.matrix.proofs.Verdicts.{fails_then, passed_then, failed_at}
 use Rattle.sheet.specs.Reading.{unfit}
 use Rattle.sheet.proofs.reading.note_fit.Statement.{statement}
 use Rattle.sheet.proofs.reading.note_fit.Tie as tie
@@ -15,7 +15,7 @@ enum-known-before : tie.Need-enum-known-before
 enum-known-before c = search rules
 
 returns : tie.Need-returns
-returns c = fails-then _ c.before.before2.given.1
+returns c = fails_then _ c.before.before2.given.1
 
 enum_told : tie.Need-enum-told
 enum_told c = search rules
@@ -40,8 +40,8 @@ returns-2 c =
     let d = c.before.before in
     let sheet = d.before.before.before.before.args.sheet.now in
     passed_then _ d.before.enum_told.given.1
-    (c.fails-if.ensures ∙ failed-at NoteUnfit (λ k. k) _ (unfit sheet) c.before.first-unfit.ensures
-    ∙ ap (λ (far : ℕ). failsAt NoteUnfit (λ k. k) (length sheet - 12 - far) (unfit sheet)) d.distance-of.ensures.0)
+    (c.fails-if.ensures ∙ failed_at NoteUnfit (λ k. k) _ (unfit sheet) c.before.first-unfit.ensures
+    ∙ ap (λ (far : ℕ). fails_at NoteUnfit (λ k. k) (length sheet - 12 - far) (unfit sheet)) d.distance-of.ensures.0)
 
 pub note-fit-spec : {M : Type 1} → statement M
 note-fit-spec =

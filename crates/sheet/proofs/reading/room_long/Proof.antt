@@ -3,9 +3,9 @@ use mathlib.Core.Path.{ap, ◌∙◌}
 use Prim.Native.Nat.{ℕ}
 use borrow.Author.Rules.{rules}
 use lib.Dec.{ltb}
-use Rattle.matrix.specs.Verdicts.{failsIf}
+use Rattle.matrix.specs.Verdicts.{fails_if}
 use Rattle.matrix.specs.Refusals.{SlipRoomShort}
-use Rattle.matrix.proofs.Verdicts.{fails-then, passed_then}
+use Rattle.matrix.proofs.Verdicts.{fails_then, passed_then}
 use Rattle.sheet.proofs.reading.room_long.Statement.{statement}
 use Rattle.sheet.proofs.reading.room_long.Tie as tie
 
@@ -13,7 +13,7 @@ enum-known-before : tie.Need-enum-known-before
 enum-known-before c = search rules
 
 returns : tie.Need-returns
-returns c = fails-then _ c.before.before2.given.1
+returns c = fails_then _ c.before.before2.given.1
 
 enum_told : tie.Need-enum-told
 enum_told c = search rules
@@ -29,7 +29,7 @@ returns-2 c =
     let d = c.before in
     let room = d.before.before.before.before.args.room in
     passed_then _ d.before.enum_told.given.1
-    (c.fails-if.ensures ∙ ap (λ (least : ℕ). failsIf SlipRoomShort 0 (ltb room least)) d.slip-length.ensures)
+    (c.fails-if.ensures ∙ ap (λ (least : ℕ). fails_if SlipRoomShort 0 (ltb room least)) d.slip-length.ensures)
 
 pub room-long-spec : {M : Type 1} → statement M
 room-long-spec = tie.close (tie.spec enum-known-before returns enum_told slip-length-requires fails-if-requires returns-2)

@@ -3,8 +3,8 @@ use mathlib.Core.Path.{ap, ap₂, ◌∙◌}
 use Prim.Native.Nat.{ℕ, ◌+◌, ◌*◌}
 use native.Mathlib.Omega.{arith}
 use borrow.Author.Rules.{rules}
-use Rattle.layout.specs.Trailers.{editionOf}
-use Rattle.layout.specs.Slips.{rowCountLength, slipLength}
+use Rattle.layout.specs.Trailers.{edition_of}
+use Rattle.layout.specs.Slips.{row_count_length, slip_length}
 use Rattle.sheet.proofs.Editions.{count-short}
 use Rattle.sheet.proofs.reading.slip_length.Statement.{statement}
 use Rattle.sheet.proofs.reading.slip_length.Tie as tie
@@ -47,9 +47,9 @@ returns : tie.Need-returns
 returns c =
     let s = c.before.before in
     let r = s.before in
-    let edition = editionOf r.before.before.args.sheet.now in
-    ap (λ (count : ℕ). 10 * r.rows_of_lem.result + 8 * s.side-of.result + 8 + count + 12) (c.row-count-length.ensures ∙ ap rowCountLength c.before.edition-of.ensures)
-    ∙ ap₂ (λ (m n : ℕ). 10 * m + 8 * n + 8 + rowCountLength edition + 12) r.rows_of_lem.ensures.0 s.side-of.ensures.0
+    let edition = edition_of r.before.before.args.sheet.now in
+    ap (λ (count : ℕ). 10 * r.rows_of_lem.result + 8 * s.side-of.result + 8 + count + 12) (c.row-count-length.ensures ∙ ap row_count_length c.before.edition-of.ensures)
+    ∙ ap₂ (λ (m n : ℕ). 10 * m + 8 * n + 8 + row_count_length edition + 12) r.rows_of_lem.ensures.0 s.side-of.ensures.0
 
 pub slip-length-spec : {M : Type 1} → statement M
 slip-length-spec =

@@ -8,32 +8,32 @@ use borrow.Author.Tests.{lt-ltb, le-ltb}
 use lib.Dec.{ltb}
 use lib.ListN.{length}
 use Rattle.layout.specs.Values.{value_of}
-use Rattle.layout.specs.Trailers.{sheetMark, side_of, editionOf, unmarked}
-use Rattle.matrix.specs.Limits.{sheetSide}
-use Rattle.matrix.specs.Verdicts.{◌then◌, failsBy, failsIf}
+use Rattle.layout.specs.Trailers.{sheet_mark, side_of, edition_of, unmarked}
+use Rattle.matrix.specs.Limits.{sheet_side}
+use Rattle.matrix.specs.Verdicts.{◌then◌, fails_by, fails_if}
 use Rattle.matrix.specs.Refusals.{SheetSideOver}
-use Rattle.sheet.specs.Reading.{sheetMost, unknown}
+use Rattle.sheet.specs.Reading.{sheet_most, unknown}
 use Rattle.sheet.proofs.Passing.{has-trailer}
 use Rattle.sheet.proofs.reading.trailed.Statement.{statement}
 use Rattle.sheet.proofs.reading.trailed.Tie as tie
 
 -- ---- what each test that was passed says
 
-not-over : (c : tie.Else1) → ltb sheetMost (length c.before.before.before.args.sheet.now) ≡ false
-not-over c = le-ltb sheetMost (length c.before.before.before.args.sheet.now) (omega (arith, c.before.sheet-most.ensures))
+not-over : (c : tie.Else1) → ltb sheet_most (length c.before.before.before.args.sheet.now) ≡ false
+not-over c = le-ltb sheet_most (length c.before.before.before.args.sheet.now) (omega (arith, c.before.sheet-most.ensures))
 
 -- "MTCH" as one number
-mark : 0x4843544D ≡ value_of sheetMark
+mark : 0x4843544D ≡ value_of sheet_mark
 unfolding value_of
 mark = refl
 
-marked : (c : tie.Else2) → unmarked (value_of sheetMark) c.before.before.before.before.before.args.sheet.now ≡ false
+marked : (c : tie.Else2) → unmarked (value_of sheet_mark) c.before.before.before.before.before.args.sheet.now ≡ false
 marked c = ap (λ (m : ℕ). unmarked m c.before.before.before.before.before.args.sheet.now) (sym mark) ∙ sym c.before.unmarked.ensures ∙ c.if2.false
 
 long : (c : tie.Else2) → 12 ≤ length c.before.before.before.before.before.args.sheet.now
-long c = has-trailer (value_of sheetMark) c.before.before.before.before.before.args.sheet.now (marked c)
+long c = has-trailer (value_of sheet_mark) c.before.before.before.before.before.args.sheet.now (marked c)
 
-first-editions : (c : tie.Else3) → unknown (editionOf c.before.before.before.before.before.before.before.before.args.sheet.now) ≡ false
+first-editions : (c : tie.Else3) → unknown (edition_of c.before.before.before.before.before.before.before.before.args.sheet.now) ≡ false
 first-editions c = sym (c.before.unknown.ensures ∙ ap unknown c.before.before.edition-of.ensures) ∙ c.if3.false
 
 sheet-most-requires : tie.Need-sheet-most-requires
@@ -43,8 +43,8 @@ fails-if-requires : tie.Need-fails-if-requires
 fails-if-requires c κs = search rules
 
 returns : tie.Need-returns
-unfolding ◌then◌ failsBy
-returns c = c.fails-if.ensures ∙ rw (lt-ltb sheetMost (length c.before.before.before.before.args.sheet.now) (omega (arith, c.before.before.sheet-most.ensures)))
+unfolding ◌then◌ fails_by
+returns c = c.fails-if.ensures ∙ rw (lt-ltb sheet_most (length c.before.before.before.before.args.sheet.now) (omega (arith, c.before.before.sheet-most.ensures)))
 
 unmarked-requires : tie.Need-unmarked-requires
 unmarked-requires c κs = search rules
@@ -53,7 +53,7 @@ fails-if-requires-2 : tie.Need-fails-if-requires-2
 fails-if-requires-2 c κs = search rules
 
 returns-2 : tie.Need-returns-2
-unfolding ◌then◌ failsBy
+unfolding ◌then◌ fails_by
 returns-2 c = c.fails-if2.ensures ∙ rw (not-over c.before.before.before, ap (λ (m : ℕ). unmarked m c.before.before.before.before.before.before.args.sheet.now) (sym mark) ∙ sym c.before.before.unmarked.ensures ∙ c.before.if2.true)
 
 edition-of-requires : tie.Need-edition-of-requires
@@ -66,7 +66,7 @@ fails-if-requires-3 : tie.Need-fails-if-requires-3
 fails-if-requires-3 c κs = search rules
 
 returns-3 : tie.Need-returns-3
-unfolding ◌then◌ failsBy
+unfolding ◌then◌ fails_by
 returns-3 c =
     let d = c.before.before.before.before in
     let new = sym (c.before.before.unknown.ensures ∙ ap unknown c.before.before.before.edition-of.ensures) ∙ c.before.if3.true in
@@ -82,11 +82,11 @@ fails-if-requires-4 : tie.Need-fails-if-requires-4
 fails-if-requires-4 c κs = search rules
 
 returns-4 : tie.Need-returns-4
-unfolding ◌then◌ failsBy
+unfolding ◌then◌ fails_by
 returns-4 c =
     let d = c.before.before.before in
     let e = d.before.before.before in
-    c.fails-if4.ensures ∙ ap (λ (t : Bool). failsIf SheetSideOver 0 t) (ap₂ ltb c.before.before.sheet-side.ensures c.before.side-of.ensures.0)
+    c.fails-if4.ensures ∙ ap (λ (t : Bool). fails_if SheetSideOver 0 t) (ap₂ ltb c.before.before.sheet-side.ensures c.before.side-of.ensures.0)
     ∙ rw (not-over e.before.before, marked e, first-editions d)
 
 pub trailed-spec : {M : Type 1} → statement M

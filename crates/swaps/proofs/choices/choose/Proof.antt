@@ -13,7 +13,7 @@ use Rattle.ints.proofs.Bits.{read_back}
 use Rattle.lists.specs.Permutations.{at}
 use Rattle.lists.specs.Parts.{part}
 use Rattle.lists.proofs.Parts.{part_at, lent_length}
-use Rattle.assignment.specs.Pairings.{signedAt}
+use Rattle.assignment.specs.Pairings.{signed_at}
 use Rattle.matrix.proofs.SmallLimits.{side-small}
 use Rattle.swaps.proofs.Choosing.{fewer, own_below, row_fits, row-length, row-chosen, down-chosen}
 use Rattle.swaps.proofs.choices.choose.Statement.{statement}
@@ -163,7 +163,7 @@ first-way-requires c κs =
     let x = s.args.x in
     let l = b.before.before.if1.true in
     let size : length b.before.row.result.now ≡ n s = ap length b.before.row.ensures ∙ row-size s l in (
-      rw (read_back w64 (signedAt (us s) x) c.before.first-way-arg.given) (h.fair.row-prices.within x l),
+      rw (read_back w64 (signed_at (us s) x) c.before.first-way-arg.given) (h.fair.row-prices.within x l),
       omega (arith, h.lowered.size),
       λ j q. h.lowered.bounded j (omega arith),
       omega (arith, (first (n s) (room s) h.room-size).0),
@@ -179,7 +179,7 @@ returns c =
     c.first_way.ensures
     ∙ row-chosen (m s) (n s) (costs s) (bars s) (cols s) (us s) (vs s) (ts s) s.args.top (room s) x s.pre b.before.before.if1.true (rows-lent s) (marks-lent s)
     (first (n s) (room s) s.pre.room-size).1 (third (n s) (room s) s.pre.room-size).1 b.before.row.result.now b.before.row.ensures
-    b.bits_of.result b.bits_of.ensures _ (read_back w64 (signedAt (us s) x) c.before.before.first-way-arg.given) _ (to_z-of_z s.fits.top)
+    b.bits_of.result b.bits_of.ensures _ (read_back w64 (signed_at (us s) x) c.before.before.first-way-arg.given) _ (to_z-of_z s.fits.top)
 
 first-down-requires : tie.Need-first-down-requires
 first-down-requires c κs =

@@ -16,16 +16,16 @@ use mir.Val.{to_z, of_z}
 use mir.Facts.{to_z-of_z}
 use Rattle.ints.proofs.Bits.{read_back}
 use Rattle.lists.specs.Permutations.{at}
-use Rattle.lists.proofs.Runs.{first-none}
-use Rattle.assignment.specs.Pairings.{signedAt}
+use Rattle.lists.proofs.Runs.{first_none}
+use Rattle.assignment.specs.Pairings.{signed_at}
 use Rattle.matrix.proofs.First.{Clear}
-use Rattle.swaps.specs.Places.{firstFrom, comesDown}
-use Rattle.swaps.proofs.Froms.{since, since_at, since-start, since-more, since-found}
+use Rattle.swaps.specs.Places.{first_from, comes_down}
+use Rattle.swaps.proofs.Froms.{since, since_at, since_start, since_more, since_found}
 use Rattle.swaps.proofs.choices.first_down.Statement.{statement}
 use Rattle.swaps.proofs.choices.first_down.Tie as tie
 
 abbrev invariant-loop : tie.invariant-loop
-invariant-loop m n top cols vs marks from i₀ i = (from ≤ i) × Clear (since from (comesDown m (to_z w64 top) cols vs marks)) i
+invariant-loop m n top cols vs marks from i₀ i = (from ≤ i) × Clear (since from (comes_down m (to_z w64 top) cols vs marks)) i
 
 abbrev decreases-loop : tie.decreases-loop
 decreases-loop m n top cols vs marks from i₀ i = m - i
@@ -35,10 +35,10 @@ abbrev start : tie.At-loop invariant-loop decreases-loop → tie.Start invariant
 start a = a.before.before.before
 
 abbrev held : tie.Start invariant-loop decreases-loop → ℕ → Bool
-held s = let u = s.args in comesDown u.m (to_z w64 (of_z w64 u.top)) u.cols.now u.vs.now u.marks.now
+held s = let u = s.args in comes_down u.m (to_z w64 (of_z w64 u.top)) u.cols.now u.vs.now u.marks.now
 
 loop-holds : tie.Need-loop-init invariant-loop decreases-loop
-loop-holds c = let s = c.before.before in (omega arith, since-start s.args.from (held s))
+loop-holds c = let s = c.before.before in (omega arith, since_start s.args.from (held s))
 
 mul-j : tie.Need-overflow-mul-j invariant-loop decreases-loop
 mul-j c = search rules
@@ -78,21 +78,21 @@ tested c =
     let e : ltb i u.m ≡ true = lt-ltb i u.m g.loop-test.true in
     c.comes_down.ensures
     ∙ ap (λ (v : ℤ). not (eqb (at u.marks.now i) 2) && le_z (to_z w64 (of_z w64 u.top)) v)
-    (read_back w64 (signedAt u.vs.now (at u.cols.now i)) c.before.before.comes-down-arg.given)
-    ∙ ap (λ (t : Bool). t && (not (eqb (at u.marks.now i) 2) && le_z (to_z w64 (of_z w64 u.top)) (signedAt u.vs.now (at u.cols.now i)))) (sym e)
+    (read_back w64 (signed_at u.vs.now (at u.cols.now i)) c.before.before.comes-down-arg.given)
+    ∙ ap (λ (t : Bool). t && (not (eqb (at u.marks.now i) 2) && le_z (to_z w64 (of_z w64 u.top)) (signed_at u.vs.now (at u.cols.now i)))) (sym e)
 
 -- the test with the price as it was given
-same : (s : tie.Start invariant-loop decreases-loop) → held s ≡ (let u = s.args in comesDown u.m u.top u.cols.now u.vs.now u.marks.now)
+same : (s : tie.Start invariant-loop decreases-loop) → held s ≡ (let u = s.args in comes_down u.m u.top u.cols.now u.vs.now u.marks.now)
 same s =
-    let u = s.args in ap (λ (t : ℤ). comesDown u.m t u.cols.now u.vs.now u.marks.now) (to_z-of_z s.ranges.top)
+    let u = s.args in ap (λ (t : ℤ). comes_down u.m t u.cols.now u.vs.now u.marks.now) (to_z-of_z s.ranges.top)
 
 returns : tie.Need-returns invariant-loop decreases-loop
 returns c =
     let g = c.before.before.before.before.before in
     let s = start g.before in
-    since-found s.args.from (held s) s.args.n g.before.loop.i g.before.loop.invariant.0 (omega (arith, g.loop-test.true, s.pre.0))
+    since_found s.args.from (held s) s.args.n g.before.loop.i g.before.loop.invariant.0 (omega (arith, g.loop-test.true, s.pre.0))
     g.before.loop.invariant.1 (sym (tested c.before) ∙ c.if1.true)
-    ∙ ap (λ (f : ℕ → Bool). firstFrom s.args.from s.args.n f) (same s)
+    ∙ ap (λ (f : ℕ → Bool). first_from s.args.from s.args.n f) (same s)
 
 add-i : tie.Need-overflow-add-i invariant-loop decreases-loop
 add-i c = search rules
@@ -105,18 +105,18 @@ loop-again c =
     let a = c.before.before.before.before.before.before in
     let s = start a in (
       omega (arith, a.loop.invariant.0),
-      since-more s.args.from (held s) a.loop.i a.loop.invariant.0 a.loop.invariant.1 (sym (tested c.before) ∙ c.if1.false),
+      since_more s.args.from (held s) a.loop.i a.loop.invariant.0 a.loop.invariant.1 (sym (tested c.before) ∙ c.if1.false),
     )
 
 -- no row from m on comes down
-none_above : (from m : ℕ) (top : ℤ) (cols : List ℕ) (vs : List ℤ) (marks : List ℕ) (i : ℕ) → m ≤ i → Clear (since from (comesDown m top cols vs marks)) i
-    → (n : ℕ) → Clear (since from (comesDown m top cols vs marks)) n
+none_above : (from m : ℕ) (top : ℤ) (cols : List ℕ) (vs : List ℤ) (marks : List ℕ) (i : ℕ) → m ≤ i → Clear (since from (comes_down m top cols vs marks)) i
+    → (n : ℕ) → Clear (since from (comes_down m top cols vs marks)) n
 none_above from m top cols vs marks i h clear n k l = by (dec_lt k i) (dec_lt k from)
   where
-    by : Dec (k < i) → Dec (k < from) → since from (comesDown m top cols vs marks) k ≡ false
+    by : Dec (k < i) → Dec (k < from) → since from (comes_down m top cols vs marks) k ≡ false
     by (yes a) d = clear k a
-    by (no a) (yes d) = since-start from (comesDown m top cols vs marks) k d
-    by (no a) (no d) = since_at from (comesDown m top cols vs marks) k (omega arith) ∙ rw (le-ltb k m (omega arith))
+    by (no a) (yes d) = since_start from (comes_down m top cols vs marks) k d
+    by (no a) (no d) = since_at from (comes_down m top cols vs marks) k (omega arith) ∙ rw (le-ltb k m (omega arith))
 
 returns-2 : tie.Need-returns-2 invariant-loop decreases-loop
 returns-2 c =
@@ -124,9 +124,9 @@ returns-2 c =
     let s = start a in
     let u = s.args in
     sym
-    (first-none (since u.from (held s)) u.n
+    (first_none (since u.from (held s)) u.n
     (none_above u.from u.m (to_z w64 (of_z w64 u.top)) u.cols.now u.vs.now u.marks.now a.loop.i c.loop-test.false a.loop.invariant.1 u.n))
-    ∙ ap (λ (f : ℕ → Bool). firstFrom u.from u.n f) (same s)
+    ∙ ap (λ (f : ℕ → Bool). first_from u.from u.n f) (same s)
 
 pub first-down-spec : {M : Type 1} → statement M
 first-down-spec =

@@ -6,7 +6,7 @@ use native.Mathlib.Omega.{arith}
 use borrow.Author.Rules.{rules}
 use lib.ListN.{length, drop}
 use Rattle.lists.specs.Permutations.{at, table}
-use Rattle.lists.proofs.Tables.{filled_none, filled_more, filled-length, filled-all, table-getD}
+use Rattle.lists.proofs.Tables.{filled_none, filled_more, filled-length, filled_all, table_get_d}
 use Rattle.swaps.proofs.moves.copy.Statement.{statement}
 use Rattle.swaps.proofs.moves.copy.Tie as tie
 
@@ -59,7 +59,7 @@ returns c =
     let l = a.loop in
     let u = a.before.args in
     let e : l.k ≡ length u.to.now = omega (arith, size a, l.invariant.0, c.loop-test.false) in
-    l.invariant.1 ∙ filled-all l.k (at u.from.now) u.to.now e ∙ ap (λ (k : ℕ). table k (at u.from.now)) (sym a.before.requires) ∙ table-getD u.from.now 0
+    l.invariant.1 ∙ filled_all l.k (at u.from.now) u.to.now e ∙ ap (λ (k : ℕ). table k (at u.from.now)) (sym a.before.requires) ∙ table_get_d u.from.now 0
 
 pub copy_spec : {M : Type 1} → statement M
 copy_spec =

@@ -10,9 +10,9 @@ use borrow.Author.Tests.{lt-ltb, le-ltb}
 use lib.ListN.{length, set, length-set}
 use Rattle.lists.specs.Runs.{upward}
 use Rattle.lists.specs.Permutations.{at}
-use Rattle.lists.proofs.Runs.{upward-none, upward-last}
+use Rattle.lists.proofs.Runs.{upward_none, upward-last}
 use Rattle.matrix.proofs.SmallLimits.{side-small}
-use Rattle.swaps.specs.Rooms.{comeTo, move_at}
+use Rattle.swaps.specs.Rooms.{come_to, move_at}
 use Rattle.swaps.proofs.moves.move_rows.Statement.{statement}
 use Rattle.swaps.proofs.moves.move_rows.Tie as tie
 
@@ -25,11 +25,11 @@ decreases-loop m n from size cols room second₀ n2 n3 k₀ second k = size - k
 
 -- one turn, over plain lists
 moved : (m n from k : ℕ) (room cols second new : List ℕ) → from ≤ k → second ≡ upward from k (move_at m n room) cols → length second ≡ m
-    → ((at room (n + k) < m) × (new ≡ set second (at room (n + k)) (comeTo n room (at room (n + k))))) ⊎ ((m ≤ at room (n + k)) × (new ≡ second))
+    → ((at room (n + k) < m) × (new ≡ set second (at room (n + k)) (come_to n room (at room (n + k))))) ⊎ ((m ≤ at room (n + k)) × (new ≡ second))
     → (length new ≡ m) × (new ≡ upward from (k + 1) (move_at m n room) cols)
 moved m n from k room cols second new h e size came =
     ⊎_elim
-    (λ z. (ap length z.1 ∙ length-set second (at room (n + k)) (comeTo n room (at room (n + k))) ∙ size, z.1 ∙ sym (rw (lt-ltb (at room (n + k)) m z.0) at stepped)))
+    (λ z. (ap length z.1 ∙ length-set second (at room (n + k)) (come_to n room (at room (n + k))) ∙ size, z.1 ∙ sym (rw (lt-ltb (at room (n + k)) m z.0) at stepped)))
     (λ z. (ap length z.1 ∙ size, z.1 ∙ sym (rw (le-ltb (at room (n + k)) m z.0) at stepped)))
     came
   where
@@ -68,7 +68,7 @@ loop-holds c =
       p.order,
       refl,
       ap length a.copy.ensures ∙ p.listed,
-      a.copy.ensures ∙ sym (upward-none u.from u.from (move_at u.m u.n u.room.now) u.cols.now (omega arith)),
+      a.copy.ensures ∙ sym (upward_none u.from u.from (move_at u.m u.n u.room.now) u.cols.now (omega arith)),
     )
 
 add-x : tie.Need-overflow-add-x invariant-loop decreases-loop

@@ -7,7 +7,7 @@ use borrow.Author.Rules.{rules}
 use lib.IntN.{ℤ, pos}
 use lib.ListN.{length, drop, set}
 use Rattle.lists.specs.Permutations.{table}
-use Rattle.lists.proofs.Tables.{filled_none, filled_more, filled-length, filled-all, table-constant}
+use Rattle.lists.proofs.Tables.{filled_none, filled_more, filled-length, filled_all, table_constant}
 use Rattle.swaps.proofs.search.clear.Statement.{statement}
 use Rattle.swaps.proofs.search.clear.Tie as tie
 
@@ -60,7 +60,7 @@ returns c =
     let l = c.before.loop in
     let l₀ = c.before.before.args.numbers.now in
     let long = ap length l.invariant.1 ∙ filled-length l.k (λ i. (pos 0)) l₀ l.invariant.0 in
-    l.invariant.1 ∙ filled-all l.k (λ i. (pos 0)) l₀ (omega (arith, long)) ∙ table-constant (length l₀) (pos 0)
+    l.invariant.1 ∙ filled_all l.k (λ i. (pos 0)) l₀ (omega (arith, long)) ∙ table_constant (length l₀) (pos 0)
 
 pub clear_spec : {M : Type 1} → statement M
 clear_spec = tie.close (tie.spec invariant-loop decreases-loop loop-holds mul-numbers slice-set-of-numbers add-k loop-less loop-again same_length returns)

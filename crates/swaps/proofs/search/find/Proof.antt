@@ -5,7 +5,7 @@ use native.Mathlib.Omega.{arith}
 use borrow.Author.Rules.{rules}
 use lib.IntN.{pos}
 use lib.ListN.{length, replicate}
-use Rattle.lists.proofs.Tables.{table-constant}
+use Rattle.lists.proofs.Tables.{table_constant}
 use Rattle.swaps.proofs.search.find.Statement.{statement}
 use Rattle.swaps.proofs.search.find.Tie as tie
 
@@ -39,8 +39,8 @@ returns c =
     let k : length a.search-any.new.1.1.1.1.1.1.1.1.1.0 ≡ u.n = omega (arith, a.search-any.auto, s.requires.numbers-size) in
     record {
       searched = a.search-any.ensures;
-      room-cleared = f.ensures ∙ table-constant (length a.search-any.new.1.1.1.1.1.1.1.1.0) 0 ∙ ap (λ (k : ℕ). replicate k 0) l;
-      numbers-cleared = e.ensures ∙ ap (λ (i : ℕ). replicate i (pos 0)) k;
+      room_cleared = f.ensures ∙ table_constant (length a.search-any.new.1.1.1.1.1.1.1.1.0) 0 ∙ ap (λ (k : ℕ). replicate k 0) l;
+      numbers_cleared = e.ensures ∙ ap (λ (i : ℕ). replicate i (pos 0)) k;
     }
 
 pub find_spec : {M : Type 1} → statement M

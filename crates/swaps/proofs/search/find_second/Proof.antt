@@ -2,7 +2,7 @@
 use native.Mathlib.Omega.{arith}
 use borrow.Author.Rules.{rules}
 use Rattle.matrix.proofs.SmallLimits.{side-small}
-use Rattle.swaps.proofs.Fronts.{can-find, found_in}
+use Rattle.swaps.proofs.Fronts.{can_find, found_in}
 use Rattle.swaps.proofs.search.find_second.Statement.{statement}
 use Rattle.swaps.proofs.search.find_second.Tie as tie
 
@@ -49,7 +49,7 @@ find-requires : tie.Need-find-requires
 find-requires c κs =
     let s = c.before.before.before.before.before.before.before.before in
     let u = s.args in
-    can-find u.m u.n u.costs.now u.bars.now u.cols.now u.us.now u.vs.now u.list.now u.indices.now u.numbers.now s.requires
+    can_find u.m u.n u.costs.now u.bars.now u.cols.now u.us.now u.vs.now u.list.now u.indices.now u.numbers.now s.requires
 
 same_length : tie.Need-same-length
 same_length c = search rules

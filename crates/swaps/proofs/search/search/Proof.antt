@@ -11,26 +11,26 @@ use Rattle.ints.proofs.Bits.{read_back}
 use Rattle.lists.specs.Permutations.{table}
 use Rattle.lists.proofs.Parts.{lent_length}
 use Rattle.lists.proofs.Tables.{length-table}
-use Rattle.assignment.specs.Pairings.{signedAt}
+use Rattle.assignment.specs.Pairings.{signed_at}
 use Rattle.assignment.proofs.Pairings.{pairing-injective}
-use Rattle.bars.specs.Barred.{nightOf}
+use Rattle.bars.specs.Barred.{night_of}
 use Rattle.swaps.specs.Second.{behind, dearest}
 use Rattle.swaps.proofs.Choosing.{rows-columns}
-use Rattle.swaps.proofs.Finding.{found-dearest, can-walk, none_found, can-move, one_found}
+use Rattle.swaps.proofs.Finding.{found-dearest, can-walk, none_found, can_move, one_found}
 use Rattle.swaps.proofs.search.search.Statement.{statement}
 use Rattle.swaps.proofs.search.search.Tie as tie
 
 -- ---- over plain lists
 
 module _ (n : ℕ) (room zeros : List ℕ) (size : length room ≡ n + n + n + n) (e : zeros ≡ table (length room) (λ k. 0)) where
-  front-size : length (take (n - 0) zeros) ≡ n
-  front-size = lent_length n 0 n zeros (omega arith) (omega (arith, ap length e, length-table {A = ℕ} (length room) (λ k. 0)))
+  front_size : length (take (n - 0) zeros) ≡ n
+  front_size = lent_length n 0 n zeros (omega arith) (omega (arith, ap length e, length-table {A = ℕ} (length room) (λ k. 0)))
 
   -- the rows listed in the first part of a room of zeros
   shaped : (f : ℕ → ℕ) (rows : List ℕ) → rows ≡ table (length (take (n - 0) zeros)) f
       → (rows ++ drop (n - 0) zeros) ≡ table n f ++ drop n (table (n + n + n + n) (λ k. 0))
   shaped f rows d =
-      ap₂ ◌++◌ (d ∙ ap (λ (k : ℕ). table k f) front-size)
+      ap₂ ◌++◌ (d ∙ ap (λ (k : ℕ). table k f) front_size)
       (ap (λ (k : ℕ). drop k zeros) (sub-zero n) ∙ ap (drop n) (e ∙ ap (λ (k : ℕ). table k (λ i. 0)) size))
 
 -- ---- the needs
@@ -69,10 +69,10 @@ list-rows-requires c κs =
     let s = start d in
     let u = s.args in
     let fair = s.pre.fair in
-    let night = nightOf u.m u.n u.costs.now u.bars.now in (
+    let night = night_of u.m u.n u.costs.now u.bars.now in (
       omega (arith, rows-columns night u.cols.now fair.pairing, fair.small),
       omega (arith, fair.pairing.size),
-      rw (front-size u.n u.room.now d.before.before.fill.new.0 s.pre.room-size d.before.before.fill.ensures) (pairing-injective night u.cols.now fair.pairing),
+      rw (front_size u.n u.room.now d.before.before.fill.new.0 s.pre.room-size d.before.before.fill.ensures) (pairing-injective night u.cols.now fair.pairing),
     )
 
 copy-prices-requires : tie.Need-copy-prices-requires
@@ -99,8 +99,8 @@ walk-requires c κs =
     let s = start b in
     let u = s.args in
     can-walk u.m u.n u.costs.now u.bars.now u.cols.now u.us.now u.vs.now s.pre.fair _
-    (shaped u.n u.room.now b.before.before.fill.last.0 s.pre.room-size b.before.before.fill.ensures (behind (nightOf u.m u.n u.costs.now u.bars.now) u.cols.now) g.before.before.list-rows.last.1.1.0 g.before.before.list-rows.ensures)
-    q.copy-prices.new.1.0 (q.copy-prices.ensures ∙ ap (λ (j : ℕ). table j (signedAt u.vs.now)) s.pre.numbers-size) _ (read_back w64 d.dearest.result d.dearest.type-inv ∙ d.dearest.ensures ∙ found-dearest (nightOf u.m u.n u.costs.now u.bars.now) u.vs.now u.cols.now) k.count-nodes.result k.count-nodes.ensures
+    (shaped u.n u.room.now b.before.before.fill.last.0 s.pre.room-size b.before.before.fill.ensures (behind (night_of u.m u.n u.costs.now u.bars.now) u.cols.now) g.before.before.list-rows.last.1.1.0 g.before.before.list-rows.ensures)
+    q.copy-prices.new.1.0 (q.copy-prices.ensures ∙ ap (λ (j : ℕ). table j (signed_at u.vs.now)) s.pre.numbers-size) _ (read_back w64 d.dearest.result d.dearest.type-inv ∙ d.dearest.ensures ∙ found-dearest (night_of u.m u.n u.costs.now u.bars.now) u.vs.now u.cols.now) k.count-nodes.result k.count-nodes.ensures
 
 enum_told : tie.Need-enum-told
 enum_told c = search rules
@@ -124,7 +124,7 @@ move-rows-requires c κs =
     let w = walked f.before.before in
     let s = start (listed (at-walk w)) in
     let u = s.args in
-    can-move u.m u.n u.costs.now u.bars.now u.cols.now u.us.now u.vs.now s.pre.fair w.walk.result _ w.walk.ensures
+    can_move u.m u.n u.costs.now u.bars.now u.cols.now u.us.now u.vs.now s.pre.fair w.walk.result _ w.walk.ensures
     f.from.given.0.0 f.from.given.0.1.0 f.from.given.1 u.list.now s.pre.list-size
 
 same-length-2 : tie.Need-same-length-2
@@ -139,7 +139,7 @@ same-length-4 c =
     let w = walked f.before.before in
     let s = start (listed (at-walk w)) in
     let u = s.args in
-    (can-move u.m u.n u.costs.now u.bars.now u.cols.now u.us.now u.vs.now s.pre.fair w.walk.result _ w.walk.ensures
+    (can_move u.m u.n u.costs.now u.bars.now u.cols.now u.us.now u.vs.now s.pre.fair w.walk.result _ w.walk.ensures
     f.from.given.0.0 f.from.given.0.1.0 f.from.given.1 u.list.now s.pre.list-size).room-size
     ∙ sym s.pre.room-size
 

@@ -9,13 +9,13 @@ use lib.ListN.{length, drop, set}
 use mir.Syntax.{w64}
 use Rattle.ints.proofs.Bits.{read_back}
 use Rattle.lists.specs.Permutations.{table}
-use Rattle.lists.proofs.Tables.{filled_none, filled_more, filled-length, filled-all}
-use Rattle.assignment.specs.Pairings.{signedAt}
+use Rattle.lists.proofs.Tables.{filled_none, filled_more, filled-length, filled_all}
+use Rattle.assignment.specs.Pairings.{signed_at}
 use Rattle.swaps.proofs.start.copy_prices.Statement.{statement}
 use Rattle.swaps.proofs.start.copy_prices.Tie as tie
 
 abbrev invariant-loop : tie.invariant-loop
-invariant-loop vs numbers₀ k₀ numbers k = (k ≤ length numbers₀) × (numbers ≡ table k (signedAt vs) ++ drop k numbers₀)
+invariant-loop vs numbers₀ k₀ numbers k = (k ≤ length numbers₀) × (numbers ≡ table k (signed_at vs) ++ drop k numbers₀)
 
 abbrev decreases-loop : tie.decreases-loop
 decreases-loop vs numbers₀ k₀ numbers k = length numbers₀ - k
@@ -23,10 +23,10 @@ decreases-loop vs numbers₀ k₀ numbers k = length numbers₀ - k
 -- the list keeps its length
 size : (c : tie.At-loop invariant-loop decreases-loop) → length c.loop.numbers ≡ length c.before.args.numbers.now
 size c =
-    let u = c.before.args in ap length c.loop.invariant.1 ∙ filled-length c.loop.k (signedAt u.vs.now) u.numbers.now c.loop.invariant.0
+    let u = c.before.args in ap length c.loop.invariant.1 ∙ filled-length c.loop.k (signed_at u.vs.now) u.numbers.now c.loop.invariant.0
 
 loop-holds : tie.Need-loop-init invariant-loop decreases-loop
-loop-holds c = (omega arith, filled_none (signedAt c.args.vs.now) c.args.numbers.now)
+loop-holds c = (omega arith, filled_none (signed_at c.args.vs.now) c.args.numbers.now)
 
 mul-numbers : tie.Need-overflow-mul-numbers invariant-loop decreases-loop
 mul-numbers c = let e = size c.before in search rules
@@ -53,8 +53,8 @@ loop-again c =
     let u = a.before.args in
     let h : l.k < length u.numbers.now = omega (arith, size a, c.before.loop-test.true) in (
       omega arith,
-      ap₂ (λ (t : List ℤ) (z : ℤ). set t l.k z) l.invariant.1 (read_back w64 (signedAt u.vs.now l.k) c.numbers.given)
-          ∙ filled_more l.k (signedAt u.vs.now) u.numbers.now h,
+      ap₂ (λ (t : List ℤ) (z : ℤ). set t l.k z) l.invariant.1 (read_back w64 (signed_at u.vs.now l.k) c.numbers.given)
+          ∙ filled_more l.k (signed_at u.vs.now) u.numbers.now h,
     )
 
 same_length : tie.Need-same-length invariant-loop decreases-loop
@@ -66,7 +66,7 @@ returns c =
     let l = a.loop in
     let u = a.before.args in
     let e : l.k ≡ length u.numbers.now = omega (arith, size a, l.invariant.0, c.loop-test.false) in
-    l.invariant.1 ∙ filled-all l.k (signedAt u.vs.now) u.numbers.now e
+    l.invariant.1 ∙ filled_all l.k (signed_at u.vs.now) u.numbers.now e
 
 pub copy-prices-spec : {M : Type 1} → statement M
 copy-prices-spec =

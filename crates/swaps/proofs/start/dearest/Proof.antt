@@ -14,15 +14,15 @@ use mir.Val.{to_z, of_z}
 use Rattle.ints.proofs.Bits.{read_back}
 use Rattle.lists.specs.Runs.{upward}
 use Rattle.lists.specs.Permutations.{at}
-use Rattle.lists.proofs.Runs.{upward-none, upward-last}
-use Rattle.assignment.specs.Pairings.{signedAt}
+use Rattle.lists.proofs.Runs.{upward_none, upward-last}
+use Rattle.assignment.specs.Pairings.{signed_at}
 use Rattle.swaps.specs.Second.{higher}
 use Rattle.swaps.proofs.start.dearest.Statement.{statement}
 use Rattle.swaps.proofs.start.dearest.Tie as tie
 
 -- the highest of the first i rows
 abbrev so_far : List ℤ → List ℕ → ℕ → ℤ
-so_far vs cols i = upward 0 i (higher vs cols) (signedAt vs (at cols 0))
+so_far vs cols i = upward 0 i (higher vs cols) (signed_at vs (at cols 0))
 
 abbrev invariant-loop : tie.invariant-loop
 invariant-loop m cols vs first top₀ i₀ top i = (i ≤ m) × (to_z w64 top ≡ so_far vs cols i)
@@ -50,8 +50,8 @@ loop-holds : tie.Need-loop-init invariant-loop decreases-loop
 loop-holds c =
     let u = c.before.before.before.args in (
       omega arith,
-      read_back w64 (signedAt u.vs.now (at u.cols.now 0)) c.top.given
-          ∙ sym (upward-none 0 0 (higher u.vs.now u.cols.now) (signedAt u.vs.now (at u.cols.now 0)) (omega arith)),
+      read_back w64 (signed_at u.vs.now (at u.cols.now 0)) c.top.given
+          ∙ sym (upward_none 0 0 (higher u.vs.now u.cols.now) (signed_at u.vs.now (at u.cols.now 0)) (omega arith)),
     )
 
 mul-j : tie.Need-overflow-mul-j invariant-loop decreases-loop
@@ -84,9 +84,9 @@ loop-less c = search rules
 
 -- one turn, over plain numbers: t has the bits of the highest so far, r is the new one
 turned : (vs : List ℤ) (cols : List ℕ) (i t : ℕ) (r v : ℤ) → to_z w64 t ≡ so_far vs cols i → r ≡ cond (lt_z (to_z w64 t) v) v (to_z w64 t)
-    → v ≡ signedAt vs (at cols i) → mag r < 2 ^ 63 → to_z w64 (of_z w64 r) ≡ so_far vs cols (i + 1)
+    → v ≡ signed_at vs (at cols i) → mag r < 2 ^ 63 → to_z w64 (of_z w64 r) ≡ so_far vs cols (i + 1)
 turned vs cols i t r v e q d small =
-    rw (add-one, upward-last 0 i (higher vs cols) (signedAt vs (at cols 0)) (omega arith))
+    rw (add-one, upward-last 0 i (higher vs cols) (signed_at vs (at cols 0)) (omega arith))
     (read_back w64 r small ∙ q ∙ ap₂ (λ (x y : ℤ). cond (lt_z y x) x y) d e)
 
 loop-again : tie.Need-loop-preserved invariant-loop decreases-loop
@@ -96,7 +96,7 @@ loop-again c =
     let u = a.before.before.before.before.args in (
       omega (arith, b.before.before.loop-test.true),
       turned u.vs.now u.cols.now a.loop.i a.loop.top c.higher.result _ a.loop.invariant.1 c.higher.ensures
-          (read_back w64 (signedAt u.vs.now (at u.cols.now a.loop.i)) b.higher-arg.given) c.higher.type-inv,
+          (read_back w64 (signed_at u.vs.now (at u.cols.now a.loop.i)) b.higher-arg.given) c.higher.type-inv,
     )
 
 returns : tie.Need-returns invariant-loop decreases-loop

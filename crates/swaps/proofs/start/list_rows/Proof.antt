@@ -7,7 +7,7 @@ use lib.ListN.{length}
 use Rattle.lists.specs.Permutations.{at, table, Injective}
 use Rattle.lists.proofs.Tables.{length-table}
 use Rattle.matrix.proofs.SmallLimits.{side-small}
-use Rattle.swaps.proofs.Listing.{Listed, listed-none, listed_more, listed-all}
+use Rattle.swaps.proofs.Listing.{Listed, listed_none, listed_more, listed_all}
 use Rattle.swaps.proofs.start.list_rows.Statement.{statement}
 use Rattle.swaps.proofs.start.list_rows.Tie as tie
 
@@ -33,7 +33,7 @@ loop-holds c =
     let f = c.before.before in
     let u = f.before.before.before.before.args in (
       omega arith,
-      λ n inj e. listed-none u.m n u.cols.now inj f.fill.new.0 (f.fill.ensures ∙ ap (λ (k : ℕ). table k (λ j. u.m)) (filled-size f ∙ sym e)),
+      λ n inj e. listed_none u.m n u.cols.now inj f.fill.new.0 (f.fill.ensures ∙ ap (λ (k : ℕ). table k (λ j. u.m)) (filled-size f ∙ sym e)),
     )
 
 -- the call's start, and what is listed so far
@@ -89,7 +89,7 @@ returns c =
     let s = start a in
     let u = s.args in
     let e : a.loop.i ≡ u.m = omega (arith, a.loop.invariant.0, c.loop-test.false) in
-    listed-all u.m (length u.rows.now) u.cols.now s.pre.2 a.loop.rows
+    listed_all u.m (length u.rows.now) u.cols.now s.pre.2 a.loop.rows
     (subst (λ (k : ℕ). Listed u.m (length u.rows.now) u.cols.now s.pre.2 k a.loop.rows) e (listed a))
 
 pub list-rows-spec : {M : Type 1} → statement M

@@ -8,7 +8,7 @@ use borrow.Author.Rules.{rules}
 use borrow.Author.Tests.{eq-eqb, ne_eqb}
 use lib.Dec.{eqb}
 use Rattle.lists.specs.Permutations.{at}
-use Rattle.matrix.proofs.First.{Clear, clear-start, clear-more, found, ended}
+use Rattle.matrix.proofs.First.{Clear, clear_start, clear_more, found, ended}
 use Rattle.swaps.proofs.walk.first_open.Statement.{statement}
 use Rattle.swaps.proofs.walk.first_open.Tie as tie
 
@@ -25,7 +25,7 @@ add-n2 : tie.Need-overflow-add-n2 invariant-loop decreases-loop
 add-n2 c = search rules
 
 loop-holds : tie.Need-loop-init invariant-loop decreases-loop
-loop-holds c = (omega arith, refl, clear-start (test c.args.n c.args.room.now))
+loop-holds c = (omega arith, refl, clear_start (test c.args.n c.args.room.now))
 
 add-if1 : tie.Need-overflow-add-if1 invariant-loop decreases-loop
 add-if1 c = search rules
@@ -55,7 +55,7 @@ loop-again c =
     let u = a.before.args in (
       omega (arith, c.before.before.loop-test.true),
       a.loop.invariant.1,
-      clear-more (test u.n u.room.now) a.loop.y a.loop.invariant.2 (ap not (eq-eqb (at u.room.now (u.n + u.n + a.loop.y)) 2 c.if1.false)),
+      clear_more (test u.n u.room.now) a.loop.y a.loop.invariant.2 (ap not (eq-eqb (at u.room.now (u.n + u.n + a.loop.y)) 2 c.if1.false)),
     )
 
 returns-2 : tie.Need-returns-2 invariant-loop decreases-loop

@@ -12,7 +12,7 @@ use lib.Seq.{get_or-set_other}
 use Rattle.lists.specs.Permutations.{at}
 use Rattle.lists.proofs.Cases.{cond_cases}
 use Rattle.matrix.proofs.SmallLimits.{side-small}
-use Rattle.swaps.specs.Rooms.{CanGo, entered, advanced, finished, place_in, overTo, gone}
+use Rattle.swaps.specs.Rooms.{CanGo, entered, advanced, finished, place_in, over_to, gone}
 use Rattle.swaps.specs.declared.Turned.TheVariants.{On, Back}
 use Rattle.swaps.proofs.walk.go.Statement.{statement}
 use Rattle.swaps.proofs.walk.go.Tie as tie
@@ -24,7 +24,7 @@ module _ (m n size x c : ℕ) (room : List ℕ) (h : CanGo m n size x c room) wh
   next = advanced n x c room
 
   abbrev y : ℕ
-  y = overTo m x c next
+  y = over_to m x c next
 
   next-size : length next ≡ n + n + n + n
   next-size = length-set room (n + n + n + x) c ∙ h.room-size

@@ -7,7 +7,7 @@ use borrow.Author.Rules.{rules}
 use borrow.Author.Tests.{eq-eqb, ne_eqb}
 use lib.Dec.{eqb}
 use Rattle.lists.specs.Permutations.{at}
-use Rattle.matrix.proofs.First.{Clear, clear-start, clear-more, found, ended}
+use Rattle.matrix.proofs.First.{Clear, clear_start, clear_more, found, ended}
 use Rattle.swaps.proofs.walk.place_of.Statement.{statement}
 use Rattle.swaps.proofs.walk.place_of.Tie as tie
 
@@ -21,7 +21,7 @@ abbrev decreases-loop : tie.decreases-loop
 decreases-loop n size y room k₀ k = size - k
 
 loop-holds : tie.Need-loop-init invariant-loop decreases-loop
-loop-holds c = (omega arith, clear-start (test c.args.n c.args.y c.args.room.now))
+loop-holds c = (omega arith, clear_start (test c.args.n c.args.y c.args.room.now))
 
 add-if1 : tie.Need-overflow-add-if1 invariant-loop decreases-loop
 add-if1 c = search rules
@@ -53,7 +53,7 @@ loop-again c =
     let a = c.before.before.before in
     let u = a.before.args in (
       omega (arith, c.before.before.loop-test.true),
-      clear-more (test u.n u.y u.room.now) a.loop.k a.loop.invariant.1 (ne_eqb (at u.room.now (u.n + a.loop.k)) u.y c.if1.false),
+      clear_more (test u.n u.y u.room.now) a.loop.k a.loop.invariant.1 (ne_eqb (at u.room.now (u.n + a.loop.k)) u.y c.if1.false),
     )
 
 returns-2 : tie.Need-returns-2 invariant-loop decreases-loop

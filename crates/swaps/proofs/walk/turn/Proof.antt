@@ -7,11 +7,11 @@ use lib.ListN.{length}
 use mir.Facts.{to_z-of_z}
 use Rattle.lists.specs.Permutations.{at}
 use Rattle.matrix.proofs.SmallLimits.{side-small}
-use Rattle.bars.specs.Barred.{nightOf}
+use Rattle.bars.specs.Barred.{night_of}
 use Rattle.swaps.specs.Walks.{last}
 use Rattle.swaps.specs.Second.{nodes}
-use Rattle.swaps.specs.Rooms.{walk_of, firstOpen}
-use Rattle.swaps.proofs.Turning.{fewer, path-below, last-read, last-inside, open-below, begun, gone-turned, can-go, can-choose}
+use Rattle.swaps.specs.Rooms.{walk_of, first_open}
+use Rattle.swaps.proofs.Turning.{fewer, path-below, last-read, last-inside, open_below, begun, gone_turned, can_go, can-choose}
 use Rattle.swaps.proofs.walk.turn.Statement.{statement}
 use Rattle.swaps.proofs.walk.turn.Tie as tie
 
@@ -40,11 +40,11 @@ first-open-requires : tie.Need-first-open-requires
 first-open-requires c κs = omega (arith, facts (start c.before.before))
 
 -- the node at which an empty path starts
-opened : (c : tie.After-first-open) → let u = (start c.before.before.before).args in c.first-open.result ≡ firstOpen u.n (nodes (nightOf u.m u.n u.costs.now u.bars.now)) u.room.now
+opened : (c : tie.After-first-open) → let u = (start c.before.before.before).args in c.first-open.result ≡ first_open u.n (nodes (night_of u.m u.n u.costs.now u.bars.now)) u.room.now
 opened c =
     let s = start c.before.before.before in
     let u = s.args in
-    c.first-open.ensures ∙ ap (λ (k : ℕ). firstOpen u.n k u.room.now) s.pre.counted
+    c.first-open.ensures ∙ ap (λ (k : ℕ). first_open u.n k u.room.now) s.pre.counted
 
 open-inside : (c : tie.After-first-open) → c.first-open.result < (start c.before.before.before).args.n
 open-inside c =
@@ -57,7 +57,7 @@ open-inside c =
       opened c,
       facts s,
       p.counted,
-      open-below u.m u.n u.costs.now u.bars.now u.cols.now u.us.now u.vs.now u.ts.now p.fair u.size u.room.now p.holds p.lowered p.underway g.if1.true,
+      open_below u.m u.n u.costs.now u.bars.now u.cols.now u.us.now u.vs.now u.ts.now p.fair u.size u.room.now p.holds p.lowered p.underway g.if1.true,
     )
 
 enter-requires : tie.Need-enter-requires
@@ -97,7 +97,7 @@ slice-read-x : tie.Need-slice-read-x
 slice-read-x c = omega (arith, facts (start c.before.before), some c.before)
 
 -- its last node
-is_last : (c : tie.Else1) → let u = (start c.before).args in at u.room.now (u.n + u.size - 1) ≡ last (walk_of (nightOf u.m u.n u.costs.now u.bars.now) u.us.now u.vs.now u.cols.now u.size u.room.now)
+is_last : (c : tie.Else1) → let u = (start c.before).args in at u.room.now (u.n + u.size - 1) ≡ last (walk_of (night_of u.m u.n u.costs.now u.bars.now) u.us.now u.vs.now u.cols.now u.size u.room.now)
 is_last c =
     let s = start c.before in
     let u = s.args in
@@ -133,7 +133,7 @@ go-requires c κs =
     let s = start e.before in
     let u = s.args in
     let p = s.pre in
-    can-go u.m u.n u.costs.now u.bars.now u.cols.now u.us.now u.vs.now u.ts.now p.fair u.size u.room.now p.holds p.lowered p.underway (some e)
+    can_go u.m u.n u.costs.now u.bars.now u.cols.now u.us.now u.vs.now u.ts.now p.fair u.size u.room.now p.holds p.lowered p.underway (some e)
     (at u.room.now (u.n + u.size - 1)) (is_last e) d.choose.result d.choose.ensures
 
 same-length-2 : tie.Need-same-length-2
@@ -151,7 +151,7 @@ returns-2 c =
     let s = start e.before in
     let u = s.args in
     let p = s.pre in
-    gone-turned u.m u.n u.costs.now u.bars.now u.cols.now u.us.now u.vs.now u.ts.now p.fair u.size u.room.now p.holds p.lowered p.underway (some e)
+    gone_turned u.m u.n u.costs.now u.bars.now u.cols.now u.us.now u.vs.now u.ts.now p.fair u.size u.room.now p.holds p.lowered p.underway (some e)
     (at u.room.now (u.n + u.size - 1)) (is_last e) d.choose.result d.choose.ensures g.go.result _ g.go.ensures _ l.lower.ensures
 
 pub turn_spec : {M : Type 1} → statement M

@@ -6,7 +6,7 @@ use borrow.Author.Rules.{rules}
 use mir.Facts.{to_z-of_z}
 use Rattle.lists.specs.Runs.{on, left}
 use Rattle.assignment.specs.Pairings.{Night}
-use Rattle.bars.specs.Barred.{nightOf}
+use Rattle.bars.specs.Barred.{night_of}
 use Rattle.matrix.proofs.SmallLimits.{side-small}
 use Rattle.swaps.specs.Rooms.{Lowered, walk_of, Holds}
 use Rattle.swaps.specs.declared.Turned.TheVariants.{On, Back}
@@ -17,9 +17,9 @@ use Rattle.swaps.proofs.walk.walk.Tie as tie
 
 abbrev invariant-loop : tie.invariant-loop
 invariant-loop m n costs bars cols us vs ts₀ top count room₀ turns size₀ k₀ ts room size k =
-    (k ≤ turns) × Holds (nightOf m n costs bars) us vs cols size room
-    × (after (nightOf m n costs bars) us vs cols k ≡ on (walk_of (nightOf m n costs bars) us vs cols size room))
-    × Lowered (nightOf m n costs bars) vs cols (walk_of (nightOf m n costs bars) us vs cols size room) ts
+    (k ≤ turns) × Holds (night_of m n costs bars) us vs cols size room
+    × (after (night_of m n costs bars) us vs cols k ≡ on (walk_of (night_of m n costs bars) us vs cols size room))
+    × Lowered (night_of m n costs bars) vs cols (walk_of (night_of m n costs bars) us vs cols size room) ts
 
 abbrev decreases-loop : tie.decreases-loop
 decreases-loop m n costs bars cols us vs ts₀ top count room₀ turns size₀ k₀ ts room size k = turns - k
@@ -31,7 +31,7 @@ start a = a.before.before.before.before
 few : (s : tie.Start invariant-loop decreases-loop) → s.args.count < 2 ^ 16
 few s =
     let u = s.args in
-    omega (arith, side-small, s.requires.fair.small, s.requires.counted, nodes-columns (nightOf u.m u.n u.costs.now u.bars.now) u.cols.now s.requires.fair.pairing)
+    omega (arith, side-small, s.requires.fair.small, s.requires.counted, nodes-columns (night_of u.m u.n u.costs.now u.bars.now) u.cols.now s.requires.fair.pairing)
 
 add-turns : tie.Need-overflow-add-turns invariant-loop decreases-loop
 add-turns c = omega (arith, few c.before.before.before)
@@ -42,7 +42,7 @@ loop-holds c =
     let u = s.args in (
       omega arith,
       s.requires.holds,
-      none_made (nightOf u.m u.n u.costs.now u.bars.now) u.us.now u.vs.now u.cols.now ∙ ap on (sym s.requires.at-start),
+      none_made (night_of u.m u.n u.costs.now u.bars.now) u.us.now u.vs.now u.cols.now ∙ ap on (sym s.requires.at_start),
       s.requires.lowered,
     )
 
@@ -79,7 +79,7 @@ returns c =
     let a = i.before in
     let s = start a in
     let u = s.args in
-    let night : Night = nightOf u.m u.n u.costs.now u.bars.now in
+    let night : Night = night_of u.m u.n u.costs.now u.bars.now in
     let b = turned_as night u.us.now u.vs.now u.cols.now a.loop.size a.loop.room t.turn.result _ _ t.turn.ensures (Back g.from.given.0.0) g.from.given.1 in (
       has_left night u.us.now u.vs.now u.cols.now _ (a.loop.k + 1) (omega (arith, s.pre.counted, i.loop-test.true))
           (one_more night u.us.now u.vs.now u.cols.now a.loop.k _ _ a.loop.invariant.2 b.0),
@@ -101,7 +101,7 @@ loop-again c =
     let a = i.before in
     let s = start a in
     let u = s.args in
-    let night : Night = nightOf u.m u.n u.costs.now u.bars.now in
+    let night : Night = night_of u.m u.n u.costs.now u.bars.now in
     let b = turned_as night u.us.now u.vs.now u.cols.now a.loop.size a.loop.room t.turn.result _ _ t.turn.ensures (On g.next.given.0.0) g.next.given.1 in (
       omega (arith, i.loop-test.true),
       b.1,
@@ -120,7 +120,7 @@ returns-2 c =
     let a = c.before in
     let s = start a in
     let u = s.args in
-    all_made (nightOf u.m u.n u.costs.now u.bars.now) u.us.now u.vs.now u.cols.now _ a.loop.k
+    all_made (night_of u.m u.n u.costs.now u.bars.now) u.us.now u.vs.now u.cols.now _ a.loop.k
     (omega (arith, s.pre.counted, a.loop.invariant.0, c.loop-test.false)) a.loop.invariant.2
 
 pub walk-spec : {M : Type 1} → statement M
