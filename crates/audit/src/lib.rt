@@ -1,4 +1,5 @@
 // The auditor's tool: a slip held against its sheet. What is promised is said in specs/. Nothing here solves.
+#![tactic(auto)]
 ghost use Rattle.std.specs.Prelude.{◌≡◌, ℕ, ◌+◌, ◌*◌, ◌≤◌, ◌<◌, length, replicate};
 ghost use Rattle.lists.specs.Permutations.{at};
 ghost use Rattle.layout.specs.Slips.{slip_length, slip_total};
@@ -23,7 +24,7 @@ use sheet::reading;
 pub const SLIP_WRONG: u64 = 25;
 
 // What the auditor is told: side and total of a slip that holds, or the refusal.
-#[derive(Drop)]
+#[derive(Clone, Copy)]
 pub enum Audited {
     Holds(usize, i64),
     Refused(Refusal),

@@ -1,6 +1,7 @@
 // The program: a sheet from standard input, its lines to standard output. A sheet has at most 65,536 bytes; one byte more is read, so that a longer
 // input is seen to be longer. A word is answered by how the program is called, on standard error, and so is an input without a byte, beside its
 // line.
+#![tactic(auto)]
 
 // How the program is called, on standard error.
 fn tell_call() {

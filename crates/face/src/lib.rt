@@ -1,4 +1,5 @@
 // The face for C and Rust: thin, no logic. Each slice is a pointer and its length in elements; structs are returned by value.
+#![tactic(auto)]
 ghost use Rattle.std.specs.Prelude.{◌≡◌};
 ghost use Rattle.matrix.specs.Cost.{cost};
 ghost use Rattle.matrix.specs.Answers.{values_of};
@@ -28,7 +29,7 @@ use swaps::Seconded;
 
 // What `cost` and `score` answer: a total, or a refusal and 0. The refusal is 0 or number + 256*place.
 #[repr(C)]
-#[derive(Drop)]
+#[derive(Clone, Copy)]
 pub struct Totalled {
     pub refusal: u64,
     pub total: i64,
@@ -36,7 +37,7 @@ pub struct Totalled {
 
 // What the checker and a repair answer: a total, or a refusal and the slack that it carries.
 #[repr(C)]
-#[derive(Drop)]
+#[derive(Clone, Copy)]
 pub struct Checked {
     pub refusal: u64,
     pub total: i64,
@@ -45,7 +46,7 @@ pub struct Checked {
 
 // What an audit answers: side and total of a slip that holds, or a refusal and zeros.
 #[repr(C)]
-#[derive(Drop)]
+#[derive(Clone, Copy)]
 pub struct Audit {
     pub refusal: u64,
     pub side: u64,
@@ -54,7 +55,7 @@ pub struct Audit {
 
 // A total and the six counts, or a refusal and zeros.
 #[repr(C)]
-#[derive(Drop)]
+#[derive(Clone, Copy)]
 pub struct Solution {
     pub refusal: u64,
     pub total: i64,
@@ -68,7 +69,7 @@ pub struct Solution {
 
 // A total and whether another pairing has it, 0 or 1; or a refusal and the slack that it carries.
 #[repr(C)]
-#[derive(Drop)]
+#[derive(Clone, Copy)]
 pub struct Second {
     pub refusal: u64,
     pub total: i64,

@@ -1,4 +1,5 @@
 // Laws of the signed integers, for proofs: see specs/ and proofs/. And a number's magnitude, for code that writes it.
+#![tactic(auto)]
 ghost use Rattle.std.specs.Prelude.{◌≡◌, nat_abs};
 
 // How far a number is from 0.

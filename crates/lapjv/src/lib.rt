@@ -1,4 +1,5 @@
 // The solver: the tests of its input, the stages one after the other, and the entry. What is promised is said in specs/.
+#![tactic(auto)]
 ghost use Rattle.std.specs.Prelude.{◌≡◌, pos, length, replicate};
 ghost use Rattle.assignment.specs.Pairings.{square};
 ghost use Rattle.rules.specs.Run.{prices_of_rows};
@@ -11,21 +12,21 @@ use matrix::{Refusal, Verdict, tests};
 use rules::Counts;
 
 // What a paired night comes to.
-#[derive(Drop)]
+#[derive(Clone, Copy)]
 pub struct Sums {
     pub total: i64,
     pub counts: Counts,
 }
 
 // What the solver answers.
-#[derive(Drop)]
+#[derive(Clone, Copy)]
 pub enum Solved {
     Paired(Sums),
     Refused(Refusal),
 }
 
 // Five of the six counts: those of column reduction and of both passes.
-#[derive(Drop)]
+#[derive(Clone, Copy)]
 pub struct Reduced {
     pub free_rows: usize,
     pub looks_one: usize,

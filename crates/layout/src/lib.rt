@@ -1,4 +1,5 @@
 // Sheets and slips as bytes: numbers, trailers, a sheet's costs, a slip. What is promised is said in specs/; nothing here knows the solver.
+#![tactic(auto)]
 pub mod said;
 pub mod sheet;
 pub mod slip;

@@ -1,5 +1,6 @@
 // A night's costs: the limits, the refusals, the tests that several entries share, a row as a part, and the crate's `cost`.
 // What is promised is said in specs/.
+#![tactic(auto)]
 ghost use Rattle.std.specs.Prelude.{◌≡◌, ◌*◌, ◌^◌, ◌≤◌, ◌+ℤ◌, length};
 ghost use Rattle.ints.specs.Parts.{Within};
 ghost use Rattle.matrix.specs.Answers.{values_of};
@@ -13,7 +14,7 @@ pub mod rows;
 pub mod tests;
 
 // A refusal: the scope's number; its place, 0 where it names none; and the slack of that place, 0 where none was tested.
-#[derive(Drop)]
+#[derive(Clone, Copy)]
 pub struct Refusal {
     pub number: u64,
     pub place: usize,
@@ -21,14 +22,14 @@ pub struct Refusal {
 }
 
 // What a test says of an input.
-#[derive(Drop)]
+#[derive(Clone, Copy)]
 pub enum Verdict {
     Passed,
     Fails(Refusal),
 }
 
 // What `cost` and the checker answer.
-#[derive(Drop)]
+#[derive(Clone, Copy)]
 pub enum Answer {
     Total(i64),
     Refused(Refusal),

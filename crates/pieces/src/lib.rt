@@ -1,4 +1,5 @@
 // A sheet that arrives in pieces: they are kept in memory that the caller lends, and the end gives what the whole would have given.
+#![tactic(auto)]
 ghost use Rattle.std.specs.Prelude.{◌≡◌, [], ◌∷◌, ◌+◌, ◌≤◌, length};
 ghost use Rattle.lists.specs.Parts.{replaced};
 ghost use Rattle.sheet.specs.Reading.{sheet_most};
@@ -13,7 +14,7 @@ const OVER_MARK: u64 = 1;
 const END_MARK: u64 = 2;
 
 // What the numbers kept say: so many bytes have come and pieces are taken, or 17 was given, or the end was.
-#[derive(Drop)]
+#[derive(Clone, Copy)]
 pub enum Held {
     Taking(usize),
     Over,

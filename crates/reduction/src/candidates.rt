@@ -14,7 +14,7 @@ ghost use Rattle.reduction.specs.Candidates.{FoundThree, start_three, insert, co
 use rules::{Low, TwoLowest};
 
 // The three lowest of a row, in order, and a limit that no other column is below.
-#[derive(Drop)]
+#[derive(Clone, Copy)]
 struct Three {
     first: Low,
     second: Low,

@@ -9,7 +9,7 @@ ghost use Rattle.reduction.specs.Ranges.{Near, Priced, NextBelow};
 use rules::{Low, TwoLowest};
 
 // The two lowest of a row that has two.
-#[derive(Drop)]
+#[derive(Clone, Copy)]
 pub struct Pair {
     pub lowest: Low,
     pub second: Low,

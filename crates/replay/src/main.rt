@@ -10,6 +10,7 @@
 // total, the six counts, "kept" where everything that the solver has to leave is left and its rooms are cleared, and the checker's total.
 // That of one which it refused has "refused", number, place, and "kept" as well. That of the checker or of `cost` has "accepted total" and
 // the total, or "refused", number, "place" and place.
+#![tactic(auto)]
 mod checks;
 mod kept;
 mod read;

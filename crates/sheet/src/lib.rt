@@ -1,4 +1,5 @@
 // Sheets and slips: a sheet is read, its night is solved, and the slip is written. What is promised is said in specs/.
+#![tactic(auto)]
 ghost use Rattle.std.specs.Prelude.{◌≡◌, cond, ◌++◌, ℕ, ◌+◌, ◌*◌, ◌≤◌, ◌<◌, pos, length, take, drop};
 ghost use Rattle.std.proofs.lemmas.List.Edits.{sets};
 ghost use Rattle.lists.specs.Permutations.{at};
@@ -25,7 +26,7 @@ use matrix::{Refusal, Verdict};
 use reading::tests;
 
 // The arrays of a night of side up to 64, by value.
-#[derive(Drop)]
+#[derive(Clone, Copy)]
 pub struct State {
     pub costs: [i32; 4096],
     pub bars: [u64; 64],
@@ -38,7 +39,7 @@ pub struct State {
 }
 
 // What the front desk is told of a sheet: edition, rows, side and total; a refusal; or a set of rows that shows that there is no pairing.
-#[derive(Drop)]
+#[derive(Clone, Copy)]
 pub enum Reply {
     Accepted(usize, usize, usize, i64),
     Refused(Refusal),
@@ -46,7 +47,7 @@ pub enum Reply {
 }
 
 // A sheet settled.
-#[derive(Drop)]
+#[derive(Clone, Copy)]
 pub struct Settled {
     pub reply: Reply,
     pub state: State,

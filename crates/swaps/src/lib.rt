@@ -1,4 +1,5 @@
 // A second pairing with the same total, or that there is only one. What is promised is said in specs/.
+#![tactic(auto)]
 ghost use Rattle.std.specs.Prelude.{◌≡◌, ◌≤◌};
 ghost use Rattle.bars.specs.Barred.{night_of};
 ghost use Rattle.matrix.specs.Limits.{side};
@@ -18,28 +19,28 @@ pub mod start;
 pub mod walk;
 
 // How a turn of the walk ends: with a path of this size, or back at this place of the path.
-#[derive(Drop)]
+#[derive(Clone, Copy)]
 pub enum Turned {
     On(usize),
     Back(usize),
 }
 
 // How the walk ends: all nodes are done, or the path has come back to a place of it; then that place and the path's size.
-#[derive(Drop)]
+#[derive(Clone, Copy)]
 pub enum Walked {
     Ended,
     Came(usize, usize),
 }
 
 // What an accepted pairing comes to, and whether another comes to the same.
-#[derive(Drop)]
+#[derive(Clone, Copy)]
 pub struct Pairings {
     pub total: i64,
     pub another: bool,
 }
 
 // What an entry answers.
-#[derive(Drop)]
+#[derive(Clone, Copy)]
 pub enum Seconded {
     Told(Pairings),
     Refused(Refusal),
