@@ -45,7 +45,7 @@ module _ (n : ℕ) (costs : List ℤ) (s : ℕ) (p : Pairs) (us vs : List ℤ) (
   rows = at x.pairs.rows
 
   given_below : given < n
-  given_below = H.named.inside s H.row-Below
+  given_below = H.named.inside s H.row_below
 
   back : Named (square n costs) p.rows p.cols
   back = square_named_back n costs p.cols p.rows H.named
@@ -96,9 +96,9 @@ module _ (n : ℕ) (costs : List ℤ) (s : ℕ) (p : Pairs) (us vs : List ℤ) (
     agree = agree;
     prices-size = H.prices-size;
     fair = fair;
-    start_below = H.row-Below;
+    start_below = H.row_below;
     start_unpaired = λ k l e. elim (ℕ_discrete k given) [
-      | yes f ↦ absurd (omega (arith, ap rows f, row_here, H.row-Below))
+      | yes f ↦ absurd (omega (arith, ap rows f, row_here, H.row_below))
       | no d ↦ other_row k l d (sym (row_other k d) ∙ e)
     ];
   }
@@ -114,7 +114,7 @@ module _ (n : ℕ) (costs : List ℤ) (s : ℕ) (p : Pairs) (us vs : List ℤ) (
   mend_paired i l = elim (ℕ_discrete i s) [
     | yes e ↦ subst (Paired y.pairs) (sym e) mend_gain.start_paired
     | no d ↦ mend_gain.still_paired i l
-        (row_other (at p.cols i) (λ e. d (sym (H.named.back i l) ∙ ap (at p.rows) e ∙ H.named.back s H.row-Below)) ∙ H.named.back i l)
+        (row_other (at p.cols i) (λ e. d (sym (H.named.back i l) ∙ ap (at p.rows) e ∙ H.named.back s H.row_below)) ∙ H.named.back i l)
   ]
 
   -- The search reaches the column that was given up, whose signed_at stays.
