@@ -13,15 +13,15 @@ names() { case $1 in v) printf %s "$2" ;; *) printf '%s %s' "$2" "$3" ;; esac; }
 cat <<'HEAD'
 -- Orders and equations of integers with a sum or a difference on a side, read as facts of natural numbers and made from them.
 -- Written by shapes.sh. Assumes nothing.
-use mathlib.Core.Path.{_≡_}
-use Prim.Native.Nat.{_+_, _-_, _^_, _≤_, _<_}
-use lib.IntN.{ℤ, _+ℤ_, _-ℤ_}
-use lib.Signed.{_≤ℤ_, _<ℤ_}
+use mathlib.Core.Path.{◌≡◌}
+use Prim.Native.Nat.{◌+◌, ◌-◌, ◌^◌, ◌≤◌, ◌<◌}
+use lib.IntN.{ℤ, ◌+ℤ◌, ◌-ℤ◌}
+use lib.Signed.{◌≤ℤ◌, ◌<ℤ◌}
 use mir.Syntax.{Width}
 use mir.Val.{SFits, hbits}
-use Rattle·ints·specs.specs.Parts.{up, down}
-use Rattle·ints·proofs.proofs.Sums.{sum, dif}
-use Rattle·ints·proofs.proofs.Ranges.{zarith}
+use Rattle.ints.specs.Parts.{up, down}
+use Rattle.ints.proofs.Sums.{sum, dif}
+use Rattle.ints.proofs.Ranges.{zarith}
 HEAD
 rules=
 for relation in le lt eq; do
@@ -33,16 +33,16 @@ for relation in le lt eq; do
             order="$(term $left a b) $ints $(term $right c d)"
             plain="$(ups $left a b) + $(downs $right c d) $nats $(ups $right c d) + $(downs $left a b)"
             by="omega (zarith$(fact $left a b)$(fact $right c d))"
-            name=$relation-$left$right
-            rules="$rules, read-$name, make-$name"
-            printf '\npub read-%s : (%s : ℤ) → %s → %s\nread-%s %s h = %s\n' $name "$all" "$order" "$plain" $name "$all" "$by"
-            printf '\npub make-%s : (%s : ℤ) → %s → %s\nmake-%s %s h = %s\n' $name "$all" "$plain" "$order" $name "$all" "$by"
+            name=${relation}_$left$right
+            rules="$rules, read_$name, make_$name"
+            printf '\npub read_%s : (%s : ℤ) → %s → %s\nread_%s %s h = %s\n' $name "$all" "$order" "$plain" $name "$all" "$by"
+            printf '\npub make_%s : (%s : ℤ) → %s → %s\nmake_%s %s h = %s\n' $name "$all" "$plain" "$order" $name "$all" "$by"
         done
     done
 done
 for side in s a; do
     more="$(ups $side a b)" less="$(downs $side a b)"
-    case $side in s) name=fits-dif ;; a) name=fits-sum ;; esac
+    case $side in s) name=fits_dif ;; a) name=fits_sum ;; esac
     rules="$rules, $name"
     printf '\npub %s : (w : Width) (a b : ℤ) → (%s - (%s)) + (%s - (%s)) < 2 ^ hbits w → SFits w %s\n' $name "$more" "$less" "$less" "$more" "$(term $side a b)"
     printf '%s w a b h = omega (zarith%s)\n' $name "$(fact $side a b)"
