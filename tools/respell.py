@@ -47,15 +47,16 @@ def snake(word):
 def main(dry):
     laws = [p for p in files("specs/**/*.antt", "proofs/*.antt")]
     own = collections.defaultdict(set)
+    defined = set()
     definitions = set(LIBRARY)
     for p in laws:
         for m in DECLARED.finditer(read(p)):
             name = m.group(1)
             own[name].add(p)
-            if "/specs/" in p and "-" not in name:
+            if "/specs/" in p and "-" not in name and m.group(0)[0] not in " \t":
                 definitions.add(snake(name) if name[0].islower() else name)
+                defined.add(snake(name))
     renamed = {}
-    in_camel = {snake(name) for name in own if name[0].islower() and "-" not in name and snake(name) != name}
     for name in [*own, *BY_HAND]:
         if name[0].isupper() and "-" not in name:
             continue
@@ -66,7 +67,7 @@ def main(dry):
             joined = len(spelled) == 2 and (left in definitions or left[:1].isupper()) and right in definitions
             new += ("-" if joined else "_") + right
         # A lemma that would have its definition's name.
-        new += "_lem" if "-" in name and new in in_camel else ""
+        new += "_lem" if "-" in name and new in defined else ""
         new = BY_HAND.get(name, new)
         if new != name:
             renamed[name] = new

@@ -19,13 +19,13 @@ use Rattle.lists.proofs.Injections.{sum_permuted}
 use Rattle.lists.proofs.Tables.{length-table, get_d_table}
 use Rattle.assignment.specs.Pairings.{Night, Pairing, total, Least, signed_at, square}
 use Rattle.assignment.specs.Amounts.{with_costs, ColumnAmounts, RowAmounts, only, risen}
-use Rattle.assignment.proofs.Pairings.{pairing-injective}
+use Rattle.assignment.proofs.Pairings.{pairing_injective}
 
 -- ---- other costs at the same places
 
 -- The pairings are the same: they do not see costs.
-pub pairing-same : (night : Night) (cost : ℕ → ℕ → ℤ) (cols : List ℕ) → Pairing night cols ↔ Pairing (with_costs night cost) cols
-pairing-same night cost cols = (
+pub pairing_same : (night : Night) (cost : ℕ → ℕ → ℤ) (cols : List ℕ) → Pairing night cols ↔ Pairing (with_costs night cost) cols
+pairing_same night cost cols = (
   λ p. record { size = p.size; inside = p.inside; apart = p.apart; permitted = p.permitted },
   λ p. record { size = p.size; inside = p.inside; apart = p.apart; permitted = p.permitted },
 )
@@ -36,12 +36,12 @@ pub least-same : (night : Night) (cost : ℕ → ℕ → ℤ) (t : ℤ)
     → (cols : List ℕ) → Least night cols ↔ Least (with_costs night cost) cols
 least-same night cost t rises cols = (
   λ o. record {
-    pairing = (pairing-same night cost cols).0 o.pairing;
-    least = λ other q. let q₀ = (pairing-same night cost other).1 q in omega (zlin, rises cols o.pairing, rises other q₀, o.least other q₀);
+    pairing = (pairing_same night cost cols).0 o.pairing;
+    least = λ other q. let q₀ = (pairing_same night cost other).1 q in omega (zlin, rises cols o.pairing, rises other q₀, o.least other q₀);
   },
-  λ o. let p = (pairing-same night cost cols).1 o.pairing in record {
+  λ o. let p = (pairing_same night cost cols).1 o.pairing in record {
     pairing = p;
-    least = λ other q. omega (zlin, rises cols p, rises other q, o.least other ((pairing-same night cost other).0 q));
+    least = λ other q. omega (zlin, rises cols p, rises other q, o.least other ((pairing_same night cost other).0 q));
   },
 )
 
@@ -65,7 +65,7 @@ module _ (night : Night) (even : night.row_count ≡ night.column_count) (amount
       sum_cong night.row_count (λ i. cost i (at cols i)) (λ i. night.cost i (at cols i) +ℤ amount (at cols i))
       (λ i l. with-amounts.added i (at cols i) l (p.inside i l) (p.permitted i l))
       ∙ sum_add night.row_count (λ i. night.cost i (at cols i)) (λ i. amount (at cols i))
-      ∙ ap (λ (z : ℤ). total night cols +ℤ z) (sum_permuted amount (subst (λ (n : ℕ). Injective night.row_count n (at cols)) (sym even) (pairing-injective night cols p)))
+      ∙ ap (λ (z : ℤ). total night cols +ℤ z) (sum_permuted amount (subst (λ (n : ℕ). Injective night.row_count n (at cols)) (sym even) (pairing_injective night cols p)))
 
   pub column_amounts_least : (cols : List ℕ) → Least night cols ↔ Least (with_costs night cost) cols
   column_amounts_least = least-same night cost (sum night.row_count amount) column_amounts_total

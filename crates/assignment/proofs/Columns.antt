@@ -58,9 +58,9 @@ sends f i j k = cond (eqb k i) j (f k)
 
 module _ {n : ℕ} (v : ℕ → ℤ) where
   -- Such an f reaches prices that come to least.
-  pub columns-least : (m : ℕ) (f g : ℕ → ℕ) → Injective m n f → Injective m n g → LeavesDearest m n v f → sum m (λ i. v (f i)) ≤ℤ sum m (λ i. v (g i))
-  columns-least zero f g p q dear = omega (zlin, sum_none (λ i. v (f i)), sum_none (λ i. v (g i)))
-  columns-least (suc m) f g p q dear = by (greatest (λ i. v (f i)) m)
+  pub columns_least : (m : ℕ) (f g : ℕ → ℕ) → Injective m n f → Injective m n g → LeavesDearest m n v f → sum m (λ i. v (f i)) ≤ℤ sum m (λ i. v (g i))
+  columns_least zero f g p q dear = omega (zlin, sum_none (λ i. v (f i)), sum_none (λ i. v (g i)))
+  columns_least (suc m) f g p q dear = by (greatest (λ i. v (f i)) m)
     where
       by : Greatest (λ i. v (f i)) (suc m) → sum (suc m) (λ i. v (f i)) ≤ℤ sum (suc m) (λ i. v (g i))
       by (k, l, top) =
@@ -84,7 +84,7 @@ module _ {n : ℕ} (v : ℕ → ℤ) where
   pub columns_least_only : (m : ℕ) (f g : ℕ → ℕ) → Injective m n f → Injective m n g → LeavesDearest m n v f
       → sum m (λ i. v (g i)) ≤ℤ sum m (λ i. v (f i)) → LeavesDearest m n v g
   columns_least_only m f g p q dear le i j hi hj spare =
-      not_lt_le (λ less. absurd (omega (zlin, columns-least m f h p injective dear, changed, at_i)))
+      not_lt_le (λ less. absurd (omega (zlin, columns_least m f h p injective dear, changed, at_i)))
     where
       h : ℕ → ℕ
       h = sends g i j

@@ -21,18 +21,18 @@ module _ (night : Night) (cols : List ℕ) where
       sum_cong night.row_count (λ i. night.cost i (at (take night.row_count cols) i)) (λ i. night.cost i (at cols i))
       (λ i l. ap (night.cost i) (at_first i l))
 
-  pub named-first : (rows : List ℕ) → Named night (take night.row_count cols) rows ↔ Named night cols rows
-  named-first rows = (
+  pub named_first : (rows : List ℕ) → Named night (take night.row_count cols) rows ↔ Named night cols rows
+  named_first rows = (
     λ h. record { inside = λ i l. rw (at_first i l) at (h.inside i l); back = λ i l. rw (at_first i l) at (h.back i l) },
     λ h. record { inside = λ i l. rw (at_first i l) (h.inside i l); back = λ i l. rw (at_first i l) (h.back i l) },
   )
 
-  pub tight-first : (us vs : List ℤ) → Tight night us vs (take night.row_count cols) ↔ Tight night us vs cols
-  tight-first us vs =
+  pub tight_first : (us vs : List ℤ) → Tight night us vs (take night.row_count cols) ↔ Tight night us vs cols
+  tight_first us vs =
       (λ h. record { met = λ i l. rw (at_first i l) at (h.met i l) }, λ h. record { met = λ i l. rw (at_first i l) (h.met i l) })
 
-  pub spares-first : (vs : List ℤ) → SparesNotBelow night vs (take night.row_count cols) ↔ SparesNotBelow night vs cols
-  spares-first vs = (
+  pub spares_first : (vs : List ℤ) → SparesNotBelow night vs (take night.row_count cols) ↔ SparesNotBelow night vs cols
+  spares_first vs = (
     λ h. record { not_below = λ i j l m spare. rw (at_first i l) at (h.not_below i j l m (λ k n e. spare k n (sym (at_first k n) ∙ e))) },
     λ h. record { not_below = λ i j l m spare. rw (at_first i l) (h.not_below i j l m (λ k n e. spare k n (at_first k n ∙ e))) },
   )

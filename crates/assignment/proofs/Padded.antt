@@ -18,8 +18,8 @@ use Rattle.lists.proofs.Injections.{reached}
 use Rattle.assignment.specs.Pairings.{Night, Pairing, total, Least, Spare, signed_at}
 use Rattle.assignment.specs.Prices.{priced, Feasible, Tight, SparesNotBelow}
 use Rattle.assignment.specs.Padded.{padded}
-use Rattle.assignment.proofs.Pairings.{pairing-injective}
-use Rattle.assignment.proofs.Duality.{prices-least}
+use Rattle.assignment.proofs.Pairings.{pairing_injective}
+use Rattle.assignment.proofs.Duality.{prices_least}
 use Rattle.assignment.proofs.Longer.{at_first, total_first}
 
 module _ (night : Night) (enough : night.row_count ≤ night.column_count) where
@@ -32,8 +32,8 @@ module _ (night : Night) (enough : night.row_count ≤ night.column_count) where
   below : (i : ℕ) → i < m → i < n
   below i l = omega (arith, enough)
 
-  pub padded-feasible : (us vs : List ℤ) → Feasible (padded night) us vs → Feasible night us vs
-  padded-feasible us vs fair = record {
+  pub padded_feasible : (us vs : List ℤ) → Feasible (padded night) us vs → Feasible night us vs
+  padded_feasible us vs fair = record {
     under = λ i j hi hj a.
         rw (lt-ltb i m hi) at (fair.under i j (below i hi) hj (rw (lt-ltb i m hi) a));
   }
@@ -42,8 +42,8 @@ module _ (night : Night) (enough : night.row_count ≤ night.column_count) where
     abbrev firsts : List ℕ
     firsts = take m cols
 
-    pub padded-pairing : Pairing (padded night) cols → Pairing night firsts
-    padded-pairing p = record {
+    pub padded_pairing : Pairing (padded night) cols → Pairing night firsts
+    padded_pairing p = record {
       size = length-take-le m cols (omega (arith, p.size, enough));
       inside = λ i l. omega (arith, at_first night cols i l, p.inside i (below i l));
       apart = λ i k l h e. p.apart i k (below i l) (below k h) (sym (at_first night cols i l) ∙ e ∙ at_first night cols k h);
@@ -67,13 +67,13 @@ module _ (night : Night) (enough : night.row_count ≤ night.column_count) where
         cost : ℕ → ℤ
         cost i = (padded night).cost i (at cols i)
 
-    pub padded-tight : (us vs : List ℤ) → Tight (padded night) us vs cols → Tight night us vs firsts
-    padded-tight us vs tight = record { met = λ i l. rw (at_first night cols i l) (rw (lt-ltb i m l) at (tight.met i (below i l))) }
+    pub padded_tight : (us vs : List ℤ) → Tight (padded night) us vs cols → Tight night us vs firsts
+    padded_tight us vs tight = record { met = λ i l. rw (at_first night cols i l) (rw (lt-ltb i m l) at (tight.met i (below i l))) }
 
     module _ (us vs : List ℤ) (fair : Feasible (padded night) us vs) (p : Pairing (padded night) cols) (tight : Tight (padded night) us vs cols) where
       -- A spare column is that of an added row: there the prices come to 0, and nowhere in that row to more.
-      pub padded-spares : SparesNotBelow night vs firsts
-      padded-spares = record { not_below = λ i j hi hj spare. by i j hi spare (reached (pairing-injective (padded night) cols p) j hj) }
+      pub padded_spares : SparesNotBelow night vs firsts
+      padded_spares = record { not_below = λ i j hi hj spare. by i j hi spare (reached (pairing_injective (padded night) cols p) j hj) }
         where
           by : (i j : ℕ) → i < m → Spare night firsts j → (k : ℕ) × (k < n) × (at cols k ≡ j) → signed_at vs (at firsts i) ≤ℤ signed_at vs j
           by i j hi spare (k, l, e) = elim (dec_lt k m) [
@@ -86,4 +86,4 @@ module _ (night : Night) (enough : night.row_count ≤ night.column_count) where
           ]
 
       pub padded-least : Least night firsts
-      padded-least = prices-least night us vs (padded-feasible us vs fair) firsts (padded-pairing p) (padded-tight us vs tight) padded-spares
+      padded-least = prices_least night us vs (padded_feasible us vs fair) firsts (padded_pairing p) (padded_tight us vs tight) padded_spares

@@ -14,17 +14,17 @@ use Rattle.layout.proofs.Fields.{length_fields}
 use Rattle.layout.proofs.Stores.{sets_front}
 use Rattle.assignment.specs.Pairings.{Night, Pairing, Least, total}
 use Rattle.assignment.specs.Prices.{Tight, SparesNotBelow}
-use Rattle.assignment.proofs.Duality.{prices-least}
+use Rattle.assignment.proofs.Duality.{prices_least}
 use Rattle.bars.specs.Barred.{night_of}
 use Rattle.bars.proofs.Passed.{unbarred_iff}
 use Rattle.matrix.specs.Verdicts.{Passes, ◌then◌, fails_if}
 use Rattle.matrix.specs.declared.Refusal.{Refusal}
 use Rattle.matrix.specs.declared.Verdict.TheVariants.{Fails}
-use Rattle.matrix.proofs.Passed.{columns-inside}
+use Rattle.matrix.proofs.Passed.{columns_inside_lem}
 use Rattle.matrix.proofs.Verdicts.{then_iff, fails_then, passed_then}
 use Rattle.checker.specs.Proven.{Fair}
 use Rattle.checker.specs.Tests.{differ}
-use Rattle.checker.proofs.Tests.{price_tests_iff, columns-once, spares_not_below_lem}
+use Rattle.checker.proofs.Tests.{price_tests_iff, columns_once_lem, spares_not_below_lem}
 use Rattle.audit.specs.Asked.{LeastTotal}
 use Rattle.audit.specs.Audit.{SlipWrong, proof_tests, slip_tests, total_right, audited_by}
 use Rattle.audit.specs.declared.Audited.{Audited}
@@ -37,15 +37,15 @@ read_whole n p l e f =
     sets_front p l n e (omega arith) ∙ ap (λ t. p ++ t) (drop_of_length-le l {i = n} (omega arith)) ∙ append-nil p
 
 -- Parts of rooms that are all the same.
-pub part-size : {A : Type 0} (k m : ℕ) (l : List A) → length l ≡ k → m ≤ k → length (take (m - 0) l) ≡ m
-part-size k m l e h = let z : m - 0 ≡ m = omega arith in ap (λ (j : ℕ). length (take j l)) z ∙ length-take-le m l (omega arith)
+pub part_size : {A : Type 0} (k m : ℕ) (l : List A) → length l ≡ k → m ≤ k → length (take (m - 0) l) ≡ m
+part_size k m l e h = let z : m - 0 ≡ m = omega arith in ap (λ (j : ℕ). length (take j l)) z ∙ length-take-le m l (omega arith)
 
-pub zeros-part : (k m : ℕ) → m ≤ k → take (m - 0) (replicate {A = ℕ} k 0) ≡ replicate m 0
-zeros-part k m h =
+pub zeros_part : (k m : ℕ) → m ≤ k → take (m - 0) (replicate {A = ℕ} k 0) ≡ replicate m 0
+zeros_part k m h =
     ext_get_or {A = ℕ} 0 (take (m - 0) (replicate k 0)) (replicate m 0) (size ∙ sym (length-replicate {A = ℕ} m 0)) (λ i l. entry i (omega (arith, size)))
   where
     size : length (take (m - 0) (replicate {A = ℕ} k 0)) ≡ m
-    size = part-size k m (replicate {A = ℕ} k 0) (length-replicate {A = ℕ} k 0) h
+    size = part_size k m (replicate {A = ℕ} k 0) (length-replicate {A = ℕ} k 0) h
 
     entry : (i : ℕ) → i < m → at (take (m - 0) (replicate {A = ℕ} k 0)) i ≡ at (replicate {A = ℕ} m 0) i
     entry i l = get_or-take (m - 0) (replicate {A = ℕ} k 0) i 0 (omega arith) ∙ get_or-replicate {A = ℕ} k i 0 0 (omega arith) ∙ sym (get_or-replicate {A = ℕ} m i 0 0 l)
@@ -69,8 +69,8 @@ module _ (m n : ℕ) (costs : List ℤ) (bars cols : List ℕ) (us vs : List ℤ
         let prices = (price_tests_iff night cols us vs (omega arith) (omega arith)).0 t10.1 in (
           record {
             size = c;
-            inside = (columns-inside m n cols).0 t7.0;
-            apart = (columns-once m cols).0 t7.1;
+            inside = (columns_inside_lem m n cols).0 t7.0;
+            apart = (columns_once_lem m cols).0 t7.1;
             permitted = (unbarred_iff m costs bars cols).0 t26.1;
           },
           prices.0,
@@ -79,18 +79,18 @@ module _ (m n : ℕ) (costs : List ℤ) (bars cols : List ℕ) (us vs : List ℤ
         ),
     λ h.
         let f = h.0 in
-        let t7 = (then_iff _ _).1 ((columns-inside m n cols).1 f.inside, (columns-once m cols).1 f.apart) in
+        let t7 = (then_iff _ _).1 ((columns_inside_lem m n cols).1 f.inside, (columns_once_lem m cols).1 f.apart) in
         let t26 = (then_iff _ _).1 (t7, (unbarred_iff m costs bars cols).1 f.permitted) in
         let t10 = (then_iff _ _).1 (t26, (price_tests_iff night cols us vs (omega arith) (omega arith)).1 (h.1, h.2)) in
         (then_iff _ _).1 (t10, (spares_not_below_lem night cols vs).1 h.3),
   )
 
   -- What passes is least.
-  pub passed-least : Passes (proof_tests m n costs bars cols us vs) → Least night cols
-  passed-least e = let h = proof_tests_iff.0 e in prices-least night us vs h.1.feasible cols h.0 h.2 h.3
+  pub passed_least : Passes (proof_tests m n costs bars cols us vs) → Least night cols
+  passed_least e = let h = proof_tests_iff.0 e in prices_least night us vs h.1.feasible cols h.0 h.2 h.3
 
   pub passed_least_total : Passes (proof_tests m n costs bars cols us vs) → (t : ℤ) → t ≡ total night cols → LeastTotal m n costs bars t
-  passed_least_total e t s = record { cols = cols; least = passed-least e; totals = s }
+  passed_least_total e t s = record { cols = cols; least = passed_least e; totals = s }
 
 -- ---- what is read of a slip
 
@@ -104,8 +104,8 @@ module _ (m n : ℕ) (costs : List ℤ) (bars slip : List ℕ) where
   pub column_prices_size : length (slip_column_prices m n slip) ≡ n
   column_prices_size = length_fields (signed_value 8) (10 * m) 8 n slip
 
-  pub columns-read : (cols : List ℕ) → length cols ≡ m → sets cols 0 (slip_columns m slip) ≡ slip_columns m slip
-  columns-read cols e = read_whole m (slip_columns m slip) cols said_size e
+  pub columns_read : (cols : List ℕ) → length cols ≡ m → sets cols 0 (slip_columns m slip) ≡ slip_columns m slip
+  columns_read cols e = read_whole m (slip_columns m slip) cols said_size e
 
   pub row_prices_read : (us : List ℤ) → length us ≡ m → sets us 0 (slip_row_prices m slip) ≡ slip_row_prices m slip
   row_prices_read us e = read_whole m (slip_row_prices m slip) us row_prices_size e
@@ -113,20 +113,20 @@ module _ (m n : ℕ) (costs : List ℤ) (bars slip : List ℕ) where
   pub column_prices_read : (vs : List ℤ) → length vs ≡ n → sets vs 0 (slip_column_prices m n slip) ≡ slip_column_prices m n slip
   column_prices_read vs e = read_whole n (slip_column_prices m n slip) vs column_prices_size e
 
-  pub slip-least : Passes (slip_tests m n costs bars slip) → Least (night_of m n costs bars) (slip_columns m slip)
-  slip-least = passed-least m n costs bars (slip_columns m slip) (slip_row_prices m slip) (slip_column_prices m n slip) said_size row_prices_size column_prices_size
+  pub slip_least : Passes (slip_tests m n costs bars slip) → Least (night_of m n costs bars) (slip_columns m slip)
+  slip_least = passed_least m n costs bars (slip_columns m slip) (slip_row_prices m slip) (slip_column_prices m n slip) said_size row_prices_size column_prices_size
 
   pub slip_least_total : Passes (slip_tests m n costs bars slip) → (t : ℤ) → t ≡ total (night_of m n costs bars) (slip_columns m slip) → LeastTotal m n costs bars t
-  slip_least_total e t s = record { cols = slip_columns m slip; least = slip-least e; totals = s }
+  slip_least_total e t s = record { cols = slip_columns m slip; least = slip_least e; totals = s }
 
   -- What is told of it, where the tests refuse it and where they do not.
-  pub refused-slip : {refusal : Refusal} → slip_tests m n costs bars slip ≡ Fails refusal
+  pub refused_slip : {refusal : Refusal} → slip_tests m n costs bars slip ≡ Fails refusal
       → Refused refusal ≡ audited_by m n slip (slip_tests m n costs bars slip then total_right m n costs bars slip)
-  refused-slip f = audited_fails m n slip (sym (fails_then (total_right m n costs bars slip) f))
+  refused_slip f = audited_fails m n slip (sym (fails_then (total_right m n costs bars slip) f))
 
-  pub accepted-slip : Passes (slip_tests m n costs bars slip) → (t : ℤ) → t ≡ total (night_of m n costs bars) (slip_columns m slip)
+  pub accepted_slip : Passes (slip_tests m n costs bars slip) → (t : ℤ) → t ≡ total (night_of m n costs bars) (slip_columns m slip)
       → (r : Audited) → r ≡ audited_by m n slip (fails_if SlipWrong 0 (differ (slip_total m n slip) t))
       → r ≡ audited_by m n slip (slip_tests m n costs bars slip then total_right m n costs bars slip)
-  accepted-slip e t s r g =
+  accepted_slip e t s r g =
       g ∙ ap (audited_by m n slip)
       (passed_then (total_right m n costs bars slip) e (ap (λ (z : ℤ). fails_if SlipWrong 0 (differ (slip_total m n slip) z)) s))

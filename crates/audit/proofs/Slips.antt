@@ -13,7 +13,7 @@ use Rattle.matrix.specs.declared.Verdict.TheVariants.{Passed, Fails}
 use Rattle.plain.specs.Engine.{cost_of, chosen}
 use Rattle.plain.specs.declared.Found.{Found}
 use Rattle.plain.specs.declared.Found.TheVariants.{Costs}
-use Rattle.plain.proofs.Answers.{same-costs, pairing-found, chosen-same}
+use Rattle.plain.proofs.Answers.{same-costs, pairing_found, chosen-same}
 use Rattle.audit.specs.Audit.{audited_by}
 use Rattle.audit.specs.declared.Audited.TheVariants.{Holds, Refused}
 use Rattle.audit.specs.Asked.{LeastTotal}
@@ -26,12 +26,12 @@ pub or_next : (a b c : Bool) → a ≡ false → c ≡ b → c ≡ (a || b)
 or_next a b c e f = rw e f
 
 -- The plain engine's total is the least.
-pub second-total : (m n : ℕ) (costs : List ℤ) (bars : List ℕ) (t : ℤ) → m ≤ n → LeastTotal m n costs bars t → (k : ℕ) → k ≡ m → (found : Found)
+pub second_total : (m n : ℕ) (costs : List ℤ) (bars : List ℕ) (t : ℤ) → m ≤ n → LeastTotal m n costs bars t → (k : ℕ) → k ≡ m → (found : Found)
     → found ≡ cost_of (night_of k n costs bars) (chosen (night_of k n costs bars)) → (s : ℤ) → found ≡ Costs s → s ≡ t
-second-total m n costs bars t fewer h k e found f s g =
+second_total m n costs bars t fewer h k e found f s g =
     let night = night_of m n costs bars in
     let here : found ≡ cost_of night (chosen night) = f ∙ ap (λ (i : ℕ). cost_of (night_of i n costs bars) (chosen (night_of i n costs bars))) e in
-    same-costs s (total night (chosen night)) (sym g ∙ here ∙ pairing-found night fewer h.cols h.least.pairing)
+    same-costs s (total night (chosen night)) (sym g ∙ here ∙ pairing_found night fewer h.cols h.least.pairing)
     ∙ chosen-same night fewer h.cols h.least ∙ sym h.totals
 
 -- What is told of a verdict.

@@ -19,7 +19,7 @@ use Rattle.sheet.specs.Reading.{Laid, Read, refused, night, read}
 use Rattle.audit.specs.Audit.{audit_tests, audited_by, audited_as, audit}
 use Rattle.audit.specs.declared.Audited.{Audited}
 use Rattle.audit.specs.declared.Audited.TheVariants.{Holds, Refused}
-use Rattle.audit.proofs.Checking.{slip-least}
+use Rattle.audit.proofs.Checking.{slip_least}
 
 -- A sheet's night.
 abbrev pub night_on : Laid → Night
@@ -47,7 +47,7 @@ unfolding audit_tests
 tests_right laid slip e =
     let b = (then_iff _ _).0 e in
     let a = (then_iff _ _).0 b.0 in
-    (slip-least laid.row_count laid.side laid.costs laid.bars slip a.1, differ_false _ _ ((fails_if_iff _ _ _).0 b.1))
+    (slip_least laid.row_count laid.side laid.costs laid.bars slip a.1, differ_false _ _ ((fails_if_iff _ _ _).0 b.1))
 
 module _ (sheet slip : List ℕ) where
   pub holds_vouched : (n : ℕ) (t : ℤ) → audit sheet slip ≡ Holds n t → Vouched sheet slip n t
@@ -66,9 +66,9 @@ module _ (sheet slip : List ℕ) where
       by (night laid) r f = by_tests laid r (audit_tests laid slip) refl f
 
   -- "it accepts ⇒ the slip's total is the least total of the sheet's night".
-  pub holds-least : (n : ℕ) (t : ℤ) → audit sheet slip ≡ Holds n t → (laid : Laid) → Reads sheet laid → (other : List ℕ) → Least (night_on laid) other
+  pub holds_least : (n : ℕ) (t : ℤ) → audit sheet slip ≡ Holds n t → (laid : Laid) → Reads sheet laid → (other : List ℕ) → Least (night_on laid) other
       → t ≡ total (night_on laid) other
-  holds-least n t e laid r other o =
+  holds_least n t e laid r other o =
       let v = holds_vouched n t e in
       let same : v.laid ≡ laid = cc (sym v.reads ∙ r) in
       let cols = slip_columns laid.row_count slip in
@@ -89,4 +89,4 @@ module _ (sheet slip : List ℕ) where
       by (Holds n t) e =
           let v = holds_vouched n t e in
           let same : v.laid ≡ laid = cc (sym v.reads ∙ r) in
-          absurd (wrong (subst (λ (x : Laid). slip_total x.row_count x.side slip ≡ t) same (sym v.said) ∙ holds-least n t e laid r other o))
+          absurd (wrong (subst (λ (x : Laid). slip_total x.row_count x.side slip ≡ t) same (sym v.said) ∙ holds_least n t e laid r other o))

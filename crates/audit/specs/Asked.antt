@@ -27,7 +27,7 @@ pub record Lies (m n : ℕ) (costs : List ℤ) (bars : List ℕ) : Type 0 where
 
 -- Rooms for what a slip says of m rows and n columns, and for counting.
 pub record Roomy (m n : ℕ) (cols list : List ℕ) (us vs : List ℤ) : Type 0 where
-  pub cols-size : length cols ≡ m
-  pub list-size : length list ≡ m
-  pub us-size : length us ≡ m
-  pub vs-size : length vs ≡ n
+  pub cols_size : length cols ≡ m
+  pub list_size : length list ≡ m
+  pub us_size : length us ≡ m
+  pub vs_size : length vs ≡ n

@@ -11,7 +11,7 @@ use Rattle.lists.proofs.Runs.{upward_none, upward-last}
 use Rattle.lists.specs.Permutations.{at}
 use Rattle.lists.proofs.Parts.{part_at}
 use Rattle.assignment.specs.Pairings.{square}
-use Rattle.matrix.proofs.SmallLimits.{side-small}
+use Rattle.matrix.proofs.SmallLimits.{side_small}
 use Rattle.rules.specs.Augmentation.{Progress, augment, augments, augmentation}
 use Rattle.augmentation.specs.Room.{frees_in, marks_in}
 use Rattle.augmentation.specs.Augmentation.{state_of, CanTurn, CanAugmentRow, RowAugmented, CanAugment, Augmented}
@@ -22,23 +22,23 @@ pub record Augmenting (n : ℕ) (costs : List ℤ) (count : ℕ) (cols₀ rows�
   pub can : CanAugment n costs count cols₀ rows₀ v₀ d₀ room₀
   pub reach : k ≤ count
   pub same : state_of cols rows v scanned ≡ augments n (square n costs).cost (frees_in n room₀) k (state_of cols₀ rows₀ v₀ 0)
-  pub frees-same : frees_in n room ≡ frees_in n room₀
-  pub marks-same : marks_in n room ≡ marks_in n room₀
-  pub room-size : length room ≡ n + n + n + n
-  pub distances-size : length d ≡ n
+  pub frees_same : frees_in n room ≡ frees_in n room₀
+  pub marks_same : marks_in n room ≡ marks_in n room₀
+  pub room_size : length room ≡ n + n + n + n
+  pub distances_size : length d ≡ n
   pub few : scanned ≤ k * 2 ^ 16
 
-pub first-turn : {n : ℕ} {costs : List ℤ} {count : ℕ} {cols rows : List ℕ} {v d : List ℤ} {room : List ℕ} → CanAugment n costs count cols rows v d room
+pub first_turn : {n : ℕ} {costs : List ℤ} {count : ℕ} {cols rows : List ℕ} {v d : List ℤ} {room : List ℕ} → CanAugment n costs count cols rows v d room
     → Augmenting n costs count cols rows v d room cols rows v d room 0 0
 unfolding augments
-first-turn {n} {costs} {count} {cols} {rows} {v} {d} {room} C = record {
+first_turn {n} {costs} {count} {cols} {rows} {v} {d} {room} C = record {
   can = C;
   reach = omega arith;
   same = sym (upward_none 0 0 (λ k y. augment n (square n costs).cost y (at (frees_in n room) k)) (state_of cols rows v 0) (omega arith));
-  frees-same = refl;
-  marks-same = refl;
-  room-size = C.room-size;
-  distances-size = C.distances-size;
+  frees_same = refl;
+  marks_same = refl;
+  room_size = C.room_size;
+  distances_size = C.distances_size;
   few = omega arith;
 }
 
@@ -50,8 +50,8 @@ module _ {n : ℕ} {costs : List ℤ} {count : ℕ} {cols₀ rows₀ : List ℕ}
       let e : k ≡ count = omega (arith, A.reach) in
       record {
         same = A.same ∙ ap (λ (m : ℕ). augments n (square n costs).cost (frees_in n room₀) m (state_of cols₀ rows₀ v₀ 0)) e;
-        frees-kept = A.frees-same;
-        marks-kept = A.marks-same;
+        frees_kept = A.frees_same;
+        marks_kept = A.marks_same;
       }
 
   module _ (l : k < count) where
@@ -59,7 +59,7 @@ module _ {n : ℕ} {costs : List ℤ} {count : ℕ} {cols₀ rows₀ : List ℕ}
     start_is : get_or room k 0 ≡ at (frees_in n room₀) k
     start_is =
         ap (λ (m : ℕ). get_or room m 0) (sym (zero-add k)) ∙ sym (part_at 0 n room k 0 (omega (arith, A.can.few)))
-        ∙ ap (λ (r : List ℕ). at r k) A.frees-same
+        ∙ ap (λ (r : List ℕ). at r k) A.frees_same
 
     turn : CanTurn n costs (state_of cols rows v scanned) (get_or room k 0)
     turn =
@@ -71,13 +71,13 @@ module _ {n : ℕ} {costs : List ℤ} {count : ℕ} {cols₀ rows₀ : List ℕ}
         let C = turn.can in
         record {
           small = A.can.small;
-          costs-size = A.can.costs-size;
+          costs_size = A.can.costs_size;
           costs-near = A.can.costs-near;
-          distances-size = A.distances-size;
-          room-size = A.room-size;
+          distances_size = A.distances_size;
+          room_size = A.room_size;
           turn = record {
-            can = record { agree = C.agree; prices-size = C.prices-size; fair = C.fair; start_below = C.start_below; start_unpaired = C.start_unpaired };
-            prices-near = turn.prices-near;
+            can = record { agree = C.agree; prices_size = C.prices_size; fair = C.fair; start_below = C.start_below; start_unpaired = C.start_unpaired };
+            prices_near_lem = turn.prices_near_lem;
           };
         }
 
@@ -91,9 +91,9 @@ module _ {n : ℕ} {costs : List ℤ} {count : ℕ} {cols₀ rows₀ : List ℕ}
           N.same scanned ∙ ap₂ (augment n (square n costs).cost) A.same start_is
           ∙ sym (upward-last 0 k (λ m y. augment n (square n costs).cost y (at (frees_in n room₀) m)) (state_of cols₀ rows₀ v₀ 0) (omega arith))
           ∙ ap (λ (m : ℕ). augments n (square n costs).cost (frees_in n room₀) m (state_of cols₀ rows₀ v₀ 0)) (sym (add-one k));
-      frees-same = N.frees-kept ∙ A.frees-same;
-      marks-same = N.marks-kept ∙ A.marks-same;
-      room-size = long;
-      distances-size = size;
-      few = omega (arith, N.few, A.few, A.can.small, side-small);
+      frees_same = N.frees_kept ∙ A.frees_same;
+      marks_same = N.marks_kept ∙ A.marks_same;
+      room_size = long;
+      distances_size = size;
+      few = omega (arith, N.few, A.few, A.can.small, side_small);
     }

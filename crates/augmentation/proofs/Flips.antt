@@ -9,7 +9,7 @@ use native.Mathlib.Omega.{arith}
 use borrow.Author.Tests.{eq-eqb, ne_eqb}
 use lib.ListN.{length, set, length-set}
 use Rattle.lists.specs.Runs.{Turn, on, left, and_then, first}
-use Rattle.lists.proofs.Runs.{until_none, first_holds, first-before}
+use Rattle.lists.proofs.Runs.{until_none, first_holds, first_before}
 use Rattle.lists.specs.Permutations.{at}
 use Rattle.rules.specs.Columns.{Pairs}
 use Rattle.rules.specs.Augmentation.{Open, flip, flips, flipped}
@@ -28,19 +28,19 @@ module _ (n s : ℕ) (predecessors : List ℕ) where
   unfolding flips
   flips_none o = until_none 0 0 (λ k. flip s predecessors) o (omega arith)
 
-  abbrev whole-after : Open → ℕ → Bool
-  whole-after o k = is_left (flips k s predecessors o)
+  abbrev whole_after : Open → ℕ → Bool
+  whole_after o k = is_left (flips k s predecessors o)
 
   -- The flips that are left from o on; n + 1 where more than n are.
   pub togo : Open → ℕ
-  togo o = first (suc n) (whole-after o)
+  togo o = first (suc n) (whole_after o)
 
-  togo_le : (o : Open) (m : ℕ) → whole-after o m ≡ true → togo o ≤ m
+  togo_le : (o : Open) (m : ℕ) → whole_after o m ≡ true → togo o ≤ m
   unfolding togo
-  togo_le o m e = by (dec_lt m (first (suc n) (whole-after o)))
+  togo_le o m e = by (dec_lt m (first (suc n) (whole_after o)))
     where
-      by : Dec (m < first (suc n) (whole-after o)) → first (suc n) (whole-after o) ≤ m
-      by (yes l) = absurd (true≢false (sym e ∙ first-before (whole-after o) (suc n) m l))
+      by : Dec (m < first (suc n) (whole_after o)) → first (suc n) (whole_after o) ≤ m
+      by (yes l) = absurd (true≢false (sym e ∙ first_before (whole_after o) (suc n) m l))
       by (no l) = omega arith
 
   -- One flip makes them fewer.
@@ -51,15 +51,15 @@ module _ (n s : ℕ) (predecessors : List ℕ) where
       few : togo o ≤ m
       few = togo_le o m (ap is_left q)
 
-      reached : whole-after o (togo o) ≡ true
-      reached = first_holds (whole-after o) (suc n) (omega (arith, few))
+      reached : whole_after o (togo o) ≡ true
+      reached = first_holds (whole_after o) (suc n) (omega (arith, few))
 
       by : (a : ℕ) → togo o ≡ a → togo x < a
-      by zero z = absurd (true≢false (sym reached ∙ ap (whole-after o) z ∙ ap is_left (flips_none o)))
+      by zero z = absurd (true≢false (sym reached ∙ ap (whole_after o) z ∙ ap is_left (flips_none o)))
       by (suc a) z =
-          let t : whole-after x a ≡ true =
+          let t : whole_after x a ≡ true =
           sym (ap is_left (flips-first a s predecessors o ∙ ap (λ (y : Turn Open Pairs). and_then y (flips a s predecessors)) e))
-          ∙ sym (ap (whole-after o) z) ∙ reached in
+          ∙ sym (ap (whole_after o) z) ∙ reached in
           omega (arith, togo_le x a t)
 
 -- ---- the turns
@@ -67,10 +67,10 @@ module _ (n s : ℕ) (predecessors : List ℕ) where
 -- Some flips have been made, and column j stands open.
 pub record Flipping (n s : ℕ) (predecessors : List ℕ) (j₀ : ℕ) (cols₀ rows₀ cols rows : List ℕ) (j : ℕ) : Type 0 where
   pub can : CanFlip n s j₀ predecessors cols₀ rows₀
-  pub column-below : j < n
-  pub cols-size : length cols ≡ n
-  pub rows-size : length rows ≡ n
-  pub cols-below : (i : ℕ) → i < n → at cols i < n
+  pub column_below : j < n
+  pub cols_size : length cols ≡ n
+  pub rows_size : length rows ≡ n
+  pub cols_below : (i : ℕ) → i < n → at cols i < n
   pub fuel : ℕ
   pub few : fuel ≤ n
   pub same : flips fuel s predecessors (open_at j cols rows) ≡ flips n s predecessors (open_at j₀ cols₀ rows₀)
@@ -78,10 +78,10 @@ pub record Flipping (n s : ℕ) (predecessors : List ℕ) (j₀ : ℕ) (cols₀ 
 pub first-flip : {n s j : ℕ} {predecessors cols rows : List ℕ} → CanFlip n s j predecessors cols rows → Flipping n s predecessors j cols rows cols rows j
 first-flip {n} C = record {
   can = C;
-  column-below = C.column-below;
-  cols-size = C.cols-size;
-  rows-size = C.rows-size;
-  cols-below = C.cols-below;
+  column_below = C.column_below;
+  cols_size = C.cols_size;
+  rows_size = C.rows_size;
+  cols_below = C.cols_below;
   fuel = n;
   few = omega arith;
   same = refl;
@@ -95,7 +95,7 @@ module _ {n s : ℕ} {predecessors : List ℕ} {j₀ : ℕ} {cols₀ rows₀ col
   o = open_at j cols rows
 
   pub row_below : at predecessors j < n
-  row_below = F.can.predecessors-below j F.column-below
+  row_below = F.can.predecessors_below j F.column_below
 
   ends : flips F.fuel s predecessors o ≡ left F.can.whole
   ends = F.same ∙ F.can.ends
@@ -120,10 +120,10 @@ module _ {n s : ℕ} {predecessors : List ℕ} {j₀ : ℕ} {cols₀ rows₀ col
   pub next_flip : i ≢ s → Flipping n s predecessors j₀ cols₀ rows₀ (set cols i j) (set rows j i) (at cols i)
   next_flip d = record {
     can = F.can;
-    column-below = F.cols-below i row_below;
-    cols-size = length-set cols i j ∙ F.cols-size;
-    rows-size = length-set rows j i ∙ F.rows-size;
-    cols-below = taken-below n (pairs_of cols rows) F.cols-size F.rows-size i j row_below F.column-below F.cols-below;
+    column_below = F.cols_below i row_below;
+    cols_size = length-set cols i j ∙ F.cols_size;
+    rows_size = length-set rows j i ∙ F.rows_size;
+    cols_below = taken-below n (pairs_of cols rows) F.cols_size F.rows_size i j row_below F.column_below F.cols_below;
     fuel = (spare F.fuel refl).0;
     few = omega (arith, F.few, (spare F.fuel refl).1);
     same = rw (ne_eqb i s d) at turn;

@@ -19,17 +19,17 @@ use Rattle.rules.specs.Lowest.{low, lower, lowest}
 use Rattle.augmentation.specs.DirectHit.{lesser, least_of_four, LastOf}
 
 -- r is what `reduced_cost` answers at a cost x and a price y that were read from slices.
-pub reduced-back : (x y r : ℤ) → mag x < 2 ^ 31 → mag y < 2 ^ 63 → mag r < 2 ^ 63 → r ≡ to_z w32 (of_z w32 x) -ℤ to_z w64 (of_z w64 y)
+pub reduced_back : (x y r : ℤ) → mag x < 2 ^ 31 → mag y < 2 ^ 63 → mag r < 2 ^ 63 → r ≡ to_z w32 (of_z w32 x) -ℤ to_z w64 (of_z w64 y)
     → to_z w64 (of_z w64 r) ≡ x -ℤ y
-reduced-back x y r hx hy hr e = read_back w64 r hr ∙ e ∙ ap₂ ◌-ℤ◌ (read_back w32 x hx) (read_back w64 y hy)
+reduced_back x y r hx hy hr e = read_back w64 r hr ∙ e ∙ ap₂ ◌-ℤ◌ (read_back w32 x hx) (read_back w64 y hy)
 
 -- ---- the least value
 
 lesser-first : (a h : ℤ) → lesser a h ≤ℤ a
 lesser-first a h = cond_cases (lt_z h a) (λ z. z ≤ℤ a) h a (λ t. omega zarith) (λ t. omega zarith)
 
-lesser-second : (a h : ℤ) → lesser a h ≤ℤ h
-lesser-second a h = cond_cases (lt_z h a) (λ z. z ≤ℤ h) h a (λ t. omega zarith) (λ t. omega zarith)
+lesser_second : (a h : ℤ) → lesser a h ≤ℤ h
+lesser_second a h = cond_cases (lt_z h a) (λ z. z ≤ℤ h) h a (λ t. omega zarith) (λ t. omega zarith)
 
 lesser_greatest : (z a h : ℤ) → z ≤ℤ a → z ≤ℤ h → z ≤ℤ lesser a h
 lesser_greatest z a h p q = cond_cases (lt_z h a) (λ y. z ≤ℤ y) h a (λ t. q) (λ t. p)
@@ -39,9 +39,9 @@ lesser_assoc a b c =
     let l = lesser (lesser a b) c in
     let r = lesser a (lesser b c) in
     let x : l ≤ℤ r = lesser_greatest l a (lesser b c) (omega (zarith, lesser-first (lesser a b) c, lesser-first a b))
-    (lesser_greatest l b c (omega (zarith, lesser-first (lesser a b) c, lesser-second a b)) (lesser-second (lesser a b) c)) in
-    let y : r ≤ℤ l = lesser_greatest r (lesser a b) c (lesser_greatest r a b (lesser-first a (lesser b c)) (omega (zarith, lesser-second a (lesser b c), lesser-first b c)))
-    (omega (zarith, lesser-second a (lesser b c), lesser-second b c)) in
+    (lesser_greatest l b c (omega (zarith, lesser-first (lesser a b) c, lesser_second a b)) (lesser_second (lesser a b) c)) in
+    let y : r ≤ℤ l = lesser_greatest r (lesser a b) c (lesser_greatest r a b (lesser-first a (lesser b c)) (omega (zarith, lesser_second a (lesser b c), lesser-first b c)))
+    (omega (zarith, lesser_second a (lesser b c), lesser_second b c)) in
     omega (zarith, x, y)
 
 module _ (f : ℕ → ℤ) where

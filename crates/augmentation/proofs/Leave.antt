@@ -10,12 +10,12 @@ use Rattle.assignment.specs.Pairings.{signed_at, square}
 use Rattle.rules.specs.Lowest.{reduced, lowest}
 use Rattle.rules.specs.Search.{Work, work_of, Found, found, search_blocks, search, found_at, new_prices}
 use Rattle.rules.proofs.Scan.{Sound}
-use Rattle.rules.proofs.Search.{Good, search-left, search_good}
+use Rattle.rules.proofs.Search.{Good, search_left, search_good}
 use Rattle.rules.proofs.Augment.{floor_under}
 use Rattle.augmentation.specs.Room.{list_in, predecessors_in, room_with}
 use Rattle.augmentation.specs.Search.{CanSearch, CanChange, Started, Searched, ready_at}
-use Rattle.augmentation.proofs.Room.{list_length, predecessors-length, room-length, list_of, room-room, lent-list}
-use Rattle.augmentation.proofs.Loops.{one, distances-near, Leaving}
+use Rattle.augmentation.proofs.Room.{list_length, predecessors_length, room_length, list_of, room_room, lent_list}
+use Rattle.augmentation.proofs.Loops.{one, distances_near, Leaving}
 
 module _ (n : ℕ) (costs : List ℤ) (rows : List ℕ) (start : ℕ) (v : List ℤ) where
   abbrev cost : ℕ → ℕ → ℤ
@@ -33,15 +33,15 @@ module _ (n : ℕ) (costs : List ℤ) (rows : List ℕ) (start : ℕ) (v : List 
       abbrev f : Found
       f = found lo (record { lo = lo; hi = L.end }) column (work_of L.hi L.list d L.predecessors m)
 
-      left-same : (x y : Found) → ◌≡◌ {A = Turn Work Found} (left x) (left y) → x ≡ y
-      left-same x y e = ap (found_at) e
+      left_same : (x y : Found) → ◌≡◌ {A = Turn Work Found} (left x) (left y) → x ≡ y
+      left_same x y e = ap (found_at) e
 
       -- What was found is what the search finds.
       found_is : f ≡ search n cost (signed_at v) (at rows) start
       found_is =
-          left-same f (search n cost (signed_at v) (at rows) start)
+          left_same f (search n cost (signed_at v) (at rows) start)
           (sym L.same ∙ ap (blocks n) T.same
-          ∙ search-left n cost (signed_at v) (at rows) start floor C.fair C.has-free.column C.has-free.below C.has-free.free
+          ∙ search_left n cost (signed_at v) (at rows) start floor C.fair C.has-free.column C.has-free.below C.has-free.free
           (floor_under n cost (signed_at v) start (one n costs rows start v C)))
 
       good : Good n cost (signed_at v) (at rows) start floor f
@@ -54,24 +54,24 @@ module _ (n : ℕ) (costs : List ℤ) (rows : List ℕ) (start : ℕ) (v : List 
       S = good.1.sound
 
       pub leave_long : length room ≡ n + n + n + n
-      leave_long = ap length L.room_is ∙ room-length n room₁ L.room-size L.list L.predecessors S.permutation.size S.predecessors-size
+      leave_long = ap length L.room_is ∙ room_length n room₁ L.room_size L.list L.predecessors S.permutation.size S.predecessors_size
 
       pub leave_distances : length d ≡ n
-      leave_distances = S.distances-size
+      leave_distances = S.distances_size
 
       lent_list_is : take (n + n - n) (drop n room) ≡ L.list
       lent_list_is =
-          lent-list n room ∙ ap (list_in n) L.room_is ∙ list_of n room₁ L.room-size L.list L.predecessors S.permutation.size S.predecessors-size
+          lent_list n room ∙ ap (list_in n) L.room_is ∙ list_of n room₁ L.room_size L.list L.predecessors S.permutation.size S.predecessors_size
 
       -- The prices can be changed.
       pub can_change : CanChange (length v) lo (take (n + n - n) (drop n room)) d v
-      can_change = rw C.prices-size (record {
+      can_change = rw C.prices_size (record {
         small = C.small;
-        ready-below = good.1.ready-below;
+        ready_below = good.1.ready_below;
         listed = subst (Permutation n) (sym lent_list_is) S.permutation;
-        distances-size = S.distances-size;
-        distances-near = distances-near n costs rows start v C f.work S;
-        prices-near = C.prices-near;
+        distances_size = S.distances_size;
+        distances_near = distances_near n costs rows start v C f.work S;
+        prices_near_lem = C.prices_near_lem;
       })
 
       pub searched : (v' : List ℤ) → v' ≡ new_prices (ready_at lo (take (n + n - n) (drop n room)) d) v
@@ -84,7 +84,7 @@ module _ (n : ℕ) (costs : List ℤ) (rows : List ℕ) (start : ℕ) (v : List 
         distances = ap (λ (x : Found). x.work.distances) found_is;
         room_is =
             L.room_is ∙ ap (room_with n L.list L.predecessors) T.frame
-            ∙ room-room n room₀ size (list_in n room₁) (predecessors_in n room₁) L.list L.predecessors (list_length n room₁ L.room-size)
-            (predecessors-length n room₁ L.room-size) S.permutation.size S.predecessors-size
+            ∙ room_room n room₀ size (list_in n room₁) (predecessors_in n room₁) L.list L.predecessors (list_length n room₁ L.room_size)
+            (predecessors_length n room₁ L.room_size) S.permutation.size S.predecessors_size
             ∙ ap (λ (x : Found). room_with n x.work.list x.work.predecessors room₀) found_is;
       }

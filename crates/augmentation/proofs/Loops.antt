@@ -17,7 +17,7 @@ use Rattle.rules.proofs.Scan.{Sound}
 use Rattle.rules.proofs.Scans.{Counted}
 use Rattle.rules.proofs.Search.{Head}
 use Rattle.rules.proofs.Sizes.{within_everywhere}
-use Rattle.rules.proofs.Augment.{distances-within}
+use Rattle.rules.proofs.Augment.{distances_within}
 use Rattle.rules.specs.declared.ScanEnd.TheVariants as ends
 use Rattle.augmentation.specs.Room.{room_with}
 use Rattle.augmentation.specs.Scan.{work_in, Seen, seen_in, seen}
@@ -29,8 +29,8 @@ as_work : (w : Work) {hi : ℕ} {list : List ℕ} {distances : List ℤ} {predec
     → predecessors ≡ w.predecessors → scanned ≡ w.scanned → w ≡ work_of hi list distances predecessors scanned
 as_work w a b c d e = rw (a, b, c, d, e)
 
-same-on : (e h : ℕ) → ends.On e ≡ ends.On h → e ≡ h
-same-on e h q = cc
+same_on : (e h : ℕ) → ends.On e ≡ ends.On h → e ≡ h
+same_on e h q = cc
 
 same_hit : (j h : ℕ) → ends.Hit j ≡ ends.Hit h → j ≡ h
 same_hit j h q = cc
@@ -38,12 +38,12 @@ same_hit j h q = cc
 on_is_no_hit : (e j : ℕ) → ends.On e ≡ ends.Hit j → ⊥
 on_is_no_hit e j q = let z : ◌≡◌ {A = ℕ} 0 1 = cc in omega arith
 
-pub seen-on : (n e : ℕ) (d : List ℤ) (room : List ℕ) (m : ℕ) (t : Turn Work Hit) → seen_in (ends.On e) n d room m ≡ seen t → t ≡ on (work_in n e d room m)
-seen-on n e d room m (on w) q =
+pub seen_on : (n e : ℕ) (d : List ℤ) (room : List ℕ) (m : ℕ) (t : Turn Work Hit) → seen_in (ends.On e) n d room m ≡ seen t → t ≡ on (work_in n e d room m)
+seen_on n e d room m (on w) q =
     ap on
-    (as_work w (same-on e w.hi (ap (λ (s : Seen). s.answer) q)) (ap (λ (s : Seen). s.list) q) (ap (λ (s : Seen). s.distances) q)
+    (as_work w (same_on e w.hi (ap (λ (s : Seen). s.answer) q)) (ap (λ (s : Seen). s.list) q) (ap (λ (s : Seen). s.distances) q)
     (ap (λ (s : Seen). s.predecessors) q) (ap (λ (s : Seen). s.scanned) q))
-seen-on n e d room m (left h) q = absurd (on_is_no_hit e h.column (ap (λ (s : Seen). s.answer) q))
+seen_on n e d room m (left h) q = absurd (on_is_no_hit e h.column (ap (λ (s : Seen). s.answer) q))
 
 pub seen_hit : (n j : ℕ) (d : List ℤ) (room : List ℕ) (m : ℕ) (t : Turn Work Hit) → seen_in (ends.Hit j) n d room m ≡ seen t
     → (hi : ℕ) × (t ≡ left (record { column = j; work = work_in n hi d room m }))
@@ -80,7 +80,7 @@ module _ (n : ℕ) (costs : List ℤ) (rows : List ℕ) (start : ℕ) (v : List 
 
   -- At the head of the search's loop, which began with d₀ and room₀: what is left of the search is the search.
   pub record Between (d₀ : List ℤ) (room₀ : List ℕ) (d : List ℤ) (room : List ℕ) (hi scanned : ℕ) : Type 0 where
-    pub room-size : length room₀ ≡ n + n + n + n
+    pub room_size : length room₀ ≡ n + n + n + n
     pub list : List ℕ
     pub predecessors : List ℕ
     pub fuel : ℕ
@@ -91,7 +91,7 @@ module _ (n : ℕ) (costs : List ℤ) (rows : List ℕ) (start : ℕ) (v : List 
 
   -- At the head of the scan's loop, which began with d₁, room₁, lo₁, hi₁ and scanned₁: what is left of the scan is the scan.
   pub record InScan (d₁ : List ℤ) (room₁ : List ℕ) (lo₁ hi₁ scanned₁ : ℕ) (d : List ℤ) (room : List ℕ) (lo hi scanned : ℕ) : Type 0 where
-    pub room-size : length room₁ ≡ n + n + n + n
+    pub room_size : length room₁ ≡ n + n + n + n
     pub list : List ℕ
     pub predecessors : List ℕ
     pub minimum : ℤ
@@ -106,7 +106,7 @@ module _ (n : ℕ) (costs : List ℤ) (rows : List ℕ) (start : ℕ) (v : List 
     pub predecessors : List ℕ
     pub end : ℕ
     pub hi : ℕ
-    pub room-size : length room₀ ≡ n + n + n + n
+    pub room_size : length room₀ ≡ n + n + n + n
     pub room_is : room ≡ room_with n list predecessors room₀
     pub same : blocks n (work_in n 0 d₀ room₀ 0) ≡ left (found lo (record { lo = lo; hi = end }) column (work_of hi list d predecessors scanned))
 
@@ -115,10 +115,10 @@ module _ (n : ℕ) (costs : List ℤ) (rows : List ℕ) (start : ℕ) (v : List 
     pub one : 1 ≤ n
     one = omega (arith, C.start_below)
 
-    pub distances-near : (w : Work) → Sound n cost (signed_at v) (at rows) start floor w → (j : ℕ) → Within (2 * near) (signed_at w.distances j)
-    distances-near w S =
+    pub distances_near : (w : Work) → Sound n cost (signed_at v) (at rows) start floor w → (j : ℕ) → Within (2 * near) (signed_at w.distances j)
+    distances_near w S =
         within_everywhere (2 * near) w.distances
-        (λ j l. distances-within n cost (signed_at v) start one (at rows) near near (λ i k. C.costs-near (i * n + k)) C.prices-near w S j (omega (arith, S.distances-size)))
+        (λ j l. distances_within n cost (signed_at v) start one (at rows) near near (λ i k. C.costs-near (i * n + k)) C.prices_near_lem w S j (omega (arith, S.distances_size)))
 
 -- The same, at equal values.
 pub leaving_at : {n : ℕ} {costs : List ℤ} {rows : List ℕ} {start : ℕ} {v d₀ : List ℤ} {room₀ : List ℕ} {d : List ℤ} {room : List ℕ} {lo scanned column : ℕ}

@@ -23,7 +23,7 @@ use Rattle.rules.proofs.Scan.{same_true}
 use Rattle.rules.specs.declared.ScanEnd.TheVariants as ends
 use Rattle.augmentation.specs.Room.{list_in, predecessors_in, room_with}
 use Rattle.augmentation.specs.Scan.{work_in, seen, ColumnsLowered}
-use Rattle.augmentation.proofs.Room.{predecessors-length, room_self, room-length, list_of, predecessors_of, get_list, set_predecessor, exchange-list}
+use Rattle.augmentation.proofs.Room.{predecessors_length, room_self, room_length, list_of, predecessors_of, get_list, set_predecessor, exchange_list}
 
 pub same_equal : (x y : ℤ) → x ≡ y → same x y ≡ true
 same_equal x y e = rw (le_le_z x y (omega zarith), le_le_z y x (omega zarith))
@@ -42,41 +42,41 @@ module _ (n i : ℕ) (row v : List ℤ) (rows : List ℕ) (h minimum : ℤ) (hi�
 
   -- The columns before place k have been seen, and the block ends at hi.
   pub record Lowering (d : List ℤ) (room : List ℕ) (hi k : ℕ) : Type 0 where
-    pub room-size : length room₀ ≡ n + n + n + n
+    pub room_size : length room₀ ≡ n + n + n + n
     pub list : List ℕ
     pub predecessors : List ℕ
     pub place : (hi₀ ≤ hi) × (hi ≤ k) × (k ≤ n)
     pub listed : Permutation n list
-    pub distances-size : length d ≡ n
-    pub predecessors-size : length predecessors ≡ n
+    pub distances_size : length d ≡ n
+    pub predecessors_size : length predecessors ≡ n
     pub room_is : room ≡ room_with n list predecessors room₀
     pub run_is : (cost : ℕ → ℕ → ℤ) → Costs cost → (m : ℕ) → on (work_of hi list d predecessors m) ≡ run cost m k
 
   pub first_lowering : length room₀ ≡ n + n + n + n → hi₀ ≤ n → length d₀ ≡ n → Permutation n (list_in n room₀) → Lowering d₀ room₀ hi₀ hi₀
   first_lowering size l s p = record {
-    room-size = size;
+    room_size = size;
     list = list_in n room₀;
     predecessors = predecessors_in n room₀;
     place = omega arith;
     listed = p;
-    distances-size = s;
-    predecessors-size = predecessors-length n room₀ size;
+    distances_size = s;
+    predecessors_size = predecessors_length n room₀ size;
     room_is = room_self n room₀ size;
     run_is = λ cost e m. sym (until_none hi₀ hi₀ (scan_column n cost (signed_at v) (at rows) minimum h i) (work_in n hi₀ d₀ room₀ m) (omega arith));
   }
 
   module _ {d : List ℤ} {room : List ℕ} {hi k : ℕ} (L : Lowering d room hi k) where
-    pub room-long : length room ≡ n + n + n + n
-    room-long = ap length L.room_is ∙ room-length n room₀ L.room-size L.list L.predecessors L.listed.size L.predecessors-size
+    pub room_long_lem : length room ≡ n + n + n + n
+    room_long_lem = ap length L.room_is ∙ room_length n room₀ L.room_size L.list L.predecessors L.listed.size L.predecessors_size
 
     list_is : list_in n room ≡ L.list
-    list_is = ap (list_in n) L.room_is ∙ list_of n room₀ L.room-size L.list L.predecessors L.listed.size L.predecessors-size
+    list_is = ap (list_in n) L.room_is ∙ list_of n room₀ L.room_size L.list L.predecessors L.listed.size L.predecessors_size
 
     predecessors_is : predecessors_in n room ≡ L.predecessors
-    predecessors_is = ap (predecessors_in n) L.room_is ∙ predecessors_of n room₀ L.room-size L.list L.predecessors L.listed.size L.predecessors-size
+    predecessors_is = ap (predecessors_in n) L.room_is ∙ predecessors_of n room₀ L.room_size L.list L.predecessors L.listed.size L.predecessors_size
 
-    pub columns-lowered : n ≤ k → ColumnsLowered n i row v rows h minimum hi₀ d₀ room₀ (ends.On hi) d room
-    columns-lowered l =
+    pub columns_lowered : n ≤ k → ColumnsLowered n i row v rows h minimum hi₀ d₀ room₀ (ends.On hi) d room
+    columns_lowered l =
         let z : k ≡ n = omega (arith, L.place) in
         record {
           same = λ cost e m.
@@ -90,10 +90,10 @@ module _ (n i : ℕ) (row v : List ℤ) (rows : List ℕ) (h minimum : ℤ) (hi�
       j = get_or room (n + k) 0
 
       column_is : get_or room (n + k) 0 ≡ at L.list k
-      column_is = ap (λ (r : List ℕ). get_or r (n + k) 0) L.room_is ∙ get_list n room₀ L.room-size L.list L.predecessors L.listed.size L.predecessors-size k l
+      column_is = ap (λ (r : List ℕ). get_or r (n + k) 0) L.room_is ∙ get_list n room₀ L.room_size L.list L.predecessors L.listed.size L.predecessors_size k l
 
-      pub column-below : get_or room (n + k) 0 < n
-      column-below = omega (arith, column_is, L.listed.injective.below k l)
+      pub column_below : get_or room (n + k) 0 < n
+      column_below = omega (arith, column_is, L.listed.injective.below k l)
 
       module _ (x : ℤ) (lowered : x ≡ (signed_at row j -ℤ signed_at v j) -ℤ h) where
         -- What the definition's turn is, by its tests.
@@ -109,7 +109,7 @@ module _ (n i : ℕ) (row v : List ℤ) (rows : List ℕ) (h minimum : ℤ) (hi�
         turn cost e m a b c ea eb ec =
             let w = work_of hi L.list d L.predecessors m in
             let step : ℕ → ℤ → Turn Work Hit = λ y z. cond (lt_z z (signed_at d y)) (after_lowering n (at rows) minimum k y z (reach_by w i y z)) (on w) in
-            let z : x ≡ (cost i j -ℤ signed_at v j) -ℤ h = lowered ∙ ap (λ (y : ℤ). (y -ℤ signed_at v j) -ℤ h) (sym (e j column-below)) in
+            let z : x ≡ (cost i j -ℤ signed_at v j) -ℤ h = lowered ∙ ap (λ (y : ℤ). (y -ℤ signed_at v j) -ℤ h) (sym (e j column_below)) in
             let here : tests m a b c ≡ step j x = sym (rw (ea, eb, ec)) in
             here ∙ ap (step j) z ∙ ap (λ (y : ℕ). step y ((cost i y -ℤ signed_at v y) -ℤ h)) column_is
             ∙ ap (λ (t : Turn Work Hit). and_then t (scan_column n cost (signed_at v) (at rows) minimum h i k)) (L.run_is cost e m)
@@ -119,13 +119,13 @@ module _ (n i : ℕ) (row v : List ℤ) (rows : List ℕ) (h minimum : ℤ) (hi�
         pub pass_by : lt_z x (signed_at d j) ≡ false → Lowering d room hi (k + 1)
         unfolding tests
         pass_by e = record {
-          room-size = L.room-size;
+          room_size = L.room_size;
           list = L.list;
           predecessors = L.predecessors;
           place = omega (arith, L.place);
           listed = L.listed;
-          distances-size = L.distances-size;
-          predecessors-size = L.predecessors-size;
+          distances_size = L.distances_size;
+          predecessors_size = L.predecessors_size;
           room_is = L.room_is;
           run_is = λ cost f m. turn cost f m false (same x minimum) (ltb (at rows j) n) e refl refl;
         }
@@ -133,18 +133,18 @@ module _ (n i : ℕ) (row v : List ℤ) (rows : List ℕ) (h minimum : ℤ) (hi�
         stored : set room (n + n + j) i ≡ room_with n L.list (set L.predecessors j i) room₀
         stored =
             ap (λ (r : List ℕ). set r (n + n + j) i) L.room_is
-            ∙ set_predecessor n room₀ L.room-size L.list L.predecessors L.listed.size L.predecessors-size j i column-below
+            ∙ set_predecessor n room₀ L.room_size L.list L.predecessors L.listed.size L.predecessors_size j i column_below
 
         pub lower : lt_z x (signed_at d j) ≡ true → same x minimum ≡ false → Lowering (set d j x) (set room (n + n + j) i) hi (k + 1)
         unfolding tests
         lower e f = record {
-          room-size = L.room-size;
+          room_size = L.room_size;
           list = L.list;
           predecessors = set L.predecessors j i;
           place = omega (arith, L.place);
           listed = L.listed;
-          distances-size = length-set d j x ∙ L.distances-size;
-          predecessors-size = length-set L.predecessors j i ∙ L.predecessors-size;
+          distances_size = length-set d j x ∙ L.distances_size;
+          predecessors_size = length-set L.predecessors j i ∙ L.predecessors_size;
           room_is = stored;
           run_is = λ cost g m. turn cost g m true false (ltb (at rows j) n) e f refl;
         }
@@ -155,17 +155,17 @@ module _ (n i : ℕ) (row v : List ℤ) (rows : List ℕ) (h minimum : ℤ) (hi�
         swap_in e f g =
             let b : hi < n = omega (arith, L.place) in
             record {
-              room-size = L.room-size;
+              room_size = L.room_size;
               list = exchange L.list k hi;
               predecessors = set L.predecessors j i;
               place = omega (arith, L.place);
               listed = exchange_permutation L.listed k hi l b;
-              distances-size = length-set d j x ∙ L.distances-size;
-              predecessors-size = length-set L.predecessors j i ∙ L.predecessors-size;
+              distances_size = length-set d j x ∙ L.distances_size;
+              predecessors_size = length-set L.predecessors j i ∙ L.predecessors_size;
               room_is =
                   ap (λ (r : List ℕ). exchange r (n + k) (n + hi)) stored
-                  ∙ exchange-list n room₀ L.room-size L.list (set L.predecessors j i) L.listed.size
-                  (length-set L.predecessors j i ∙ L.predecessors-size) k hi l b;
+                  ∙ exchange_list n room₀ L.room_size L.list (set L.predecessors j i) L.listed.size
+                  (length-set L.predecessors j i ∙ L.predecessors_size) k hi l b;
               run_is = λ cost q m. turn cost q m true true true e f g;
             }
 
@@ -173,11 +173,11 @@ module _ (n i : ℕ) (row v : List ℤ) (rows : List ℕ) (h minimum : ℤ) (hi�
             → ColumnsLowered n i row v rows h minimum hi₀ d₀ room₀ (ends.Hit j) (set d j x) (set room (n + n + j) i)
         unfolding tests
         hit e f g =
-            let sp : length (set L.predecessors j i) ≡ n = length-set L.predecessors j i ∙ L.predecessors-size in
+            let sp : length (set L.predecessors j i) ≡ n = length-set L.predecessors j i ∙ L.predecessors_size in
             let el : list_in n (set room (n + n + j) i) ≡ L.list =
-            ap (list_in n) stored ∙ list_of n room₀ L.room-size L.list (set L.predecessors j i) L.listed.size sp in
+            ap (list_in n) stored ∙ list_of n room₀ L.room_size L.list (set L.predecessors j i) L.listed.size sp in
             let ep : predecessors_in n (set room (n + n + j) i) ≡ set L.predecessors j i =
-            ap (predecessors_in n) stored ∙ predecessors_of n room₀ L.room-size L.list (set L.predecessors j i) L.listed.size sp in
+            ap (predecessors_in n) stored ∙ predecessors_of n room₀ L.room_size L.list (set L.predecessors j i) L.listed.size sp in
             record {
               same = λ cost q m.
                   let work : Work = work_of hi L.list (set d j x) (set L.predecessors j i) m in

@@ -23,20 +23,20 @@ use Rattle.rules.specs.Columns.{Pairs}
 use Rattle.rules.specs.Search.{Found}
 use Rattle.rules.specs.Augmentation.{flips, flipped, Progress}
 use Rattle.rules.specs.Asked.{Can}
-use Rattle.rules.proofs.Pairs.{free-column}
+use Rattle.rules.proofs.Pairs.{free_column}
 use Rattle.rules.proofs.Lowest.{lowest_is}
 use Rattle.rules.proofs.Scan.{place}
 use Rattle.rules.proofs.Search.{Ended}
-use Rattle.rules.proofs.Flips.{flips-left}
-use Rattle.rules.proofs.Augment.{one, floor_of, found_good, Tree, rank, rooted, flipping, column-below}
+use Rattle.rules.proofs.Flips.{flips_left}
+use Rattle.rules.proofs.Augment.{one, floor_of, found_good, Tree, rank, rooted, flipping, column_below}
 use Rattle.rules.proofs.DirectHit.{Hits, augment_hits}
 use Rattle.augmentation.specs.Room.{frees_in, predecessors_in, marks_in}
 use Rattle.augmentation.specs.Search.{CanSearch, Searched, found_from}
 use Rattle.augmentation.specs.DirectHit.{reduced_of, free_at, LastOf}
 use Rattle.augmentation.specs.Augmentation.{pairs_of, open_at, CanFlip, state_of, CanAugmentRow, RowAugmented}
-use Rattle.augmentation.proofs.Room.{predecessors_of, frees-kept, marks-kept}
-use Rattle.augmentation.proofs.Scan.{row-cost}
-use Rattle.augmentation.proofs.Start.{lent-predecessors}
+use Rattle.augmentation.proofs.Room.{predecessors_of, frees_kept, marks_kept}
+use Rattle.augmentation.proofs.Scan.{row_cost}
+use Rattle.augmentation.proofs.Start.{lent_predecessors}
 
 -- The two flags of a test that holds, and of one that fails.
 both : (t u : Bool) → cond t false u ≡ true → (t ≡ false) × (u ≡ true)
@@ -60,17 +60,17 @@ module _ {n : ℕ} {costs : List ℤ} {s : ℕ} {cols rows : List ℕ} {v d : Li
   abbrev f : Found
   f = found_from n costs rows s v
 
-  pub can-search : CanSearch n costs rows s v
-  can-search =
-      let y = free-column n (pairs_of cols rows) C.agree s C.start_below C.start_unpaired in
+  pub can_search : CanSearch n costs rows s v
+  can_search =
+      let y = free_column n (pairs_of cols rows) C.agree s C.start_below C.start_unpaired in
       record {
         small = R.small;
         start_below = C.start_below;
-        costs-size = R.costs-size;
-        prices-size = C.prices-size;
-        rows-size = C.agree.rows-size;
+        costs_size = R.costs_size;
+        prices_size = C.prices_size;
+        rows_size = C.agree.rows_size;
         costs-near = R.costs-near;
-        prices-near = R.turn.prices-near;
+        prices_near_lem = R.turn.prices_near_lem;
         fair = C.fair;
         has-free = record { column = y.0; below = y.1; free = y.2 };
       }
@@ -86,11 +86,11 @@ module _ {n : ℕ} {costs : List ℤ} {s : ℕ} {cols rows : List ℕ} {v d : Li
   E : Ended n cost (signed_at v) (at rows) s fl f μ
   E = (found_good n cost x s C).1
 
-  list-size : length f.work.list ≡ n
-  list-size = E.sound.permutation.size
+  list_size : length f.work.list ≡ n
+  list_size = E.sound.permutation.size
 
-  predecessors-size : length f.work.predecessors ≡ n
-  predecessors-size = E.sound.predecessors-size
+  predecessors_size : length f.work.predecessors ≡ n
+  predecessors_size = E.sound.predecessors_size
 
   -- The row that leads to a column is the start row, or that of a column.
   leads_below : (k : ℕ) → k < n → at f.work.predecessors k < n
@@ -102,21 +102,21 @@ module _ {n : ℕ} {costs : List ℤ} {s : ℕ} {cols rows : List ℕ} {v d : Li
       go t m = ⊎_elim (λ a. omega (arith, a.leads, C.start_below)) (λ a. omega (arith, a.3.leads, a.2.0)) (E.root t m)
 
   -- The pairs can flip back.
-  can-flip : CanFlip n s f.column f.work.predecessors cols rows
-  can-flip =
+  can_flip : CanFlip n s f.column f.work.predecessors cols rows
+  can_flip =
       let p = pairs_of cols rows in
       let ls = C.start_below in
       record {
         small = R.small;
-        column-below = column-below n cost (signed_at v) p s fl ls f μ E;
-        predecessors-size = predecessors-size;
-        cols-size = C.agree.cols-size;
-        rows-size = C.agree.rows-size;
-        predecessors-below = leads_below;
-        cols-below = C.agree.cols-below;
+        column_below = column_below n cost (signed_at v) p s fl ls f μ E;
+        predecessors_size = predecessors_size;
+        cols_size = C.agree.cols_size;
+        rows_size = C.agree.rows_size;
+        predecessors_below = leads_below;
+        cols_below = C.agree.cols_below;
         whole = flipped (flips n s f.work.predecessors (open_at f.column cols rows));
         ends =
-            flips-left n s ls f.work.predecessors p (Tree n cost (signed_at v) p s fl ls f μ E) (rank n cost (signed_at v) p s fl ls f μ E)
+            flips_left n s ls f.work.predecessors p (Tree n cost (signed_at v) p s fl ls f μ E) (rank n cost (signed_at v) p s fl ls f μ E)
             (rooted n cost (signed_at v) p s fl ls f μ E) (open_at f.column cols rows) (flipping n cost (signed_at v) p s fl ls f μ E C.agree C.start_unpaired);
       }
 
@@ -128,23 +128,23 @@ module _ {n : ℕ} {costs : List ℤ} {s : ℕ} {cols rows : List ℕ} {v d : Li
 
     lent_is : lent ≡ f.work.predecessors
     lent_is =
-        lent-predecessors n room' ∙ ap (predecessors_in n) S.room_is
-        ∙ predecessors_of n room R.room-size f.work.list f.work.predecessors list-size predecessors-size
+        lent_predecessors n room' ∙ ap (predecessors_in n) S.room_is
+        ∙ predecessors_of n room R.room_size f.work.list f.work.predecessors list_size predecessors_size
 
     pub way_back : CanFlip n s r.column lent cols rows
-    way_back = rw (lent_is, S.column) can-flip
+    way_back = rw (lent_is, S.column) can_flip
 
-    pub searched-row : {cols' rows' : List ℕ} → pairs_of cols' rows' ≡ flipped (flips n s lent (open_at r.column cols rows))
+    pub searched_row : {cols' rows' : List ℕ} → pairs_of cols' rows' ≡ flipped (flips n s lent (open_at r.column cols rows))
         → RowAugmented n costs s cols rows v room cols' rows' v' room' r.scanned
-    searched-row {cols'} {rows'} e =
+    searched_row {cols'} {rows'} e =
         let q : pairs_of cols' rows' ≡ flipped (flips n s f.work.predecessors (open_at f.column cols rows)) = rw (lent_is, S.column) at e in
         record {
           same = λ m.
               ap₂ (λ (p : Pairs) (k : ℕ). record { pairs = p; prices = v'; scanned = m + k }) q S.scanned
               ∙ ap (λ (y : List ℤ). record { pairs = flipped (flips n s f.work.predecessors (open_at f.column cols rows)); prices = y; scanned = m + f.work.scanned }) S.prices;
-          few = omega (arith, S.scanned, E.counted-few);
-          frees-kept = ap (frees_in n) S.room_is ∙ frees-kept n room R.room-size f.work.list f.work.predecessors list-size predecessors-size;
-          marks-kept = ap (marks_in n) S.room_is ∙ marks-kept n room R.room-size f.work.list f.work.predecessors list-size predecessors-size;
+          few = omega (arith, S.scanned, E.counted_few);
+          frees_kept = ap (frees_in n) S.room_is ∙ frees_kept n room R.room_size f.work.list f.work.predecessors list_size predecessors_size;
+          marks_kept = ap (marks_in n) S.room_is ∙ marks_kept n room R.room_size f.work.list f.work.predecessors list_size predecessors_size;
         }
 
   -- ---- by a direct hit
@@ -154,7 +154,7 @@ module _ {n : ℕ} {costs : List ℤ} {s : ℕ} {cols rows : List ℕ} {v d : Li
 
   module _ {j : ℕ} (H : LastOf n (free_at n g (at rows) (lowest n g).value) j) (l : j < n) where
     g_is : (k : ℕ) → k < n → g k ≡ reduced cost (signed_at v) s k
-    g_is k m = ap (λ (z : ℤ). z -ℤ signed_at v k) (sym (row-cost n costs s k m))
+    g_is k m = ap (λ (z : ℤ). z -ℤ signed_at v k) (sym (row_cost n costs s k m))
 
     abbrev low : ℤ
     low = (lowest n g).value
@@ -179,6 +179,6 @@ module _ {n : ℕ} {costs : List ℤ} {s : ℕ} {cols rows : List ℕ} {v d : Li
     hit_row = record {
       same = λ m. ap (λ (k : ℕ). state_of (set cols s j) (set rows j s) v k) (add-zero m) ∙ sym (augment_hits n cost (state_of cols rows v m) s j hits);
       few = omega arith;
-      frees-kept = refl;
-      marks-kept = refl;
+      frees_kept = refl;
+      marks_kept = refl;
     }

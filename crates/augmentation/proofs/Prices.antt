@@ -19,14 +19,14 @@ use Rattle.lists.specs.Permutations.{at}
 use Rattle.lists.proofs.Cases.{here_or_elsewhere}
 use Rattle.assignment.specs.Pairings.{signed_at}
 use Rattle.matrix.specs.Limits.{near}
-use Rattle.matrix.proofs.SmallLimits.{side-small}
+use Rattle.matrix.proofs.SmallLimits.{side_small}
 use Rattle.rules.specs.Search.{add_distance, new_prices}
 use Rattle.rules.proofs.Sizes.{within_everywhere}
 use Rattle.augmentation.specs.Search.{ready_at, CanChange}
 
 -- A store of a near number in a list of near numbers.
-set-within : (b : ℕ) (l : List ℤ) (j : ℕ) (x : ℤ) → ((k : ℕ) → Within b (signed_at l k)) → Within b x → (k : ℕ) → Within b (signed_at (set l j x) k)
-set-within b l j x h w =
+set_within : (b : ℕ) (l : List ℤ) (j : ℕ) (x : ℤ) → ((k : ℕ) → Within b (signed_at l k)) → Within b x → (k : ℕ) → Within b (signed_at (set l j x) k)
+set_within b l j x h w =
     within_everywhere b (set l j x)
     (here_or_elsewhere (λ k. k < length (set l j x) → Within b (signed_at (set l j x) k)) j
     (λ s. let a : j < length l = omega (arith, length-set l j x) in rw (get_or-set_same l j x (pos 0) a) w)
@@ -37,20 +37,20 @@ module _ (list : List ℕ) (d : List ℤ) (minimum : ℤ) (v₀ : List ℤ) wher
   abbrev pub prices : ℕ → List ℤ
   prices k = upward 0 k (λ k. add_distance d minimum (at list k)) v₀
 
-  prices-length : (k : ℕ) → length (prices k) ≡ length v₀
-  prices-length k =
+  prices_length : (k : ℕ) → length (prices k) ≡ length v₀
+  prices_length k =
       upward_keeps (λ m v. length v ≡ length v₀) 0 k (λ m. add_distance d minimum (at list m)) v₀ (omega arith) refl
       (λ m v l g e. length-set v (at list m) (signed_at v (at list m) +ℤ (signed_at d (at list m) -ℤ minimum)) ∙ e)
 
-  prices-within : ((j : ℕ) → Within near (signed_at v₀ j)) → ((j : ℕ) → Within (2 * near) (signed_at d j)) → Within (2 * near) minimum
+  prices_within_lem : ((j : ℕ) → Within near (signed_at v₀ j)) → ((j : ℕ) → Within (2 * near) (signed_at d j)) → Within (2 * near) minimum
       → (k j : ℕ) → Within (near * (4 * k + 1)) (signed_at (prices k) j)
-  prices-within h g m k =
+  prices_within_lem h g m k =
       upward_keeps (λ i v. (j : ℕ) → Within (near * (4 * i + 1)) (signed_at v j)) 0 k (λ i. add_distance d minimum (at list i)) v₀ (omega arith) (λ j. h j)
-      (λ i v l u w. set-within (near * (4 * suc i + 1)) v (at list i) (signed_at v (at list i) +ℤ (signed_at d (at list i) -ℤ minimum))
-      (λ j. let x = w j in omega arith) (added-within i (signed_at v (at list i)) (signed_at d (at list i)) (w (at list i)) (g (at list i))))
+      (λ i v l u w. set_within (near * (4 * suc i + 1)) v (at list i) (signed_at v (at list i) +ℤ (signed_at d (at list i) -ℤ minimum))
+      (λ j. let x = w j in omega arith) (added_within i (signed_at v (at list i)) (signed_at d (at list i)) (w (at list i)) (g (at list i))))
     where
-      added-within : (i : ℕ) (x y : ℤ) → Within (near * (4 * i + 1)) x → Within (2 * near) y → Within (near * (4 * suc i + 1)) (x +ℤ (y -ℤ minimum))
-      added-within i x y a b = omega (zlin, dif y minimum, sum x (y -ℤ minimum), m)
+      added_within : (i : ℕ) (x y : ℤ) → Within (near * (4 * i + 1)) x → Within (2 * near) y → Within (near * (4 * suc i + 1)) (x +ℤ (y -ℤ minimum))
+      added_within i x y a b = omega (zlin, dif y minimum, sum x (y -ℤ minimum), m)
 
 module _ (x y m : ℤ) (a : Within (2 * near) y) (b : Within (2 * near) m) where
   near_fits : SFits w64 y
@@ -68,8 +68,8 @@ prices_wide k z s w = omega arith
 -- The first k ready columns have their new prices.
 pub record Changing (n lo : ℕ) (list : List ℕ) (d v₀ : List ℤ) (minimum : ℤ) (v : List ℤ) (k : ℕ) : Type 0 where
   pub can : CanChange n lo list d v₀
-  pub prices-size : length v₀ ≡ n
-  pub minimum-within : Within (2 * near) minimum
+  pub prices_size : length v₀ ≡ n
+  pub minimum_within : Within (2 * near) minimum
   pub reach : k ≤ lo
   pub so_far : v ≡ prices list d minimum v₀ k
 
@@ -77,15 +77,15 @@ pub first_change : (n lo : ℕ) (list : List ℕ) (d v : List ℤ) (minimum : �
     → Changing n lo list d v minimum v 0
 first_change n lo list d v minimum can size e = record {
   can = can;
-  prices-size = size;
-  minimum-within = subst (Within (2 * near)) (sym e) (can.distances-near (at list lo));
+  prices_size = size;
+  minimum_within = subst (Within (2 * near)) (sym e) (can.distances_near (at list lo));
   reach = omega arith;
   so_far = sym (upward_none 0 0 (λ k. add_distance d minimum (at list k)) v (omega arith));
 }
 
 module _ {n lo : ℕ} {list : List ℕ} {d v₀ : List ℤ} {minimum : ℤ} {v : List ℤ} {k : ℕ} (C : Changing n lo list d v₀ minimum v k) where
   pub size : length v ≡ n
-  size = ap length C.so_far ∙ prices-length list d minimum v₀ k ∙ C.prices-size
+  size = ap length C.so_far ∙ prices_length list d minimum v₀ k ∙ C.prices_size
 
   pub changed : lo ≤ k → minimum ≡ signed_at d (at list lo) → v ≡ new_prices (ready_at lo list d) v₀
   unfolding new_prices
@@ -103,26 +103,26 @@ module _ {n lo : ℕ} {list : List ℕ} {d v₀ : List ℤ} {minimum : ℤ} {v :
     abbrev y : ℤ
     y = signed_at d j
 
-    pub column-below : at list k < n
-    column-below = C.can.listed.injective.below k (omega (arith, C.can.ready-below))
+    pub column_below : at list k < n
+    column_below = C.can.listed.injective.below k (omega (arith, C.can.ready_below))
 
     x_within : Within (2 ^ 60) x
     x_within =
         subst (λ (s : List ℤ). Within (2 ^ 60) (signed_at s j)) (sym C.so_far)
-        (prices_wide k (signed_at (prices list d minimum v₀ k) j) (omega (arith, C.can.ready-below, C.can.small, side-small))
-        (prices-within list d minimum v₀ C.can.prices-near C.can.distances-near C.minimum-within k j))
+        (prices_wide k (signed_at (prices list d minimum v₀ k) j) (omega (arith, C.can.ready_below, C.can.small, side_small))
+        (prices_within_lem list d minimum v₀ C.can.prices_near_lem C.can.distances_near C.minimum_within k j))
 
     x_fits : SFits w64 x
     x_fits = omega (zlin, x_within)
 
     y_fits : SFits w64 y
-    y_fits = near_fits x y minimum (C.can.distances-near j) C.minimum-within
+    y_fits = near_fits x y minimum (C.can.distances_near j) C.minimum_within
 
     difference_fits : SFits w64 (y -ℤ minimum)
-    difference_fits = near_difference x y minimum (C.can.distances-near j) C.minimum-within
+    difference_fits = near_difference x y minimum (C.can.distances_near j) C.minimum_within
 
     sum_fits : SFits w64 (x +ℤ (y -ℤ minimum))
-    sum_fits = near-sum x y minimum (C.can.distances-near j) C.minimum-within x_within
+    sum_fits = near-sum x y minimum (C.can.distances_near j) C.minimum_within x_within
 
     pub sub_fits : SFits w64 (to_z w64 (of_z w64 y) -ℤ minimum)
     sub_fits = rw (to_z-of_z y_fits) difference_fits
@@ -133,8 +133,8 @@ module _ {n lo : ℕ} {list : List ℕ} {d v₀ : List ℤ} {minimum : ℤ} {v :
     pub next : Changing n lo list d v₀ minimum (set v j (to_z w64 (of_z w64 (to_z w64 (of_z w64 x) +ℤ to_z w64 (of_z w64 (to_z w64 (of_z w64 y) -ℤ minimum)))))) (k + 1)
     next = record {
       can = C.can;
-      prices-size = C.prices-size;
-      minimum-within = C.minimum-within;
+      prices_size = C.prices_size;
+      minimum_within = C.minimum_within;
       reach = omega arith;
       so_far =
           rw (to_z-of_z x_fits, to_z-of_z y_fits, to_z-of_z difference_fits, to_z-of_z sum_fits, add-one k)

@@ -14,8 +14,8 @@ module _ (n : ℕ) (r : List ℕ) (size : length r ≡ n + n + n + n) where
   pub list_length : length (list_in n r) ≡ n
   list_length = part_length n n r (omega arith)
 
-  pub predecessors-length : length (predecessors_in n r) ≡ n
-  predecessors-length = part_length (n + n) n r (omega arith)
+  pub predecessors_length : length (predecessors_in n r) ≡ n
+  predecessors_length = part_length (n + n) n r (omega arith)
 
   pub room_self : r ≡ room_with n (list_in n r) (predecessors_in n r) r
   unfolding room_with
@@ -35,13 +35,13 @@ module _ (n : ℕ) (r : List ℕ) (size : length r ≡ n + n + n + n) where
     fits_l : n + length l ≤ length below
     fits_l = omega (arith, sl, below_length)
 
-    pub room-length : length (room_with n l p r) ≡ n + n + n + n
+    pub room_length : length (room_with n l p r) ≡ n + n + n + n
     unfolding room_with
-    room-length = replaced-length n l below fits_l ∙ below_length
+    room_length = replaced-length n l below fits_l ∙ below_length
 
-    pub frees-kept : frees_in n (room_with n l p r) ≡ frees_in n r
+    pub frees_kept : frees_in n (room_with n l p r) ≡ frees_in n r
     unfolding room_with
-    frees-kept = replaced_part_before n l below fits_l 0 n (omega arith) ∙ replaced_part_before (n + n) p r fits_p 0 n (omega arith)
+    frees_kept = replaced_part_before n l below fits_l 0 n (omega arith) ∙ replaced_part_before (n + n) p r fits_p 0 n (omega arith)
 
     pub list_of : list_in n (room_with n l p r) ≡ l
     unfolding room_with
@@ -53,9 +53,9 @@ module _ (n : ℕ) (r : List ℕ) (size : length r ≡ n + n + n + n) where
         replaced_part_after n l below fits_l (n + n) n (omega (arith, sl))
         ∙ ap (λ (k : ℕ). part (n + n) k below) (sym sp) ∙ replaced-part (n + n) p r fits_p
 
-    pub marks-kept : marks_in n (room_with n l p r) ≡ marks_in n r
+    pub marks_kept : marks_in n (room_with n l p r) ≡ marks_in n r
     unfolding room_with
-    marks-kept =
+    marks_kept =
         replaced_part_after n l below fits_l (n + n + n) n (omega (arith, sl))
         ∙ replaced_part_after (n + n) p r fits_p (n + n + n) n (omega (arith, sp))
 
@@ -63,9 +63,9 @@ module _ (n : ℕ) (r : List ℕ) (size : length r ≡ n + n + n + n) where
     unfolding room_with
     get_list k h = replaced-at n l below fits_l k 0 (omega (arith, sl))
 
-    set-list : (k x : ℕ) → k < n → set (room_with n l p r) (n + k) x ≡ room_with n (set l k x) p r
+    set_list : (k x : ℕ) → k < n → set (room_with n l p r) (n + k) x ≡ room_with n (set l k x) p r
     unfolding room_with
-    set-list k x h = replaced-set n l below fits_l k x (omega (arith, sl))
+    set_list k x h = replaced-set n l below fits_l k x (omega (arith, sl))
 
     pub set_predecessor : (k x : ℕ) → k < n → set (room_with n l p r) (n + n + k) x ≡ room_with n l (set p k x) r
     unfolding room_with
@@ -86,25 +86,25 @@ module _ (n : ℕ) (r : List ℕ) (size : length r ≡ n + n + n + n) where
         ∙ ap (replaced n l) (replaced-replaced (n + n) p p' r (omega (arith, sp, sp')) fits_p)
 
     -- The predecessors were lent by themselves and came back as p'.
-    pub predecessors-back : (p' : List ℕ) → length p' ≡ n
+    pub predecessors_back : (p' : List ℕ) → length p' ≡ n
         → take (n + n) (room_with n l p r) ++ (p' ++ drop (n + n + n - (n + n)) (drop (n + n) (room_with n l p r))) ≡ room_with n l p' r
-    predecessors-back p' sp' = lent_back (n + n) (n + n + n) p' (room_with n l p r) (omega (arith, sp')) ∙ new_predecessors p' sp'
+    predecessors_back p' sp' = lent_back (n + n) (n + n + n) p' (room_with n l p r) (omega (arith, sp')) ∙ new_predecessors p' sp'
 
   -- Two places of the list change places.
-  pub exchange-list : (l p : List ℕ) → length l ≡ n → length p ≡ n → (a b : ℕ) → a < n → b < n
+  pub exchange_list : (l p : List ℕ) → length l ≡ n → length p ≡ n → (a b : ℕ) → a < n → b < n
       → exchange (room_with n l p r) (n + a) (n + b) ≡ room_with n (exchange l a b) p r
-  exchange-list l p sl sp a b ha hb =
+  exchange_list l p sl sp a b ha hb =
       ap₂ (λ (x y : ℕ). set (set (room_with n l p r) (n + a) x) (n + b) y) (get_list l p sl sp b hb) (get_list l p sl sp a ha)
-      ∙ ap (λ (t : List ℕ). set t (n + b) (at l a)) (set-list l p sl sp a (at l b) ha)
-      ∙ set-list (set l a (at l b)) p (length-set l a (at l b) ∙ sl) sp b (at l a) hb
+      ∙ ap (λ (t : List ℕ). set t (n + b) (at l a)) (set_list l p sl sp a (at l b) ha)
+      ∙ set_list (set l a (at l b)) p (length-set l a (at l b) ∙ sl) sp b (at l a) hb
 
   -- Written over twice: the second time counts.
-  pub room-room : (l p l' p' : List ℕ) → length l ≡ n → length p ≡ n → length l' ≡ n → length p' ≡ n
+  pub room_room : (l p l' p' : List ℕ) → length l ≡ n → length p ≡ n → length l' ≡ n → length p' ≡ n
       → room_with n l' p' (room_with n l p r) ≡ room_with n l' p' r
   unfolding room_with
-  room-room l p l' p' sl sp sl' sp' =
+  room_room l p l' p' sl sp sl' sp' =
       ap (replaced n l') (new_predecessors l p sl sp p' sp') ∙ replaced-replaced n l l' (below l p' sl sp') (omega (arith, sl, sl')) (fits_l l p' sl sp')
 
 -- The part from n to n + n, as code lends it.
-pub lent-list : (n : ℕ) (r : List ℕ) → take (n + n - n) (drop n r) ≡ list_in n r
-lent-list n r = let e : n + n - n ≡ n = omega arith in ap (λ (k : ℕ). take k (drop n r)) e
+pub lent_list : (n : ℕ) (r : List ℕ) → take (n + n - n) (drop n r) ≡ list_in n r
+lent_list n r = let e : n + n - n ≡ n = omega arith in ap (λ (k : ℕ). take k (drop n r)) e

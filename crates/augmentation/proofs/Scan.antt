@@ -25,18 +25,18 @@ use Rattle.augmentation.specs.Scan.{work_in, seen, ColumnsLowered, Scanned}
 abbrev pub costs_of_row : ℕ → List ℤ → ℕ → List ℤ
 costs_of_row n costs i = take n (drop (i * n) costs)
 
-pub row-length : (n : ℕ) (costs : List ℤ) (i : ℕ) → i < n → length costs ≡ n * n → length (costs_of_row n costs i) ≡ n
-row-length n costs i l e = part_length (i * n) n costs (omega (arith, mul-le-mul_right n l))
+pub row_length : (n : ℕ) (costs : List ℤ) (i : ℕ) → i < n → length costs ≡ n * n → length (costs_of_row n costs i) ≡ n
+row_length n costs i l e = part_length (i * n) n costs (omega (arith, mul-le-mul_right n l))
 
-pub row-cost : (n : ℕ) (costs : List ℤ) (i j : ℕ) → j < n → (square n costs).cost i j ≡ signed_at (costs_of_row n costs i) j
-row-cost n costs i j l = sym (part_at (i * n) n costs j (pos 0) l)
+pub row_cost : (n : ℕ) (costs : List ℤ) (i j : ℕ) → j < n → (square n costs).cost i j ≡ signed_at (costs_of_row n costs i) j
+row_cost n costs i j l = sym (part_at (i * n) n costs j (pos 0) l)
 
 -- What a row has to spare is near.
 pub spare_near : (c p m : ℤ) → SFits w32 c → Within near p → Within (2 * near) m → Within (4 * near) ((c -ℤ p) -ℤ m)
 spare_near c p m f a b = omega (zlin, f, dif c p, dif (c -ℤ p) m)
 
-pub column-at : (n : ℕ) (room : List ℕ) (k : ℕ) → k < n → get_or room (n + k) 0 ≡ at (list_in n room) k
-column-at n room k l = sym (part_at n n room k 0 l)
+pub column_at : (n : ℕ) (room : List ℕ) (k : ℕ) → k < n → get_or room (n + k) 0 ≡ at (list_in n room) k
+column_at n room k l = sym (part_at n n room k 0 l)
 
 module _ (n : ℕ) (costs v : List ℤ) (rows : List ℕ) (lo hi : ℕ) (d₀ : List ℤ) (room₀ : List ℕ) (j i : ℕ) (row : List ℤ) (minimum h : ℤ)
     (column : j ≡ at (list_in n room₀) lo) (below : j < n) (row_of : i ≡ at rows j) (row_is : row ≡ costs_of_row n costs i) (least : minimum ≡ signed_at d₀ j)
@@ -49,7 +49,7 @@ module _ (n : ℕ) (costs v : List ℤ) (rows : List ℕ) (lo hi : ℕ) (d₀ : 
       cost = (square n costs).cost
 
       agrees : (k : ℕ) → k < n → cost i k ≡ signed_at row k
-      agrees k l = row-cost n costs i k l ∙ ap (λ (s : List ℤ). signed_at s k) (sym row_is)
+      agrees k l = row_cost n costs i k l ∙ ap (λ (s : List ℤ). signed_at s k) (sym row_is)
 
       spare_is : h ≡ (cost i j -ℤ signed_at v j) -ℤ minimum
       spare_is = spare ∙ ap (λ (x : ℤ). (x -ℤ signed_at v j) -ℤ minimum) (sym (agrees j below))

@@ -25,8 +25,8 @@ use Rattle.rules.specs.declared.ScanEnd.TheVariants as ends
 use Rattle.augmentation.specs.Room.{list_in, predecessors_in, room_with}
 use Rattle.augmentation.specs.Scan.{work_in, seen_in, seen, Scanned}
 use Rattle.augmentation.specs.Search.{CanSearch, CanScan}
-use Rattle.augmentation.proofs.Room.{room-length, list_of, predecessors_of, room-room}
-use Rattle.augmentation.proofs.Loops.{distances-near, seen-on, seen_hit, either_on, either_left, InScan}
+use Rattle.augmentation.proofs.Room.{room_length, list_of, predecessors_of, room_room}
+use Rattle.augmentation.proofs.Loops.{distances_near, seen_on, seen_hit, either_on, either_left, InScan}
 
 -- ---- a block only grows while it is scanned
 
@@ -76,40 +76,40 @@ module _ (n : ℕ) (costs : List ℤ) (rows : List ℕ) (start : ℕ) (v : List 
     S = M.counted.scanning.sound
 
     scan_room_long : length room ≡ n + n + n + n
-    scan_room_long = ap length M.room_is ∙ room-length n room₁ M.room-size M.list M.predecessors S.permutation.size S.predecessors-size
+    scan_room_long = ap length M.room_is ∙ room_length n room₁ M.room_size M.list M.predecessors S.permutation.size S.predecessors_size
 
     list_is : list_in n room ≡ M.list
-    list_is = ap (list_in n) M.room_is ∙ list_of n room₁ M.room-size M.list M.predecessors S.permutation.size S.predecessors-size
+    list_is = ap (list_in n) M.room_is ∙ list_of n room₁ M.room_size M.list M.predecessors S.permutation.size S.predecessors_size
 
     predecessors_is : predecessors_in n room ≡ M.predecessors
     predecessors_is =
-        ap (predecessors_in n) M.room_is ∙ predecessors_of n room₁ M.room-size M.list M.predecessors S.permutation.size S.predecessors-size
+        ap (predecessors_in n) M.room_is ∙ predecessors_of n room₁ M.room_size M.list M.predecessors S.permutation.size S.predecessors_size
 
     work_is : work_in n hi d room m ≡ w
     work_is = ap₂ (λ (a b : List ℕ). work_of hi a d b m) list_is predecessors_is
 
-    hi-below : hi ≤ n
-    hi-below = M.counted.scanning.order.2
+    hi_below : hi ≤ n
+    hi_below = M.counted.scanning.order.2
 
     module _ (go : lo ≢ hi) where
       lo_in : (lo < hi) × (lo < n)
-      lo_in = omega (arith, M.place, hi-below)
+      lo_in = omega (arith, M.place, hi_below)
 
-      pub can-scan : CanScan n costs rows lo hi v d room
-      can-scan = record {
+      pub can_scan : CanScan n costs rows lo hi v d room
+      can_scan = record {
         lent = record {
           small = C.small;
-          prices-size = C.prices-size;
-          rows-size = C.rows-size;
-          distances-size = S.distances-size;
-          room-size = scan_room_long;
+          prices_size = C.prices_size;
+          rows_size = C.rows_size;
+          distances_size = S.distances_size;
+          room_size = scan_room_long;
           listed = subst (Permutation n) (sym list_is) S.permutation;
-          prices-near = C.prices-near;
+          prices_near_lem = C.prices_near_lem;
         };
-        costs-size = C.costs-size;
-        place = (lo_in.1, hi-below);
+        costs_size = C.costs_size;
+        place = (lo_in.1, hi_below);
         taken = subst (λ (l : List ℕ). at rows (at l lo) < n) (sym list_is) (M.counted.scanning.paired lo lo_in.0);
-        minimum-near = distances-near n costs rows start v C w S (at (list_in n room) lo);
+        minimum-near = distances_near n costs rows start v C w S (at (list_in n room) lo);
       }
 
       -- The column at lo is scanned, and then the rest.
@@ -120,7 +120,7 @@ module _ (n : ℕ) (costs : List ℤ) (rows : List ℕ) (start : ℕ) (v : List 
         back : length (list_in n room') ≡ n → length (predecessors_in n room') ≡ n → room' ≡ room_with n (list_in n room') (predecessors_in n room') room₁
         back sl sp =
             R.frame ∙ ap (room_with n (list_in n room') (predecessors_in n room')) M.room_is
-            ∙ room-room n room₁ M.room-size M.list M.predecessors (list_in n room') (predecessors_in n room') S.permutation.size S.predecessors-size sl sp
+            ∙ room_room n room₁ M.room_size M.list M.predecessors (list_in n room') (predecessors_in n room') S.permutation.size S.predecessors_size sl sp
 
         same_row : seen_in r n d' room' (m + 1) ≡ seen (scan_row n cost (signed_at v) (at rows) lo w)
         same_row = R.same m ∙ ap (λ (x : Work). seen (scan_row n cost (signed_at v) (at rows) lo x)) work_is
@@ -129,40 +129,40 @@ module _ (n : ℕ) (costs : List ℤ) (rows : List ℕ) (start : ℕ) (v : List 
         kept = scan_row_counted_or_left n cost (signed_at v) (at rows) start floor C.fair lo₁ M.minimum lo w M.counted lo_in.0
 
       -- The scan goes on, with the block's end e.
-      pub scan-on : {r : ScanEnd} {d' : List ℤ} {room' : List ℕ} (e : ℕ) → r ≡ ends.On e → Scanned n costs v rows lo hi d room r d' room'
+      pub scan_on : {r : ScanEnd} {d' : List ℤ} {room' : List ℕ} (e : ℕ) → r ≡ ends.On e → Scanned n costs v rows lo hi d room r d' room'
           → InScan n costs rows start v d₁ room₁ lo₁ hi₁ m₁ d' room' (lo + 1) e (m + 1)
-      scan-on {r} {d'} {room'} e q R =
+      scan_on {r} {d'} {room'} e q R =
           let x : Work = work_in n e d' room' (m + 1) in
-          let t : scan_row n cost (signed_at v) (at rows) lo w ≡ on x = seen-on n e d' room' (m + 1) (scan_row n cost (signed_at v) (at rows) lo w) (ap (λ (y : ScanEnd). seen_in y n d' room' (m + 1)) (sym q) ∙ same_row R) in
+          let t : scan_row n cost (signed_at v) (at rows) lo w ≡ on x = seen_on n e d' room' (m + 1) (scan_row n cost (signed_at v) (at rows) lo w) (ap (λ (y : ScanEnd). seen_in y n d' room' (m + 1)) (sym q) ∙ same_row R) in
           let D : Counted n cost (signed_at v) (at rows) start floor lo₁ M.minimum (suc lo) x = either_on (rw t at (kept R)) in
-          let g : hi ≤ e = either_on (rw t at (row_grows n cost (signed_at v) (at rows) lo w hi-below)) in
+          let g : hi ≤ e = either_on (rw t at (row_grows n cost (signed_at v) (at rows) lo w hi_below)) in
           record {
-            room-size = M.room-size;
+            room_size = M.room_size;
             list = list_in n room';
             predecessors = predecessors_in n room';
             minimum = M.minimum;
             place = omega (arith, lo_in);
-            room_is = back R D.scanning.sound.permutation.size D.scanning.sound.predecessors-size;
+            room_is = back R D.scanning.sound.permutation.size D.scanning.sound.predecessors_size;
             counted = rw (add-one lo) D;
             same = rw (add-one lo) (ap (λ (y : Turn Work Hit). and_then y (rest (suc lo))) (sym t) ∙ turn);
           }
 
       -- The scan is left at a free column.
-      pub scan-left : {r : ScanEnd} {d' : List ℤ} {room' : List ℕ} (j : ℕ) → r ≡ ends.Hit j → Scanned n costs v rows lo hi d room r d' room'
+      pub scan_left : {r : ScanEnd} {d' : List ℤ} {room' : List ℕ} (j : ℕ) → r ≡ ends.Hit j → Scanned n costs v rows lo hi d room r d' room'
           → (e : ℕ) × (rest lo₁ (work_in n hi₁ d₁ room₁ m₁) ≡ left (record { column = j; work = work_in n e d' room' (m + 1) }))
           × (room' ≡ room_with n (list_in n room') (predecessors_in n room') room₁)
           × (length (list_in n room') ≡ n) × (length (predecessors_in n room') ≡ n)
-      scan-left {r} {d'} {room'} j q R =
+      scan_left {r} {d'} {room'} j q R =
           let h = seen_hit n j d' room' (m + 1) (scan_row n cost (signed_at v) (at rows) lo w) (ap (λ (y : ScanEnd). seen_in y n d' room' (m + 1)) (sym q) ∙ same_row R) in
           let L = either_left (rw h.1 at (kept R)) in
           let P = L.reaches.scanning.sound in (
             h.0,
             sym turn ∙ ap (λ (y : Turn Work Hit). and_then y (rest (suc lo))) h.1,
-            back R P.permutation.size P.predecessors-size,
+            back R P.permutation.size P.predecessors_size,
             P.permutation.size,
-            P.predecessors-size,
+            P.predecessors_size,
           )
 
     -- None is left of the block.
-    pub scan-over : lo ≡ hi → rest lo₁ (work_in n hi₁ d₁ room₁ m₁) ≡ on w
-    scan-over e = sym M.same ∙ scan_done n cost (signed_at v) (at rows) lo w (omega arith)
+    pub scan_over : lo ≡ hi → rest lo₁ (work_in n hi₁ d₁ room₁ m₁) ≡ on w
+    scan_over e = sym M.same ∙ scan_done n cost (signed_at v) (at rows) lo w (omega arith)

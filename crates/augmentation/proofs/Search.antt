@@ -22,9 +22,9 @@ use Rattle.rules.proofs.Augment.{floor_under}
 use Rattle.augmentation.specs.Room.{list_in, predecessors_in, room_with}
 use Rattle.augmentation.specs.Scan.{work_in}
 use Rattle.augmentation.specs.Search.{CanSearch, Started}
-use Rattle.augmentation.proofs.Room.{room_self, room-length, list_of, predecessors_of, list_back, room-room, lent-list}
+use Rattle.augmentation.proofs.Room.{room_self, room_length, list_of, predecessors_of, list_back, room_room, lent_list}
 use Rattle.augmentation.proofs.Loops.{one, either_on, Between, InScan, Leaving}
-use Rattle.augmentation.proofs.ScanLoop.{scan-over}
+use Rattle.augmentation.proofs.ScanLoop.{scan_over}
 
 module _ (n : ℕ) (costs : List ℤ) (rows : List ℕ) (start : ℕ) (v : List ℤ) where
   abbrev cost : ℕ → ℕ → ℤ
@@ -46,13 +46,13 @@ module _ (n : ℕ) (costs : List ℤ) (rows : List ℕ) (start : ℕ) (v : List 
         → length room ≡ n + n + n + n
     started_size room₀ d room S size =
         ap length S.frame
-        ∙ room-length n room₀ size (list_in n room) (predecessors_in n room) (ap (λ (w : Work). length w.list) S.same ∙ length-table n (λ j. j))
+        ∙ room_length n room₀ size (list_in n room) (predecessors_in n room) (ap (λ (w : Work). length w.list) S.same ∙ length-table n (λ j. j))
         (ap (λ (w : Work). length w.predecessors) S.same ∙ length-table n (λ j. start))
 
     pub first-between : (room₀ : List ℕ) (d : List ℤ) (room : List ℕ) → Started n costs start v room₀ d room → length room ≡ n + n + n + n
         → Between n costs rows start v d room d room 0 0
     first-between room₀ d room S size = record {
-      room-size = size;
+      room_size = size;
       list = list_in n room;
       predecessors = predecessors_in n room;
       fuel = n;
@@ -77,16 +77,16 @@ module _ (n : ℕ) (costs : List ℤ) (rows : List ℕ) (start : ℕ) (v : List 
       pub lo_below : lo < n
       lo_below = head_open n cost (signed_at v) (at rows) start floor C.fair C.has-free.column C.has-free.below C.has-free.free w B.head
 
-      pub room-long : length room ≡ n + n + n + n
-      room-long = ap length B.room_is ∙ room-length n room₀ B.room-size B.list B.predecessors sizes B.head.sound.predecessors-size
+      pub room_long_lem : length room ≡ n + n + n + n
+      room_long_lem = ap length B.room_is ∙ room_length n room₀ B.room_size B.list B.predecessors sizes B.head.sound.predecessors_size
 
       pub lent_is : take (n + n - n) (drop n room) ≡ B.list
       lent_is =
-          lent-list n room ∙ ap (list_in n) B.room_is
-          ∙ list_of n room₀ B.room-size B.list B.predecessors sizes B.head.sound.predecessors-size
+          lent_list n room ∙ ap (list_in n) B.room_is
+          ∙ list_of n room₀ B.room_size B.list B.predecessors sizes B.head.sound.predecessors_size
 
-      pub lent-listed : Permutation n (take (n + n - n) (drop n room))
-      lent-listed = subst (Permutation n) (sym lent_is) B.head.sound.permutation
+      pub lent_listed : Permutation n (take (n + n - n) (drop n room))
+      lent_listed = subst (Permutation n) (sym lent_is) B.head.sound.permutation
 
       is_block : IsBlock n d lo B.list n b
       is_block = block_of_minima n d lo B.list B.head.sound.permutation lo_below
@@ -106,29 +106,29 @@ module _ (n : ℕ) (costs : List ℤ) (rows : List ℕ) (start : ℕ) (v : List 
         pub hi_in : (lo < hi) × (hi ≤ n)
         hi_in = omega (arith, he, is_block.order)
 
-        fresh-room : room' ≡ room_with n b.list B.predecessors room₀
-        fresh-room =
+        fresh_room : room' ≡ room_with n b.list B.predecessors room₀
+        fresh_room =
             ap₂ (λ (r l : List ℕ). take n r ++ (l ++ drop (n + n - n) (drop n r))) B.room_is le
-            ∙ list_back n room₀ B.room-size B.list B.predecessors sizes B.head.sound.predecessors-size b.list is_block.permutation.size
+            ∙ list_back n room₀ B.room_size B.list B.predecessors sizes B.head.sound.predecessors_size b.list is_block.permutation.size
 
-        pub fresh-long : length room' ≡ n + n + n + n
-        fresh-long =
-            ap length fresh-room ∙ room-length n room₀ B.room-size b.list B.predecessors is_block.permutation.size B.head.sound.predecessors-size
+        pub fresh_long : length room' ≡ n + n + n + n
+        fresh_long =
+            ap length fresh_room ∙ room_length n room₀ B.room_size b.list B.predecessors is_block.permutation.size B.head.sound.predecessors_size
 
-        fresh-list : list_in n room' ≡ b.list
-        fresh-list =
-            ap (list_in n) fresh-room ∙ list_of n room₀ B.room-size b.list B.predecessors is_block.permutation.size B.head.sound.predecessors-size
+        fresh_list : list_in n room' ≡ b.list
+        fresh_list =
+            ap (list_in n) fresh_room ∙ list_of n room₀ B.room_size b.list B.predecessors is_block.permutation.size B.head.sound.predecessors_size
 
-        fresh-predecessors : predecessors_in n room' ≡ B.predecessors
-        fresh-predecessors =
-            ap (predecessors_in n) fresh-room
-            ∙ predecessors_of n room₀ B.room-size b.list B.predecessors is_block.permutation.size B.head.sound.predecessors-size
+        fresh_predecessors : predecessors_in n room' ≡ B.predecessors
+        fresh_predecessors =
+            ap (predecessors_in n) fresh_room
+            ∙ predecessors_of n room₀ B.room_size b.list B.predecessors is_block.permutation.size B.head.sound.predecessors_size
 
         fresh-lent : take (n + n - n) (drop n room') ≡ b.list
-        fresh-lent = lent-list n room' ∙ fresh-list
+        fresh-lent = lent_list n room' ∙ fresh_list
 
-        pub fresh-listed : Permutation n (take (n + n - n) (drop n room'))
-        fresh-listed = subst (Permutation n) (sym fresh-lent) is_block.permutation
+        pub fresh_listed : Permutation n (take (n + n - n) (drop n room'))
+        fresh_listed = subst (Permutation n) (sym fresh-lent) is_block.permutation
 
         -- One block of the search, and the rest.
         spare : (f : ℕ) → B.fuel ≡ f → (g : ℕ) × (f ≡ suc g)
@@ -162,8 +162,8 @@ module _ (n : ℕ) (costs : List ℤ) (rows : List ℕ) (start : ℕ) (v : List 
           predecessors = B.predecessors;
           end = b.hi;
           hi = b.hi;
-          room-size = B.room-size;
-          room_is = fresh-room;
+          room_size = B.room_size;
+          room_is = fresh_room;
           same = sym turn ∙ ap (λ (t : Turn Work Found). and_then t (blocks fuel_left)) (block_is (At j) e);
         }
 
@@ -174,17 +174,17 @@ module _ (n : ℕ) (costs : List ℤ) (rows : List ℕ) (start : ℕ) (v : List 
 
           -- The scan's work is the fresh block's.
           work_is : work_in n hi d room' m ≡ fresh_block n lo w
-          work_is = ap₂ (λ (l p : List ℕ). work_of hi l d p m) fresh-list fresh-predecessors ∙ ap (λ (h : ℕ). work_of h b.list d B.predecessors m) he
+          work_is = ap₂ (λ (l p : List ℕ). work_of hi l d p m) fresh_list fresh_predecessors ∙ ap (λ (h : ℕ). work_of h b.list d B.predecessors m) he
 
           -- The scan begins.
-          pub first-scan : InScan n costs rows start v d room' lo hi m d room' lo hi m
-          first-scan = record {
-            room-size = fresh-long;
+          pub first_scan : InScan n costs rows start v d room' lo hi m d room' lo hi m
+          first_scan = record {
+            room_size = fresh_long;
             list = list_in n room';
             predecessors = predecessors_in n room';
             minimum = b.minimum;
             place = omega (arith, hi_in);
-            room_is = room_self n room' fresh-long;
+            room_is = room_self n room' fresh_long;
             counted = rw work_is (to_scan n cost (signed_at v) (at rows) start floor w B.head lo_below all_taken);
             same = refl;
           }
@@ -195,23 +195,23 @@ module _ (n : ℕ) (costs : List ℤ) (rows : List ℕ) (start : ℕ) (v : List 
 
           back : (l p r : List ℕ) → length l ≡ n → length p ≡ n → r ≡ room_with n l p room' → r ≡ room_with n l p room₀
           back l p r sl sp e =
-              e ∙ ap (room_with n l p) fresh-room
-              ∙ room-room n room₀ B.room-size b.list B.predecessors l p is_block.permutation.size B.head.sound.predecessors-size sl sp
+              e ∙ ap (room_with n l p) fresh_room
+              ∙ room_room n room₀ B.room_size b.list B.predecessors l p is_block.permutation.size B.head.sound.predecessors_size sl sp
 
           -- The block was scanned to its end: the next one starts there.
           pub next_between : {d'' : List ℤ} {room'' : List ℕ} {lo'' hi'' m'' : ℕ} → InScan n costs rows start v d room' lo hi m d'' room'' lo'' hi'' m'' → lo'' ≡ hi''
               → Between n costs rows start v d₀ room₀ d'' room'' hi'' m'' × (lo < hi'')
           next_between {d''} {room''} {lo''} {hi''} {m''} M e =
               let x : Work = work_of hi'' M.list d'' M.predecessors m'' in
-              let t : search_block n cost (signed_at v) (at rows) w ≡ on x = scan_to (on x) (scan-over n costs rows start v C M e) in
+              let t : search_block n cost (signed_at v) (at rows) w ≡ on x = scan_to (on x) (scan_over n costs rows start v C M e) in
               let H = either_on (rw t at (search_block_grows_or_ends n cost (signed_at v) (at rows) start floor C.fair C.has-free.column C.has-free.below C.has-free.free w B.head)) in (
                 record {
-                  room-size = B.room-size;
+                  room_size = B.room_size;
                   list = M.list;
                   predecessors = M.predecessors;
                   fuel = fuel_left;
                   enough = fuel_enough H.1;
-                  room_is = back M.list M.predecessors room'' H.0.sound.permutation.size H.0.sound.predecessors-size M.room_is;
+                  room_is = back M.list M.predecessors room'' H.0.sound.permutation.size H.0.sound.predecessors_size M.room_is;
                   head = H.0;
                   same = ap (λ (y : Turn Work Found). and_then y (blocks fuel_left)) (sym t) ∙ turn;
                 },
@@ -228,7 +228,7 @@ module _ (n : ℕ) (costs : List ℤ) (rows : List ℕ) (start : ℕ) (v : List 
             predecessors = predecessors_in n room'';
             end = b.hi;
             hi = e;
-            room-size = B.room-size;
+            room_size = B.room_size;
             room_is = back (list_in n room'') (predecessors_in n room'') room'' sl sp r;
             same = sym turn ∙ ap (λ (t : Turn Work Found). and_then t (blocks fuel_left)) (scan_to (left (record { column = j; work = work_in n e d'' room'' m'' })) q);
           }

@@ -20,12 +20,12 @@ open_at j cols rows = record { column = j; pairs = pairs_of cols rows }
 -- The pairs can flip back from column j to row s: the predecessors are rows, the rows have columns, and the flips come to their end.
 pub record CanFlip (n s j : ℕ) (predecessors cols rows : List ℕ) : Type 0 where
   pub small : n ≤ side
-  pub column-below : j < n
-  pub predecessors-size : length predecessors ≡ n
-  pub cols-size : length cols ≡ n
-  pub rows-size : length rows ≡ n
-  pub predecessors-below : (k : ℕ) → k < n → at predecessors k < n
-  pub cols-below : (i : ℕ) → i < n → at cols i < n
+  pub column_below : j < n
+  pub predecessors_size : length predecessors ≡ n
+  pub cols_size : length cols ≡ n
+  pub rows_size : length rows ≡ n
+  pub predecessors_below : (k : ℕ) → k < n → at predecessors k < n
+  pub cols_below : (i : ℕ) → i < n → at cols i < n
   pub whole : Pairs
   pub ends : flips n s predecessors (open_at j cols rows) ≡ left whole
 
@@ -40,15 +40,15 @@ state_of cols rows v scanned = record { pairs = pairs_of cols rows; prices = v; 
 -- Row s can get a column from state x (`Can`: the pairs agree, prices are fair, and the row has no column), and prices are near.
 pub record CanTurn (n : ℕ) (costs : List ℤ) (x : Progress) (s : ℕ) : Type 0 where
   pub can : Can n (square n costs).cost x s
-  pub prices-near : (k : ℕ) → Within near (signed_at x.prices k)
+  pub prices_near_lem : (k : ℕ) → Within near (signed_at x.prices k)
 
 -- The same of row s, with all that is lent for it.
 pub record CanAugmentRow (n : ℕ) (costs : List ℤ) (s : ℕ) (cols rows : List ℕ) (v d : List ℤ) (room : List ℕ) : Type 0 where
   pub small : n ≤ side
-  pub costs-size : length costs ≡ n * n
+  pub costs_size : length costs ≡ n * n
   pub costs-near : (k : ℕ) → Within near (signed_at costs k)
-  pub distances-size : length d ≡ n
-  pub room-size : length room ≡ n + n + n + n
+  pub distances_size : length d ≡ n
+  pub room_size : length room ≡ n + n + n + n
   pub turn : CanTurn n costs (state_of cols rows v 0) s
 
 -- Row s has its column: the pairs and prices are the definition's, and so is the count, from any count on; the free rows and the marks are
@@ -57,20 +57,20 @@ pub record RowAugmented (n : ℕ) (costs : List ℤ) (s : ℕ) (cols₀ rows₀ 
     Type 0 where
   pub same : (scanned : ℕ) → state_of cols rows v (scanned + r) ≡ augment n (square n costs).cost (state_of cols₀ rows₀ v₀ scanned) s
   pub few : r < n
-  pub frees-kept : frees_in n room ≡ frees_in n room₀
-  pub marks-kept : marks_in n room ≡ marks_in n room₀
+  pub frees_kept : frees_in n room ≡ frees_in n room₀
+  pub marks_kept : marks_in n room ≡ marks_in n room₀
 
 -- The first `count` free rows can get their columns: each can, from the state that the rows before it leave.
 pub record CanAugment (n : ℕ) (costs : List ℤ) (count : ℕ) (cols rows : List ℕ) (v d : List ℤ) (room : List ℕ) : Type 0 where
   pub small : n ≤ side
   pub few : count ≤ n
-  pub costs-size : length costs ≡ n * n
+  pub costs_size : length costs ≡ n * n
   pub costs-near : (k : ℕ) → Within near (signed_at costs k)
-  pub cols-size : length cols ≡ n
-  pub rows-size : length rows ≡ n
-  pub prices-size : length v ≡ n
-  pub distances-size : length d ≡ n
-  pub room-size : length room ≡ n + n + n + n
+  pub cols_size : length cols ≡ n
+  pub rows_size : length rows ≡ n
+  pub prices_size : length v ≡ n
+  pub distances_size : length d ≡ n
+  pub room_size : length room ≡ n + n + n + n
   pub turn : (m : ℕ) → m < count
       → CanTurn n costs (augments n (square n costs).cost (frees_in n room) m (state_of cols rows v 0)) (at (frees_in n room) m)
 
@@ -78,5 +78,5 @@ pub record CanAugment (n : ℕ) (costs : List ℤ) (count : ℕ) (cols rows : Li
 pub record Augmented (n : ℕ) (costs : List ℤ) (count : ℕ) (cols₀ rows₀ : List ℕ) (v₀ : List ℤ) (room₀ cols rows : List ℕ) (v : List ℤ) (room : List ℕ)
     (scanned : ℕ) : Type 0 where
   pub same : state_of cols rows v scanned ≡ augmentation n (square n costs).cost (stage_in n cols₀ rows₀ v₀ room₀ count)
-  pub frees-kept : frees_in n room ≡ frees_in n room₀
-  pub marks-kept : marks_in n room ≡ marks_in n room₀
+  pub frees_kept : frees_in n room ≡ frees_in n room₀
+  pub marks_kept : marks_in n room ≡ marks_in n room₀

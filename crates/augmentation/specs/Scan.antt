@@ -52,12 +52,12 @@ seen (left hit) = record {
 -- What lies in lent memory while a search runs: sizes, a list that is a permutation, and prices that are near.
 pub record ScanRoom (n : ℕ) (v : List ℤ) (rows : List ℕ) (d : List ℤ) (room : List ℕ) : Type 0 where
   pub small : n ≤ side
-  pub prices-size : length v ≡ n
-  pub rows-size : length rows ≡ n
-  pub distances-size : length d ≡ n
-  pub room-size : length room ≡ n + n + n + n
+  pub prices_size : length v ≡ n
+  pub rows_size : length rows ≡ n
+  pub distances_size : length d ≡ n
+  pub room_size : length room ≡ n + n + n + n
   pub listed : Permutation n (list_in n room)
-  pub prices-near : (j : ℕ) → Within near (signed_at v j)
+  pub prices_near_lem : (j : ℕ) → Within near (signed_at v j)
 
 -- Row i, whose costs are given, sees the columns from place hi on; `scanned` columns were scanned. The costs of other rows do not
 -- count.

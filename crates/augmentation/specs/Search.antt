@@ -14,11 +14,11 @@ use Rattle.augmentation.specs.Scan.{ScanRoom, work_in}
 pub record CanStart (n : ℕ) (costs : List ℤ) (start : ℕ) (v d : List ℤ) (room : List ℕ) : Type 0 where
   pub small : n ≤ side
   pub start_below : start < n
-  pub costs-size : length costs ≡ n * n
-  pub prices-size : length v ≡ n
-  pub distances-size : length d ≡ n
-  pub room-size : length room ≡ n + n + n + n
-  pub prices-near : (j : ℕ) → Within near (signed_at v j)
+  pub costs_size : length costs ≡ n * n
+  pub prices_size : length v ≡ n
+  pub distances_size : length d ≡ n
+  pub room_size : length room ≡ n + n + n + n
+  pub prices_near_lem : (j : ℕ) → Within near (signed_at v j)
 
 -- A search has started: the columns in their order, each as far as the start row makes it. No column's row is asked.
 pub record Started (n : ℕ) (costs : List ℤ) (start : ℕ) (v : List ℤ) (room₀ : List ℕ) (d : List ℤ) (room : List ℕ) : Type 0 where
@@ -28,7 +28,7 @@ pub record Started (n : ℕ) (costs : List ℤ) (start : ℕ) (v : List ℤ) (ro
 -- The column at place lo has a row, and its distance is within twice near.
 pub record CanScan (n : ℕ) (costs : List ℤ) (rows : List ℕ) (lo hi : ℕ) (v d : List ℤ) (room : List ℕ) : Type 0 where
   pub lent : ScanRoom n v rows d room
-  pub costs-size : length costs ≡ n * n
+  pub costs_size : length costs ≡ n * n
   pub place : (lo < n) × (hi ≤ n)
   pub taken : at rows (at (list_in n room) lo) < n
   pub minimum-near : Within (2 * near) (signed_at d (at (list_in n room) lo))
@@ -40,11 +40,11 @@ ready_at lo list d = record { column = 0; ready = lo; cursor = record { lo = lo;
 -- The first lo columns of a list of n are ready; distances and prices are near.
 pub record CanChange (n lo : ℕ) (list : List ℕ) (d v : List ℤ) : Type 0 where
   pub small : n ≤ side
-  pub ready-below : lo < n
+  pub ready_below : lo < n
   pub listed : Permutation n list
-  pub distances-size : length d ≡ n
-  pub distances-near : (j : ℕ) → Within (2 * near) (signed_at d j)
-  pub prices-near : (j : ℕ) → Within near (signed_at v j)
+  pub distances_size : length d ≡ n
+  pub distances_near : (j : ℕ) → Within (2 * near) (signed_at d j)
+  pub prices_near_lem : (j : ℕ) → Within near (signed_at v j)
 
 -- Some column is free.
 pub record HasFree (n : ℕ) (rows : List ℕ) : Type 0 where
@@ -56,11 +56,11 @@ pub record HasFree (n : ℕ) (rows : List ℕ) : Type 0 where
 pub record CanSearch (n : ℕ) (costs : List ℤ) (rows : List ℕ) (start : ℕ) (v : List ℤ) : Type 0 where
   pub small : n ≤ side
   pub start_below : start < n
-  pub costs-size : length costs ≡ n * n
-  pub prices-size : length v ≡ n
-  pub rows-size : length rows ≡ n
+  pub costs_size : length costs ≡ n * n
+  pub prices_size : length v ≡ n
+  pub rows_size : length rows ≡ n
   pub costs-near : (k : ℕ) → Within near (signed_at costs k)
-  pub prices-near : (j : ℕ) → Within near (signed_at v j)
+  pub prices_near_lem : (j : ℕ) → Within near (signed_at v j)
   pub fair : Fair n (square n costs).cost (signed_at v) (at rows)
   pub has-free : HasFree n rows
 

@@ -23,12 +23,12 @@ use Rattle.lists.proofs.Sums.{sum_cong}
 use Rattle.lists.proofs.BitSets.{clear_iff, bit_none}
 use Rattle.assignment.specs.Pairings.{Night, Pairing, total, Least, signed_at, square}
 use Rattle.assignment.specs.Prices.{Feasible, Tight, SparesNotBelow}
-use Rattle.assignment.proofs.Square.{square-spares}
+use Rattle.assignment.proofs.Square.{square_spares}
 use Rattle.bars.specs.Blocked.{Blocked, filled, barred_row, has, reached_from}
 use Rattle.bars.specs.Barred.{barred, first_barred, bits_above, filled_costs}
 use Rattle.bars.specs.Masks.{columns_mask, shown_rows}
 use Rattle.bars.proofs.FilledCosts.{filled-place, filled_costs_at}
-use Rattle.bars.proofs.Filled.{permitted-total, unbarred-pairing, unbarred-tight, unbarred-least, filled-feasible, filled_blocked, filled_iff}
+use Rattle.bars.proofs.Filled.{permitted_total, unbarred_pairing, unbarred_tight, unbarred-least, filled_feasible, filled_blocked, filled_iff}
 use Rattle.bars.proofs.Masks.{mask_blocked, mask_ones}
 
 -- The first row at a barred place, as code finds it.
@@ -67,18 +67,18 @@ module _ (n : ℕ) (dear : ℤ) (costs : List ℤ) (bars : List ℕ) where
       filled_costs_at n dear costs bars (i * n + j) (omega (arith, mul-le-mul_right n hi))
       ∙ filled-place n dear costs bars i j hj ∙ swapped (bit_of (at bars i) j) dear (signed_at costs (i * n + j))
 
-  pub filled-fair : (us vs : List ℤ) → Feasible filled_square us vs → Feasible (filled dear night) us vs
-  filled-fair us vs fair = record { under = λ i j hi hj a. rw (filled-cost i j hi hj) at (fair.under i j hi hj refl) }
+  pub filled_fair : (us vs : List ℤ) → Feasible filled_square us vs → Feasible (filled dear night) us vs
+  filled_fair us vs fair = record { under = λ i j hi hj a. rw (filled-cost i j hi hj) at (fair.under i j hi hj refl) }
 
   module _ (cols : List ℕ) (p : Pairing filled_square cols) where
-    pub filled-pairing : Pairing (filled dear night) cols
-    filled-pairing = record { size = p.size; inside = p.inside; apart = p.apart; permitted = λ i l. refl }
+    pub filled_pairing : Pairing (filled dear night) cols
+    filled_pairing = record { size = p.size; inside = p.inside; apart = p.apart; permitted = λ i l. refl }
 
-    pub filled-tight : (us vs : List ℤ) → Tight filled_square us vs cols → Tight (filled dear night) us vs cols
-    filled-tight us vs tight = record { met = λ i l. rw (filled-cost i (at cols i) l (p.inside i l)) at (tight.met i l) }
+    pub filled_tight : (us vs : List ℤ) → Tight filled_square us vs cols → Tight (filled dear night) us vs cols
+    filled_tight us vs tight = record { met = λ i l. rw (filled-cost i (at cols i) l (p.inside i l)) at (tight.met i l) }
 
-    filled-spares : (vs : List ℤ) → SparesNotBelow (filled dear night) vs cols
-    filled-spares vs = record { not_below = (square-spares n (filled_costs n dear costs bars) vs cols p).not_below }
+    filled_spares : (vs : List ℤ) → SparesNotBelow (filled dear night) vs cols
+    filled_spares vs = record { not_below = (square_spares n (filled_costs n dear costs bars) vs cols p).not_below }
 
     filled-total : total (filled dear night) cols ≡ total filled_square cols
     filled-total =
@@ -87,46 +87,46 @@ module _ (n : ℕ) (dear : ℤ) (costs : List ℤ) (bars : List ℕ) where
 
     -- No pair is barred: the pairing is one of the night, and prices that are tight on it for the filled costs are so for the night.
     module _ (free : n ≤ first_barred n bars cols) where
-      row-free : n ≤ barred_row night cols
-      row-free = omega (arith, first-barred n costs bars cols)
+      row_free : n ≤ barred_row night cols
+      row_free = omega (arith, first-barred n costs bars cols)
 
-      pub barred-pairing : Pairing night cols
-      barred-pairing = unbarred-pairing night dear cols row-free filled-pairing
+      pub barred_pairing : Pairing night cols
+      barred_pairing = unbarred_pairing night dear cols row_free filled_pairing
 
       pub barred-total : total filled_square cols ≡ total night cols
-      barred-total = sym filled-total ∙ permitted-total night dear cols barred-pairing
+      barred-total = sym filled-total ∙ permitted_total night dear cols barred_pairing
 
-      pub barred-tight : (us vs : List ℤ) → Tight filled_square us vs cols → Tight night us vs cols
-      barred-tight us vs tight = unbarred-tight night dear cols row-free us vs (filled-tight us vs tight)
+      pub barred_tight : (us vs : List ℤ) → Tight filled_square us vs cols → Tight night us vs cols
+      barred_tight us vs tight = unbarred_tight night dear cols row_free us vs (filled_tight us vs tight)
 
   -- Where no pair of a least pairing of the filled costs is barred, no pairing without a barred place costs less.
   pub barred-least : (cols : List ℕ) → Least filled_square cols → n ≤ first_barred n bars cols → Least night cols
-  barred-least cols o free = unbarred-least night dear cols (row-free cols o.pairing free) (record {
-    pairing = filled-pairing cols o.pairing;
+  barred-least cols o free = unbarred-least night dear cols (row_free cols o.pairing free) (record {
+    pairing = filled_pairing cols o.pairing;
     least = λ other q.
         let r : Pairing filled_square other = record { size = q.size; inside = q.inside; apart = q.apart; permitted = λ i l. refl } in
         omega (zlin, filled-total cols o.pairing, filled-total other r, o.least other r);
   })
 
-  pub barred-feasible : (us vs : List ℤ) → Feasible filled_square us vs → Feasible night us vs
-  barred-feasible us vs fair = filled-feasible night dear us vs (filled-fair us vs fair)
+  pub barred_feasible : (us vs : List ℤ) → Feasible filled_square us vs → Feasible night us vs
+  barred_feasible us vs fair = filled_feasible night dear us vs (filled_fair us vs fair)
 
   -- Costs within c, and barred places that cost more than (2n + 1)c. The filled costs are paired, with prices that show it.
   module _ (c : ℕ) (small : (k : ℕ) → k < n * n → Within c (signed_at costs k)) (margin : pos (c + n * (2 * c)) <ℤ dear) (us vs : List ℤ)
       (fair : Feasible filled_square us vs) (cols : List ℕ) (p : Pairing filled_square cols) (tight : Tight filled_square us vs cols) where
-    small-costs : (i j : ℕ) → i < n → j < n → Within c (night.cost i j)
-    small-costs i j hi hj = small (i * n + j) (omega (arith, mul-le-mul_right n hi))
+    small_costs : (i j : ℕ) → i < n → j < n → Within c (night.cost i j)
+    small_costs i j hi hj = small (i * n + j) (omega (arith, mul-le-mul_right n hi))
 
     -- "Refuse with 20 exactly if there is none"
     pub barred_iff : (first_barred n bars cols < n) ↔ ((other : List ℕ) → Pairing night other → ⊥)
     barred_iff =
-        let i = filled_iff night dear us vs (filled-fair us vs fair) cols (filled-pairing cols p) (filled-tight cols p us vs tight) (filled-spares cols p vs) c small-costs margin in
+        let i = filled_iff night dear us vs (filled_fair us vs fair) cols (filled_pairing cols p) (filled_tight cols p us vs tight) (filled_spares cols p vs) c small_costs margin in
         (λ l. i.0 (omega (arith, first-barred n costs bars cols)), λ none. let l = i.1 none in omega (arith, first-barred n costs bars cols))
 
     reached_blocked : first_barred n bars cols < n → Blocked night (has (reached_from night cols (first_barred n bars cols)))
     reached_blocked l =
         subst (λ (i : ℕ). Blocked night (has (reached_from night cols i))) (first-barred n costs bars cols)
-        (filled_blocked night dear us vs (filled-fair us vs fair) cols (filled-pairing cols p) (filled-tight cols p us vs tight) (filled-spares cols p vs) c small-costs margin
+        (filled_blocked night dear us vs (filled_fair us vs fair) cols (filled_pairing cols p) (filled_tight cols p us vs tight) (filled_spares cols p vs) c small_costs margin
         (omega (arith, first-barred n costs bars cols)))
 
     -- "a set of rows whose allowed columns are fewer than the rows"

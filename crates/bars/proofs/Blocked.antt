@@ -15,15 +15,15 @@ use Rattle.lists.proofs.Injections.{sum_injection_le}
 use Rattle.lists.proofs.Counts.{one, one_le, one_least, count-sum, count_cong, some_read, some_make, some_cong}
 use Rattle.lists.proofs.BitSets.{ones_count}
 use Rattle.assignment.specs.Pairings.{Night, Pairing}
-use Rattle.assignment.proofs.Pairings.{pairing-injective}
+use Rattle.assignment.proofs.Pairings.{pairing_injective}
 use Rattle.bars.specs.Blocked.{columns_of, Blocked}
 
 module _ (night : Night) (rows : ℕ → Bool) where
   abbrev columns : ℕ → Bool
   columns j = columns_of night rows j
 
-  pub columns-read : (j : ℕ) → columns j ≡ true → (i : ℕ) × (i < night.row_count) × (rows i ≡ true) × (night.allowed i j ≡ true)
-  columns-read j e =
+  pub columns_read : (j : ℕ) → columns j ≡ true → (i : ℕ) × (i < night.row_count) × (rows i ≡ true) × (night.allowed i j ≡ true)
+  columns_read j e =
       let s = some_read night.row_count (λ i. rows i && night.allowed i j) e in
       let b = (and-eq-true_iff (rows s.0) (night.allowed s.0 j)).0 s.2 in
       (s.0, s.1, b.0, b.1)
@@ -42,7 +42,7 @@ module _ (night : Night) (rows : ℕ → Bool) where
         count-sum night.column_count columns,
         sum_le night.row_count (λ i. one (rows i)) (λ i. one (columns (at cols i)))
             (λ i l. one_le (rows i) (columns (at cols i)) (λ e. columns_make i (at cols i) l e (p.permitted i l))),
-        sum_injection_le night.row_count (at cols) (λ j. pos 0 -ℤ one (columns j)) (pairing-injective night cols p)
+        sum_injection_le night.row_count (at cols) (λ j. pos 0 -ℤ one (columns j)) (pairing_injective night cols p)
             (λ j l. omega (zlin, one_least (columns j))),
         sum_sub night.column_count (λ j. pos 0) (λ j. one (columns j)),
         sum_sub night.row_count (λ i. pos 0) (λ i. one (columns (at cols i))),

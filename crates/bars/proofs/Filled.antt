@@ -22,16 +22,16 @@ use Rattle.ints.proofs.Tests.{not_true_false}
 use Rattle.lists.specs.Sums.{sum}
 use Rattle.lists.specs.Permutations.{at, table}
 use Rattle.lists.proofs.Cases.{or_either}
-use Rattle.lists.proofs.Runs.{upward_keeps, first_holds, first-before}
+use Rattle.lists.proofs.Runs.{upward_keeps, first_holds, first_before}
 use Rattle.lists.proofs.Sums.{sum_cong, sum_le, sum_zero, sum_ones}
 use Rattle.lists.proofs.Tables.{length-table, get_d_table}
 use Rattle.lists.proofs.Injections.{sum_injection}
 use Rattle.lists.proofs.Counts.{one, one_le, one_most, count-sum, but, but-least, sum-but}
 use Rattle.assignment.specs.Pairings.{Night, Pairing, total, Least, signed_at}
 use Rattle.assignment.specs.Prices.{priced, Feasible, Tight, SparesNotBelow}
-use Rattle.assignment.proofs.Pairings.{pairing-injective}
+use Rattle.assignment.proofs.Pairings.{pairing_injective}
 use Rattle.bars.specs.Blocked.{columns_of, Blocked, filled, barred_row, has, grow, reached_from}
-use Rattle.bars.proofs.Blocked.{columns-read, blocked_none}
+use Rattle.bars.proofs.Blocked.{columns_read, blocked_none}
 use Rattle.bars.proofs.Rounds.{Shut, number, grow-at, grow-length, grow_keeps, grows}
 
 module _ (night : Night) (dear : ℤ) where
@@ -39,48 +39,48 @@ module _ (night : Night) (dear : ℤ) where
   m = night.row_count
 
   -- A pairing of the night is one of the filled night, and costs the same there.
-  pub permitted-filled : (cols : List ℕ) → Pairing night cols → Pairing (filled dear night) cols
-  permitted-filled cols p = record { size = p.size; inside = p.inside; apart = p.apart; permitted = λ i l. refl }
+  pub permitted_filled : (cols : List ℕ) → Pairing night cols → Pairing (filled dear night) cols
+  permitted_filled cols p = record { size = p.size; inside = p.inside; apart = p.apart; permitted = λ i l. refl }
 
-  pub permitted-total : (cols : List ℕ) → Pairing night cols → total (filled dear night) cols ≡ total night cols
-  permitted-total cols p =
+  pub permitted_total : (cols : List ℕ) → Pairing night cols → total (filled dear night) cols ≡ total night cols
+  permitted_total cols p =
       sum_cong m (λ i. (filled dear night).cost i (at cols i)) (λ i. night.cost i (at cols i)) (λ i l. rw (p.permitted i l))
 
   -- ---- no pair is barred
 
   module _ (cols : List ℕ) (free : m ≤ barred_row night cols) where
     allowed : (i : ℕ) → i < m → night.allowed i (at cols i) ≡ true
-    allowed i l = not-false (night.allowed i (at cols i)) (first-before (λ k. not (night.allowed k (at cols k))) m i (omega arith))
+    allowed i l = not-false (night.allowed i (at cols i)) (first_before (λ k. not (night.allowed k (at cols k))) m i (omega arith))
 
-    pub unbarred-pairing : Pairing (filled dear night) cols → Pairing night cols
-    unbarred-pairing p = record { size = p.size; inside = p.inside; apart = p.apart; permitted = allowed }
+    pub unbarred_pairing : Pairing (filled dear night) cols → Pairing night cols
+    unbarred_pairing p = record { size = p.size; inside = p.inside; apart = p.apart; permitted = allowed }
 
-    pub unbarred-tight : (us vs : List ℤ) → Tight (filled dear night) us vs cols → Tight night us vs cols
-    unbarred-tight us vs tight = record { met = λ i l. rw (allowed i l) at (tight.met i l) }
+    pub unbarred_tight : (us vs : List ℤ) → Tight (filled dear night) us vs cols → Tight night us vs cols
+    unbarred_tight us vs tight = record { met = λ i l. rw (allowed i l) at (tight.met i l) }
 
     pub unbarred-least : Least (filled dear night) cols → Least night cols
     unbarred-least o =
-        let p = unbarred-pairing o.pairing in
+        let p = unbarred_pairing o.pairing in
         record {
           pairing = p;
           least = λ other q.
-              omega (zlin, permitted-total cols p, permitted-total other q, o.least other (permitted-filled other q));
+              omega (zlin, permitted_total cols p, permitted_total other q, o.least other (permitted_filled other q));
         }
 
   -- ---- a pair is barred
 
   -- Prices that are feasible for the filled night are feasible for the night.
-  pub filled-feasible : (us vs : List ℤ) → Feasible (filled dear night) us vs → Feasible night us vs
-  filled-feasible us vs fair = record { under = λ i j hi hj a. rw a at (fair.under i j hi hj refl) }
+  pub filled_feasible : (us vs : List ℤ) → Feasible (filled dear night) us vs → Feasible night us vs
+  filled_feasible us vs fair = record { under = λ i j hi hj a. rw a at (fair.under i j hi hj refl) }
 
   module _ (us vs : List ℤ) (fair : Feasible (filled dear night) us vs) (cols : List ℕ) (p : Pairing (filled dear night) cols)
       (tight : Tight (filled dear night) us vs cols) (spares : SparesNotBelow (filled dear night) vs cols) (c : ℕ)
       (small : (i j : ℕ) → i < m → j < night.column_count → Within c (night.cost i j)) (margin : pos (c + m * (2 * c)) <ℤ dear) where
     under : (i j : ℕ) → i < m → j < night.column_count → night.allowed i j ≡ true → priced us vs i j ≤ℤ night.cost i j
-    under = (filled-feasible us vs fair).under
+    under = (filled_feasible us vs fair).under
 
-    met-barred : (i : ℕ) → i < m → night.allowed i (at cols i) ≡ false → priced us vs i (at cols i) ≡ dear
-    met-barred i l a = rw a at (tight.met i l)
+    met_barred : (i : ℕ) → i < m → night.allowed i (at cols i) ≡ false → priced us vs i (at cols i) ≡ dear
+    met_barred i l a = rw a at (tight.met i l)
 
     -- At every pair the prices are at least - c.
     not_low : (i : ℕ) → i < m → pos 0 ≤ℤ (priced us vs i (at cols i) +ℤ pos c)
@@ -90,7 +90,7 @@ module _ (night : Night) (dear : ℤ) where
         by true e =
             let met : priced us vs i (at cols i) ≡ night.cost i (at cols i) = rw e at (tight.met i l) in
             omega (zlin, ints.sum (signed_at us i) (signed_at vs (at cols i)), small i (at cols i) l (p.inside i l))
-        by false e = omega (zlin, ints.sum (signed_at us i) (signed_at vs (at cols i)), met-barred i l e)
+        by false e = omega (zlin, ints.sum (signed_at us i) (signed_at vs (at cols i)), met_barred i l e)
 
     -- Over an allowed place and back over the pairing a row's price falls by at most 2c.
     falls : (i k : ℕ) → i < m → k < m → night.allowed i (at cols k) ≡ true → signed_at us i ≤ℤ (signed_at us k +ℤ pos (2 * c))
@@ -133,7 +133,7 @@ module _ (night : Night) (dear : ℤ) where
       round r set R = record {
         size = grow-length night cols set;
         base = grow_keeps night cols set i hi R.base;
-        near = λ k l e. ⊎_elim (λ a. omega (zlin, R.near k l a)) (λ a. from k l (columns-read night (has set) (at cols k) a))
+        near = λ k l e. ⊎_elim (λ a. omega (zlin, R.near k l a)) (λ a. from k l (columns_read night (has set) (at cols k) a))
             (or_either (has set k) (columns_of night (has set) (at cols k)) (sym (grow-at night cols set k l) ∙ e));
         grown = grows night cols set R.size (suc r) R.grown;
       }
@@ -162,8 +162,8 @@ module _ (night : Night) (dear : ℤ) where
       too_dear : (j : ℕ) → j < night.column_count → signed_at vs (at cols i) ≤ℤ signed_at vs j → columns j ≡ false
       too_dear j l h =
           not_true_false (λ e.
-          let s = columns-read night rows j e in
-          omega (zlin, margin, h, reached_ok.near s.0 s.1 s.2, met-barred i hi at-barred, under s.0 j s.1 l s.3, small s.0 j s.1 l))
+          let s = columns_read night rows j e in
+          omega (zlin, margin, h, reached_ok.near s.0 s.1 s.2, met_barred i hi at-barred, under s.0 j s.1 l s.3, small s.0 j s.1 l))
 
       -- So each column allowed to them is that of another row among them.
       pub barred_blocked : Blocked night rows
@@ -173,7 +173,7 @@ module _ (night : Night) (dear : ℤ) where
         where
           used : sum night.column_count (λ j. one (columns j)) ≡ sum m (λ k. one (columns (at cols k)))
           used =
-              sum_injection m (at cols) (λ j. one (columns j)) (pairing-injective (filled dear night) cols p)
+              sum_injection m (at cols) (λ j. one (columns j)) (pairing_injective (filled dear night) cols p)
               (λ j l u. ap one (too_dear j l (spares.not_below i j hi l u)))
 
           others : sum m (λ k. one (columns (at cols k))) ≤ℤ sum m (but i rows)
@@ -196,5 +196,5 @@ module _ (night : Night) (dear : ℤ) where
     pub filled_iff : (barred_row night cols < m) ↔ ((other : List ℕ) → Pairing night other → ⊥)
     filled_iff = (
       λ l. blocked_none night (has (reached_from night cols (barred_row night cols))) (filled_blocked l),
-      λ none. elim (dec_lt (barred_row night cols) m) [ yes l ↦ l | no l ↦ absurd (none cols (unbarred-pairing cols (omega arith) p)) ],
+      λ none. elim (dec_lt (barred_row night cols) m) [ yes l ↦ l | no l ↦ absurd (none cols (unbarred_pairing cols (omega arith) p)) ],
     )

@@ -45,9 +45,9 @@ module _ (n : ℕ) (costs : List ℤ) (bars : List ℕ) where
       step k c e true q = rw q (bit_of-bit_or c (allowed_mask n (at bars k)) j ∙ ap₂ ◌||◌ e (bit_others n (at bars k) j l))
       step k c e false q = rw q (e ∙ sym (or-false (some k test)))
 
-  pub columns-below : ((i : ℕ) → i < n → at bars i < 2 ^ n) → (rows : ℕ) → columns_mask n bars rows < 2 ^ n
+  pub columns_below : ((i : ℕ) → i < n → at bars i < 2 ^ n) → (rows : ℕ) → columns_mask n bars rows < 2 ^ n
   unfolding columns_mask
-  columns-below h rows =
+  columns_below h rows =
       upward_keeps (λ k c. c < 2 ^ n) 0 n (λ i c. cond (bit_of rows i) (bit_or c (allowed_mask n (at bars i))) c) 0 (omega arith) (pow_pos n)
       (λ k c a b e. step k c b e (bit_of rows k))
     where
@@ -58,7 +58,7 @@ module _ (n : ℕ) (costs : List ℤ) (bars : List ℕ) where
   -- Counting ones tells of any set of rows whether its allowed columns are fewer.
   pub ones_iff : ((i : ℕ) → i < n → at bars i < 2 ^ n) → (rows : ℕ) → rows < 2 ^ n
       → (ones (columns_mask n bars rows) < ones rows) ↔ Blocked (barred n costs bars) (bit_of rows)
-  ones_iff clear rows l = blocked_ones (barred n costs bars) rows (columns_mask n bars rows) l (columns-below clear rows) (columns_bits rows)
+  ones_iff clear rows l = blocked_ones (barred n costs bars) rows (columns_mask n bars rows) l (columns_below clear rows) (columns_bits rows)
 
   module _ (cols : List ℕ) where
     -- The rows paired with a column of a set join.

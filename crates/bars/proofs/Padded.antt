@@ -17,7 +17,7 @@ use Rattle.lists.proofs.Sums.{sum_cong}
 use Rattle.assignment.specs.Pairings.{Night, Pairing, Least, total}
 use Rattle.assignment.specs.Prices.{Feasible, Tight, SparesNotBelow}
 use Rattle.assignment.specs.Padded.{padded}
-use Rattle.assignment.proofs.Padded.{padded-feasible, padded-pairing, padded-total, padded-tight, padded-spares, padded-least}
+use Rattle.assignment.proofs.Padded.{padded_feasible, padded_pairing, padded-total, padded_tight, padded_spares, padded-least}
 use Rattle.bars.specs.Barred.{night_of, barred}
 
 module _ (m n : ℕ) (costs : List ℤ) (bars : List ℕ) (filled : length costs ≡ m * n) (fewer : m ≤ n) (clear : (i : ℕ) → m ≤ i → i < n → at bars i ≡ 0) where
@@ -36,40 +36,40 @@ module _ (m n : ℕ) (costs : List ℤ) (bars : List ℕ) (filled : length costs
           let past : m * n ≤ i * n = mul-le-mul_right n (omega arith) in
           rw (le-ltb i m (omega arith)) (get_or-eq_default costs (pos 0) (omega (arith, filled, past)))
 
-  allowed-padded : (i j : ℕ) → i < n → wide.allowed i j ≡ (padded night).allowed i j
-  allowed-padded i j hi = by (dec_lt i m)
+  allowed_padded : (i j : ℕ) → i < n → wide.allowed i j ≡ (padded night).allowed i j
+  allowed_padded i j hi = by (dec_lt i m)
     where
       by : Dec (i < m) → wide.allowed i j ≡ (padded night).allowed i j
       by (yes l) = rw (lt-ltb i m l)
       by (no l) = rw (le-ltb i m (omega arith)) (ap (λ (b : ℕ). not (bit_of b j)) (clear i (omega arith) hi) ∙ ap not (bit_none j))
 
   module _ (us vs : List ℤ) (fair : Feasible wide us vs) where
-    fair-padded : Feasible (padded night) us vs
-    fair-padded = record { under = λ i j hi hj a. rw (cost-padded i j hi hj) at (fair.under i j hi hj (allowed-padded i j hi ∙ a)) }
+    fair_padded : Feasible (padded night) us vs
+    fair_padded = record { under = λ i j hi hj a. rw (cost-padded i j hi hj) at (fair.under i j hi hj (allowed_padded i j hi ∙ a)) }
 
-    pub rows-feasible : Feasible night us vs
-    rows-feasible = padded-feasible night fewer us vs fair-padded
+    pub rows_feasible : Feasible night us vs
+    rows_feasible = padded_feasible night fewer us vs fair_padded
 
     module _ (cols : List ℕ) (p : Pairing wide cols) (tight : Tight wide us vs cols) where
-      pairing-padded : Pairing (padded night) cols
-      pairing-padded = record { size = p.size; inside = p.inside; apart = p.apart; permitted = λ i l. sym (allowed-padded i (at cols i) l) ∙ p.permitted i l }
+      pairing_padded : Pairing (padded night) cols
+      pairing_padded = record { size = p.size; inside = p.inside; apart = p.apart; permitted = λ i l. sym (allowed_padded i (at cols i) l) ∙ p.permitted i l }
 
-      tight-padded : Tight (padded night) us vs cols
-      tight-padded = record { met = λ i l. tight.met i l ∙ cost-padded i (at cols i) l (p.inside i l) }
+      tight_padded : Tight (padded night) us vs cols
+      tight_padded = record { met = λ i l. tight.met i l ∙ cost-padded i (at cols i) l (p.inside i l) }
 
-      pub rows-pairing : Pairing night (take m cols)
-      rows-pairing = padded-pairing night fewer cols pairing-padded
+      pub rows_pairing : Pairing night (take m cols)
+      rows_pairing = padded_pairing night fewer cols pairing_padded
 
-      pub rows-tight : Tight night us vs (take m cols)
-      rows-tight = padded-tight night fewer cols us vs tight-padded
+      pub rows_tight : Tight night us vs (take m cols)
+      rows_tight = padded_tight night fewer cols us vs tight_padded
 
-      pub rows-spares : SparesNotBelow night vs (take m cols)
-      rows-spares = padded-spares night fewer cols us vs fair-padded pairing-padded tight-padded
+      pub rows_spares : SparesNotBelow night vs (take m cols)
+      rows_spares = padded_spares night fewer cols us vs fair_padded pairing_padded tight_padded
 
-      pub rows-least : Least night (take m cols)
-      rows-least = padded-least night fewer cols us vs fair-padded pairing-padded tight-padded
+      pub rows_least : Least night (take m cols)
+      rows_least = padded-least night fewer cols us vs fair_padded pairing_padded tight_padded
 
-      pub rows-total : total wide cols ≡ total night (take m cols)
-      rows-total =
+      pub rows_total : total wide cols ≡ total night (take m cols)
+      rows_total =
           sum_cong n (λ i. wide.cost i (at cols i)) (λ i. (padded night).cost i (at cols i)) (λ i l. cost-padded i (at cols i) l (p.inside i l))
           ∙ padded-total night fewer cols

@@ -21,15 +21,15 @@ use Rattle.bars.specs.Barred.{night_of, barred, bits_above}
 use Rattle.bars.specs.Tests.{barred_most, costs_small, bars_clear, unbarred}
 
 -- Costs with bars are small, and so within K.
-pub barred_most-small : barred_most ≤ K
+pub barred_most_small : barred_most ≤ K
 unfolding barred_most K
-barred_most-small = omega arith
+barred_most_small = omega arith
 
-pub costs-small : (costs : List ℤ) → Passes (costs_small costs) ↔ ((k : ℕ) → k < length costs → Within barred_most (signed_at costs k))
-costs-small costs = costs_in_lem barred_most costs
+pub costs_small_lem : (costs : List ℤ) → Passes (costs_small costs) ↔ ((k : ℕ) → k < length costs → Within barred_most (signed_at costs k))
+costs_small_lem costs = costs_in_lem barred_most costs
 
-pub bars-clear : (n : ℕ) (bars : List ℕ) → Passes (bars_clear n bars) ↔ ((i : ℕ) → i < n → bits_above n (at bars i) ≡ false)
-bars-clear n bars = fails_at_iff _ _ _ _
+pub bars_clear_lem : (n : ℕ) (bars : List ℕ) → Passes (bars_clear n bars) ↔ ((i : ℕ) → i < n → bits_above n (at bars i) ≡ false)
+bars_clear_lem n bars = fails_at_iff _ _ _ _
 
 pub unbarred_iff : (n : ℕ) (costs : List ℤ) (bars cols : List ℕ) → Passes (unbarred n bars cols)
     ↔ ((i : ℕ) → i < n → (barred n costs bars).allowed i (at cols i) ≡ true)

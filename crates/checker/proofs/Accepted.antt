@@ -10,7 +10,7 @@ use Rattle.assignment.specs.Pairings.{square, total}
 use Rattle.matrix.specs.Verdicts.{Passes}
 use Rattle.matrix.specs.declared.Answer.TheVariants.{Total}
 use Rattle.matrix.proofs.Verdicts.{then_iff, totalled_iff}
-use Rattle.matrix.proofs.Passed.{shaped_iff, costs-within, columns-inside}
+use Rattle.matrix.proofs.Passed.{shaped_iff, costs_within_lem, columns_inside_lem}
 use Rattle.checker.specs.Check.{checks, check}
 use Rattle.checker.specs.Proven.{Proven}
 use Rattle.checker.proofs.Tests.{rows_named_lem, price_tests_iff}
@@ -27,11 +27,11 @@ module _ (n : ℕ) (costs : List ℤ) (cols rows : List ℕ) (us vs : List ℤ) 
         let shape = (shaped_iff n costs (length cols) (length rows) (length us) (length vs)).0 t.0 in
         let prices = (price_tests_iff (square n costs) cols us vs shape.long.third_long shape.long.fourth_long).0 p.1 in
         record {
-          sizes = record { small = shape.small; squared = shape.squared; columns-listed = shape.long.first-long; rows-listed = shape.long.second-long };
-          within = (costs-within costs).0 t6.0;
-          named = record { inside = (columns-inside n n cols).0 t6.1; back = (rows_named_lem n cols rows).0 t7.1 };
-          row-prices = prices.0.row-prices;
-          column-prices = prices.0.column-prices;
+          sizes = record { small = shape.small; squared = shape.squared; columns_listed = shape.long.first_long; rows_listed = shape.long.second_long };
+          within = (costs_within_lem costs).0 t6.0;
+          named = record { inside = (columns_inside_lem n n cols).0 t6.1; back = (rows_named_lem n cols rows).0 t7.1 };
+          row_prices = prices.0.row_prices;
+          column_prices = prices.0.column_prices;
           feasible = prices.0.feasible;
           tight = prices.1;
         },
@@ -39,12 +39,12 @@ module _ (n : ℕ) (costs : List ℤ) (cols rows : List ℕ) (us vs : List ℤ) 
         let shape = (shaped_iff n costs (length cols) (length rows) (length us) (length vs)).1 (record {
           small = f.sizes.small;
           squared = f.sizes.squared;
-          long = record { first-long = f.sizes.columns-listed; second-long = f.sizes.rows-listed; third_long = f.row-prices.enough; fourth_long = f.column-prices.enough };
+          long = record { first_long = f.sizes.columns_listed; second_long = f.sizes.rows_listed; third_long = f.row_prices.enough; fourth_long = f.column_prices.enough };
         }) in
-        let t6 = (then_iff _ _).1 ((costs-within costs).1 f.within, (columns-inside n n cols).1 f.named.inside) in
+        let t6 = (then_iff _ _).1 ((costs_within_lem costs).1 f.within, (columns_inside_lem n n cols).1 f.named.inside) in
         let t7 = (then_iff _ _).1 (t6, (rows_named_lem n cols rows).1 f.named.back) in
-        let prices = (price_tests_iff (square n costs) cols us vs f.row-prices.enough f.column-prices.enough).1
-        (record { row-prices = f.row-prices; column-prices = f.column-prices; feasible = f.feasible }, f.tight) in
+        let prices = (price_tests_iff (square n costs) cols us vs f.row_prices.enough f.column_prices.enough).1
+        (record { row_prices = f.row_prices; column_prices = f.column_prices; feasible = f.feasible }, f.tight) in
         (then_iff _ _).1 (shape, (then_iff _ _).1 (t7, prices)),
   )
 

@@ -18,11 +18,11 @@ but_self s test i e = ap (λ (t : Bool). not t && test i) (eq-eqb i s e)
 pub but_other : (s : ℕ) (test : ℕ → Bool) (i : ℕ) → i ≢ s → but s test i ≡ test i
 but_other s test i d = ap (λ (t : Bool). not t && test i) (ne_eqb i s d)
 
-pub but-holds : (s : ℕ) (test : ℕ → Bool) (i : ℕ) → but s test i ≡ true → test i ≡ true
-but-holds s test i e = elim (ℕ_discrete i s) [ yes same ↦ absurd (true≢false (sym e ∙ but_self s test i same)) | no d ↦ sym (but_other s test i d) ∙ e ]
+pub but_holds : (s : ℕ) (test : ℕ → Bool) (i : ℕ) → but s test i ≡ true → test i ≡ true
+but_holds s test i e = elim (ℕ_discrete i s) [ yes same ↦ absurd (true≢false (sym e ∙ but_self s test i same)) | no d ↦ sym (but_other s test i d) ∙ e ]
 
-pub but-clear : (s : ℕ) (test : ℕ → Bool) (n : ℕ) → Clear (but s test) n ↔ ((i : ℕ) → i < n → i ≢ s → test i ≡ false)
-but-clear s test n = (
+pub but_clear : (s : ℕ) (test : ℕ → Bool) (n : ℕ) → Clear (but s test) n ↔ ((i : ℕ) → i < n → i ≢ s → test i ≡ false)
+but_clear s test n = (
   λ clear i l d. sym (but_other s test i d) ∙ clear i l,
   λ h i l. elim (ℕ_discrete i s) [ yes e ↦ but_self s test i e | no d ↦ but_other s test i d ∙ h i l d ],
 )

@@ -12,20 +12,20 @@ use lib.ListN.{length}
 use Rattle.ints.specs.Parts.{Within}
 use Rattle.lists.specs.Permutations.{at}
 use Rattle.lists.specs.Counts.{bit_of}
-use Rattle.lists.proofs.Runs.{first-before}
+use Rattle.lists.proofs.Runs.{first_before}
 use Rattle.assignment.specs.Pairings.{Night, Pairing, square, total, signed_at}
 use Rattle.assignment.specs.Prices.{Feasible, Tight}
 use Rattle.assignment.specs.Padded.{padded}
 use Rattle.assignment.proofs.Square.{square_named_pairing}
-use Rattle.assignment.proofs.Longer.{tight-first, spares-first}
-use Rattle.assignment.proofs.Padded.{padded-feasible, padded-tight, padded-spares}
+use Rattle.assignment.proofs.Longer.{tight_first, spares_first}
+use Rattle.assignment.proofs.Padded.{padded_feasible, padded_tight, padded_spares}
 use Rattle.matrix.specs.Limits.{sheet_side, K}
 use Rattle.matrix.specs.declared.Answer.TheVariants.{Total}
 use Rattle.bars.specs.Barred.{night_of, barred, first_barred, bits_above, filled_costs}
 use Rattle.bars.specs.Tests.{barred_most}
 use Rattle.bars.proofs.Passed.{none_barred_lem}
-use Rattle.bars.proofs.Filled.{filled-feasible}
-use Rattle.bars.proofs.Barred.{filled-cost, filled-fair}
+use Rattle.bars.proofs.Filled.{filled_feasible}
+use Rattle.bars.proofs.Barred.{filled-cost, filled_fair}
 use Rattle.checker.specs.Check.{check_barred, check_oblong}
 use Rattle.checker.specs.Proven.{Prices, Proven}
 use Rattle.checker.proofs.Barred.{accepted_barred_iff}
@@ -39,28 +39,28 @@ module _ (n : ℕ) (dear : ℤ) (costs : List ℤ) (bars : List ℕ) (small : n 
 
   module _ (cols rows : List ℕ) (us vs : List ℤ) (proven : Proven n (filled_costs n dear costs bars) cols rows us vs) (free : n ≤ first_barred n bars cols) where
     allowed : (i : ℕ) → i < n → night.allowed i (at cols i) ≡ true
-    allowed i l = ap not (first-before (λ k. bit_of (at bars k) (at cols k)) n i (lt_of_lt_of_le l free))
+    allowed i l = ap not (first_before (λ k. bit_of (at bars k) (at cols k)) n i (lt_of_lt_of_le l free))
 
     met : Tight night us vs cols
     met = record { met = λ i l. rw (allowed i l) at (proven.tight.met i l ∙ filled-cost n dear costs bars i (at cols i) l (proven.named.inside i l)) }
 
-    pub filled-accepted : check_barred n costs cols rows us vs bars ≡ Total (total night cols)
-    filled-accepted = (accepted_barred_iff n costs bars cols rows us vs).1 (
+    pub filled_accepted : check_barred n costs cols rows us vs bars ≡ Total (total night cols)
+    filled_accepted = (accepted_barred_iff n costs bars cols rows us vs).1 (
       record {
         small = small;
         squared = squared;
-        columns-listed = proven.sizes.columns-listed;
-        rows-listed = proven.sizes.rows-listed;
-        bars-listed = listed;
+        columns_listed = proven.sizes.columns_listed;
+        rows_listed = proven.sizes.rows_listed;
+        bars_listed = listed;
         within = within;
         clear = clear;
         named = record { inside = proven.named.inside; back = proven.named.back };
         permitted = allowed;
       },
       record {
-        row-prices = proven.row-prices;
-        column-prices = proven.column-prices;
-        feasible = filled-feasible night dear us vs (filled-fair n dear costs bars us vs proven.feasible);
+        row_prices = proven.row_prices;
+        column_prices = proven.column_prices;
+        feasible = filled_feasible night dear us vs (filled_fair n dear costs bars us vs proven.feasible);
       },
       met,
       refl,
@@ -68,29 +68,29 @@ module _ (n : ℕ) (dear : ℤ) (costs : List ℤ) (bars : List ℕ) (small : n 
 
 -- The padded night: only its first m rows are listed of what shows it.
 module _ (m n : ℕ) (costs : List ℤ) (small : n ≤ sheet_side) (fits : m ≤ n) (filled : length costs ≡ m * n)
-    (within : (k : ℕ) → k < length costs → Within K (signed_at costs k)) (cols : List ℕ) (us vs : List ℤ) (row-prices : Prices n us) (column-prices : Prices n vs) where
+    (within : (k : ℕ) → k < length costs → Within K (signed_at costs k)) (cols : List ℕ) (us vs : List ℤ) (row_prices : Prices n us) (column_prices : Prices n vs) where
   abbrev oblong : Night
   oblong = night_of m n costs []
 
-  pub padded-accepted : Feasible (padded oblong) us vs → Pairing (padded oblong) cols → Tight (padded oblong) us vs cols
+  pub padded_accepted : Feasible (padded oblong) us vs → Pairing (padded oblong) cols → Tight (padded oblong) us vs cols
       → check_oblong m n costs cols us vs ≡ Total (total oblong cols)
-  padded-accepted fair p tight = (accepted_oblong_iff m n costs cols us vs).1 (
+  padded_accepted fair p tight = (accepted_oblong_iff m n costs cols us vs).1 (
     record {
       small = small;
       fits = fits;
       filled = filled;
-      columns-listed = omega (arith, p.size);
+      columns_listed = omega (arith, p.size);
       within = within;
       inside = λ i l. p.inside i (lt_of_lt_of_le l fits);
       once = λ i k l h e. p.apart i k (lt_of_lt_of_le l fits) (lt_of_lt_of_le h fits) e;
     },
     record {
-      row-prices = record { enough = le_trans fits row-prices.enough; within = λ i l. row-prices.within i (lt_of_lt_of_le l fits) };
-      column-prices = column-prices;
-      feasible = padded-feasible oblong fits us vs fair;
+      row_prices = record { enough = le_trans fits row_prices.enough; within = λ i l. row_prices.within i (lt_of_lt_of_le l fits) };
+      column_prices = column_prices;
+      feasible = padded_feasible oblong fits us vs fair;
     },
-    (tight-first oblong cols us vs).0 (padded-tight oblong fits cols us vs tight),
-    (spares-first oblong cols vs).0 (padded-spares oblong fits cols us vs fair p tight),
+    (tight_first oblong cols us vs).0 (padded_tight oblong fits cols us vs tight),
+    (spares_first oblong cols vs).0 (padded_spares oblong fits cols us vs fair p tight),
     refl,
   )
 
@@ -107,7 +107,7 @@ module _ (m n : ℕ) (costs : List ℤ) (small : n ≤ sheet_side) (fits : m ≤
     pub padded_proven_accepted : check_oblong m n costs cols us vs ≡ Total (total oblong cols)
     padded_proven_accepted =
         let p = square_named_pairing n square-costs cols rows size proven.named in
-        padded-accepted
+        padded_accepted
         (record { under = λ i j l h e. rw (reads i j l h) at (proven.feasible.under i j l h refl) })
         (record { size = p.size; inside = p.inside; apart = p.apart; permitted = λ i l. allowed_all i (at cols i) })
         (record { met = λ i l. proven.tight.met i l ∙ reads i (at cols i) l (p.inside i l) })

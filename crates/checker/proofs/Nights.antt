@@ -18,9 +18,9 @@ pub all_barred : map (checked_barred (1 ∷ 0 ∷ [])) barred_nights ≡ barred_
 unfolding check_barred checks_barred totalled ◌then◌ fails_by fails_at_by first upward turns sum sheet_side barred_most K
 all_barred = refl
 
-pub bars-refused : (checked_barred (1 ∷ 4 ∷ []) past_side ≡ past_side) × (checked_barred (1 ∷ []) bars_short ≡ bars_short) × (checked_barred (0 ∷ 0 ∷ []) none_barred ≡ none_barred)
+pub bars_refused : (checked_barred (1 ∷ 4 ∷ []) past_side ≡ past_side) × (checked_barred (1 ∷ []) bars_short ≡ bars_short) × (checked_barred (0 ∷ 0 ∷ []) none_barred ≡ none_barred)
 unfolding check_barred checks_barred totalled ◌then◌ fails_by fails_at_by first upward turns sum sheet_side barred_most K
-bars-refused = (refl, refl, refl)
+bars_refused = (refl, refl, refl)
 
 pub all_oblong : map checked_oblong oblong_nights ≡ oblong_nights
 unfolding check_oblong checks_oblong totalled ◌then◌ fails_by fails_at_by first upward turns sum sheet_side K

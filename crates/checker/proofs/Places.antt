@@ -24,7 +24,7 @@ use Rattle.lists.specs.Counts.{bit_of}
 use Rattle.lists.proofs.BitSets.{bit_none}
 use Rattle.assignment.specs.Pairings.{signed_at}
 use Rattle.matrix.specs.Limits.{K}
-use Rattle.matrix.proofs.SmallLimits.{K-small}
+use Rattle.matrix.proofs.SmallLimits.{K_small}
 use Rattle.matrix.proofs.First.{first_cong}
 use Rattle.matrix.proofs.RowParts.{row_of_length, row_at}
 use Rattle.bars.specs.Barred.{night_of}
@@ -32,7 +32,7 @@ use Rattle.checker.specs.Tests.{over, differ}
 
 module _ (row column : ℤ) (f : SFits w64 row) (g : SFits w64 column) (near : Within (10 * K) row) (close : Within (10 * K) column) where
   pub sum_fits : SFits w64 (row +ℤ column)
-  sum_fits = omega (zlin, K-small)
+  sum_fits = omega (zlin, K_small)
 
   pub sum-read : to_z w64 (of_z w64 row) +ℤ to_z w64 (of_z w64 column) ≡ row +ℤ column
   sum-read = ap₂ ◌+ℤ◌ (to_z-of_z f) (to_z-of_z g)
@@ -49,8 +49,8 @@ module _ (row column : ℤ) (f : SFits w64 row) (g : SFits w64 column) (near : W
 pub differ_same : (a b : ℤ) → a ≡ b → differ a b ≡ false
 differ_same a b e = rw (le_lt_z a b (omega zarith), le_lt_z b a (omega zarith))
 
-pub differ-apart : (a b : ℤ) → (a ≡ b → ⊥) → differ a b ≡ true
-differ-apart a b apart =
+pub differ_apart : (a b : ℤ) → (a ≡ b → ⊥) → differ a b ≡ true
+differ_apart a b apart =
     ⊎_elim (λ h. rw (lt_lt_z b a (strict h)) (or-true (lt_z a b))) (λ l. rw (lt_lt_z a b l)) (le_or_lt b a)
   where
     strict : b ≤ℤ a → b <ℤ a
@@ -70,7 +70,7 @@ differ_bits {w} a b f g = by (eqb (of_z w a) (of_z w b)) refl
   where
     by : (t : Bool) → eqb (of_z w a) (of_z w b) ≡ t → not (eqb (of_z w a) (of_z w b)) ≡ differ a b
     by true e = ap not e ∙ sym (differ_same a b (bits_injective f g (eqb-true _ _ e)))
-    by false e = ap not e ∙ sym (differ-apart a b (λ same. eqb-false _ _ e (ap (of_z w) same)))
+    by false e = ap not e ∙ sym (differ_apart a b (λ same. eqb-false _ _ e (ap (of_z w) same)))
 
 -- ---- one row of the costs
 

@@ -7,8 +7,8 @@ use Prim.Native.Nat.{ℕ}
 use lib.IntN.{ℤ}
 use lib.ListN.{take}
 use Rattle.assignment.specs.Pairings.{Night, Pairing, Least}
-use Rattle.assignment.proofs.Duality.{prices-least, least_iff}
-use Rattle.assignment.proofs.Longer.{tight-first, spares-first}
+use Rattle.assignment.proofs.Duality.{prices_least, least_iff}
+use Rattle.assignment.proofs.Longer.{tight_first, spares_first}
 use Rattle.matrix.specs.Verdicts.{Passes}
 use Rattle.matrix.specs.Answers.{totalled}
 use Rattle.matrix.specs.declared.Refusal.{Refusal}
@@ -19,25 +19,25 @@ use Rattle.matrix.proofs.Verdicts.{totalled_iff, fails_totalled}
 use Rattle.checker.specs.Proven.{Accepts, Shown}
 
 module _ (night : Night) (us vs : List ℤ) where
-  pub shown-least : (cols : List ℕ) → Shown night cols us vs → Least night (take night.row_count cols)
-  shown-least cols s =
-      prices-least night us vs s.feasible (take night.row_count cols) s.pairing ((tight-first night cols us vs).1 s.tight)
-      ((spares-first night cols vs).1 s.spares)
+  pub shown_least : (cols : List ℕ) → Shown night cols us vs → Least night (take night.row_count cols)
+  shown_least cols s =
+      prices_least night us vs s.feasible (take night.row_count cols) s.pairing ((tight_first night cols us vs).1 s.tight)
+      ((spares_first night cols vs).1 s.spares)
 
   -- With prices that show one pairing held fixed: another is shown exactly if it is least.
   pub shown_iff_least : (cols : List ℕ) → Shown night cols us vs → (other : List ℕ) → Pairing night (take night.row_count other)
       → Shown night other us vs ↔ Least night (take night.row_count other)
   shown_iff_least cols s other p = (
-    shown-least other,
+    shown_least other,
     λ least.
-        let h = (least_iff night us vs s.feasible (take night.row_count cols) s.pairing ((tight-first night cols us vs).1 s.tight) ((spares-first night cols vs).1 s.spares) (take night.row_count other) p).0 least in
-        record { pairing = p; feasible = s.feasible; tight = (tight-first night other us vs).0 h.0; spares = (spares-first night other vs).0 h.1 },
+        let h = (least_iff night us vs s.feasible (take night.row_count cols) s.pairing ((tight_first night cols us vs).1 s.tight) ((spares_first night cols vs).1 s.spares) (take night.row_count other) p).0 least in
+        record { pairing = p; feasible = s.feasible; tight = (tight_first night other us vs).0 h.0; spares = (spares_first night other vs).0 h.1 },
   )
 
   -- What is not least fails, in any hall of tests whose pass shows a pairing.
   pub not_least_fails : (cols : List ℕ) (verdict : Verdict) → (Passes verdict → Shown night cols us vs) → ¬ Least night (take night.row_count cols)
       → (refusal : Refusal) × (verdict ≡ Fails refusal)
-  not_least_fails cols Passed shows not_least = absurd (not_least (shown-least cols (shows refl)))
+  not_least_fails cols Passed shows not_least = absurd (not_least (shown_least cols (shows refl)))
   not_least_fails cols (Fails refusal) shows not_least = (refusal, refl)
 
   -- ---- a checker: an answer that gives a total where a hall of tests is passed, and its refusal where not
@@ -45,7 +45,7 @@ module _ (night : Night) (us vs : List ℤ) where
   module _ (cols : List ℕ) (verdict : Verdict) (total : ℤ) where
     -- A pass shows the pairing: what is accepted is least, and what is not least is refused.
     pub answer-least : (Passes verdict → Shown night cols us vs) → {t : ℤ} → totalled verdict total ≡ Total t → Least night (take night.row_count cols)
-    answer-least shows accepted = shown-least cols (shows ((totalled_iff verdict total).0 accepted).0)
+    answer-least shows accepted = shown_least cols (shows ((totalled_iff verdict total).0 accepted).0)
 
     pub answer-refused : (Passes verdict → Shown night cols us vs) → ¬ Least night (take night.row_count cols) → (refusal : Refusal) × (totalled verdict total ≡ Refused refusal)
     answer-refused shows not_least =

@@ -27,14 +27,14 @@ use Rattle.matrix.specs.declared.Refusal.{Refusal}
 use Rattle.matrix.specs.declared.Answer.TheVariants.{Refused}
 use Rattle.matrix.proofs.Places.{place_in, place-below}
 use Rattle.matrix.proofs.Verdicts.{then_iff, Every, then_every, fails_by_every, fails_at_by_every, refused_every}
-use Rattle.matrix.proofs.Passed.{shaped_iff, costs-within, columns-inside, prices-within}
+use Rattle.matrix.proofs.Passed.{shaped_iff, costs_within_lem, columns_inside_lem, prices_within_lem}
 use Rattle.bars.specs.Barred.{night_of, barred}
-use Rattle.bars.proofs.Passed.{barred_most-small, costs-small, none_barred_lem, unbarred_iff}
+use Rattle.bars.proofs.Passed.{barred_most_small, costs_small_lem, none_barred_lem, unbarred_iff}
 use Rattle.checker.specs.Tests.{slack, over, over_first, over_in, refused_over, under_costs, differ, loose, refused_loose, tight_on}
 use Rattle.checker.specs.Check.{price_tests, checks, check, checks_barred, check_barred, checks_oblong, check_oblong}
 use Rattle.checker.specs.Slacks.{SlackRight}
 use Rattle.checker.proofs.Places.{differ_same}
-use Rattle.checker.proofs.Tests.{under-costs}
+use Rattle.checker.proofs.Tests.{under_costs_lem}
 use Rattle.checker.proofs.Barred.{shaped_barred_iff}
 use Rattle.checker.proofs.Oblong.{shaped_oblong_iff}
 
@@ -80,10 +80,10 @@ Inside night cols = (i : ℕ) → i < night.row_count → (at cols i < night.col
 -- A night whose costs are within K.
 module _ (night : Night) (us vs : List ℤ) (costs : (i j : ℕ) → i < night.row_count → j < night.column_count → Within K (night.cost i j)) where
   -- Past 8 the slack of every place is within 21K.
-  pub slack-within : Passes (prices_within night.row_count night.column_count us vs) → (i j : ℕ) → i < night.row_count → j < night.column_count
+  pub slack_within : Passes (prices_within night.row_count night.column_count us vs) → (i j : ℕ) → i < night.row_count → j < night.column_count
       → Within (21 * K) (slack night us vs i j)
-  slack-within e i j l m =
-      let p = (prices-within night.row_count night.column_count us vs).0 e in
+  slack_within e i j l m =
+      let p = (prices_within_lem night.row_count night.column_count us vs).0 e in
       let c = costs i j l m in
       let u = p.0 i l in
       let v = p.1 j m in
@@ -97,7 +97,7 @@ module _ (night : Night) (us vs : List ℤ) (costs : (i j : ℕ) → i < night.r
       let j = over_first night us vs i in
       let m = ltb-true j night.column_count (holds-in i t) in
       let holds = and_right (night.allowed i j) (lt_z (slack night us vs i j) (pos 0)) (first_holds (over night us vs i) night.column_count m) in
-      nine_right _ (slack night us vs i j) (omega (zarith, holds)) (slack-within e i j l m))
+      nine_right _ (slack night us vs i j) (omega (zarith, holds)) (slack_within e i j l m))
 
   pub loose_slacks : (cols : List ℕ) → Inside night cols → (test : ℕ → Bool) → ((i : ℕ) → test i ≡ true → loose night cols us vs i ≡ true)
       → ((i : ℕ) → i < night.row_count → test i ≡ true → priced us vs i (at cols i) ≤ℤ night.cost i (at cols i))
@@ -106,7 +106,7 @@ module _ (night : Night) (us vs : List ℤ) (costs : (i j : ℕ) → i < night.r
       fails_at_by_every SlackRight _ _ _ _ _ (λ i l t clear.
       let j = at cols i in
       let u = under i l t in
-      ten_right _ (slack night us vs i j) (above (slack night us vs i j) (omega (zarith, dif (night.cost i j) (priced us vs i j), u)) (holds i t)) (slack-within e i j l (inside i l).0))
+      ten_right _ (slack night us vs i j) (above (slack night us vs i j) (omega (zarith, dif (night.cost i j) (priced us vs i j), u)) (holds i t)) (slack_within e i j l (inside i l).0))
 
   nine_slacks : Passes (prices_within night.row_count night.column_count us vs) → Every SlackRight (under_costs night us vs)
   nine_slacks = over_slacks (over_in night us vs) (λ i t. t)
@@ -115,7 +115,7 @@ module _ (night : Night) (us vs : List ℤ) (costs : (i j : ℕ) → i < night.r
       → Every SlackRight (tight_on night cols us vs)
   ten_slacks cols inside e f =
       loose_slacks cols inside (loose night cols us vs) (λ i t. t)
-      (λ i l t. let p = inside i l in ((under-costs night us vs).0 f).under i (at cols i) l p.0 p.1) e
+      (λ i l t. let p = inside i l in ((under_costs_lem night us vs).0 f).under i (at cols i) l p.0 p.1) e
 
   pub prices_slacks : (cols : List ℕ) → Inside night cols → Every SlackRight (price_tests night cols us vs)
   prices_slacks cols inside =
@@ -137,9 +137,9 @@ check_slacks n costs cols rows us vs e =
     let t6 = (then_iff _ _).0 ((then_iff _ _).0 passed).0 in
     let s = (shaped_iff n costs (length cols) (length rows) (length us) (length vs)).0 shape in
     prices_slacks (square n costs) us vs
-    (λ i j l m. (costs-within costs).0 t6.0 _ (omega (arith, place-below n i j l m, s.squared)))
+    (λ i j l m. (costs_within_lem costs).0 t6.0 _ (omega (arith, place-below n i j l m, s.squared)))
     cols
-    (λ i l. ((columns-inside n n cols).0 t6.1 i l, refl)))))
+    (λ i l. ((columns_inside_lem n n cols).0 t6.1 i l, refl)))))
     e
 
 -- So does one of a night with bars.
@@ -160,9 +160,9 @@ check_barred_slacks n costs cols rows us vs bars e =
     let t6 = (then_iff _ _).0 ((then_iff _ _).0 t26.0).0 in
     let s = (shaped_barred_iff n costs (length cols) (length rows) (length us) (length vs) (length bars)).0 t.0 in
     prices_slacks (barred n costs bars) us vs
-    (λ i j l m. within_mono barred_most-small ((costs-small costs).0 ((then_iff _ _).0 t6.0).0 _ (omega (arith, place-below n i j l m, s.1))))
+    (λ i j l m. within_mono barred_most_small ((costs_small_lem costs).0 ((then_iff _ _).0 t6.0).0 _ (omega (arith, place-below n i j l m, s.1))))
     cols
-    (λ i l. ((columns-inside n n cols).0 t6.1 i l, (unbarred_iff n costs bars cols).0 t26.1 i l))))
+    (λ i l. ((columns_inside_lem n n cols).0 t6.1 i l, (unbarred_iff n costs bars cols).0 t26.1 i l))))
     e
 
 -- And one of an oblong night.
@@ -185,8 +185,8 @@ check_oblong_slacks m n costs cols us vs e =
     let t6 = (then_iff _ _).0 ((then_iff _ _).0 t.1).0 in
     let s = (shaped_oblong_iff m n costs (length cols) (length us) (length vs)).0 t.0 in
     prices_slacks (night_of m n costs []) us vs
-    (λ i j l h. (costs-within costs).0 t6.0 _ (omega (arith, place_in m n i j l h, s.2)))
+    (λ i j l h. (costs_within_lem costs).0 t6.0 _ (omega (arith, place_in m n i j l h, s.2)))
     cols
-    (λ i l. ((columns-inside m n cols).0 t6.1 i l, none_barred_lem m n costs i (at cols i)))))
+    (λ i l. ((columns_inside_lem m n cols).0 t6.1 i l, none_barred_lem m n costs i (at cols i)))))
     (λ a. neither_at _ _ _ _ (lit< tt)))
     e

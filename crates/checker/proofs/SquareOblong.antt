@@ -13,7 +13,7 @@ use lib.ListN.{length}
 use Rattle.lists.specs.Runs.{first}
 use Rattle.lists.specs.Permutations.{at, Injective}
 use Rattle.lists.proofs.Injections.{reached}
-use Rattle.lists.proofs.Permutations.{injective-back}
+use Rattle.lists.proofs.Permutations.{injective_back}
 use Rattle.assignment.specs.Pairings.{Night, square, total, Named}
 use Rattle.assignment.specs.Prices.{SparesNotBelow}
 use Rattle.matrix.specs.Limits.{side, sheet_side}
@@ -24,24 +24,24 @@ use Rattle.matrix.specs.Answers.{totalled}
 use Rattle.matrix.specs.declared.Refusal.{Refusal}
 use Rattle.matrix.specs.declared.Verdict.{Verdict}
 use Rattle.matrix.specs.declared.Verdict.TheVariants.{Passed, Fails}
-use Rattle.matrix.proofs.SmallLimits.{sheet_side-within}
+use Rattle.matrix.proofs.SmallLimits.{sheet_side_within}
 use Rattle.matrix.proofs.First.{clear_start, clear_more, found}
 use Rattle.matrix.proofs.Verdicts.{then_iff, then_assoc, fails_then, passed_then, found_at_by}
-use Rattle.matrix.proofs.Passed.{side-within, list-long, lists_long_lem, columns-inside}
+use Rattle.matrix.proofs.Passed.{side_within_lem, list_long_lem, lists_long_lem, columns_inside_lem}
 use Rattle.bars.specs.Barred.{night_of}
 use Rattle.bars.proofs.Passed.{square-unbarred}
-use Rattle.checker.specs.Tests.{rows_named, rows_fit, columns_once, spares_not_below}
+use Rattle.checker.specs.Tests.{rows_named_lem, rows_fit_lem, columns_once, spares_not_below}
 use Rattle.checker.specs.Check.{price_tests, checks, check, shaped_oblong, paired_oblong, checks_oblong, check_oblong}
-use Rattle.checker.proofs.Tests.{rows_named_lem, rows_fit_lem, columns-once, spares_not_below_lem}
+use Rattle.checker.proofs.Tests.{rows_named_lem, rows_fit_lem, columns_once_lem, spares_not_below_lem}
 
 -- A test that is passed changes nothing.
-passed-before : (a b : Verdict) → Passes a → (a then b) ≡ b
-passed-before a b e = sym (passed_then b e refl)
+passed_before : (a b : Verdict) → Passes a → (a then b) ≡ b
+passed_before a b e = sym (passed_then b e refl)
 
-passed-after : (a b : Verdict) → Passes b → (a then b) ≡ a
+passed_after : (a b : Verdict) → Passes b → (a then b) ≡ a
 unfolding ◌then◌
-passed-after Passed b e = e
-passed-after (Fails refusal) b e = refl
+passed_after Passed b e = e
+passed_after (Fails refusal) b e = refl
 
 -- Where list 2 is long enough, 3 is that of the three other lists.
 module _ (n a b c d : ℕ) (rows : n ≤ b) where
@@ -69,22 +69,22 @@ module _ (n a b c d : ℕ) (rows : n ≤ b) where
           ∙ fails_then (list_long 4 n d) (sym (fails_then (list_long 3 n c) (is_short 1 a h)))
       by (no h) (yes k) l =
           let none = clear_more test 1 (clear_more test 0 (clear_start test) (le-ltb a n (omega arith))) (le-ltb b n rows) in
-          let one = (list-long 1 n a).1 (omega arith) in
+          let one = (list_long_lem 1 n a).1 (omega arith) in
           first_short 2 (omega arith) (found test 4 2 (omega arith) none (lt-ltb c n k))
-          ∙ fails_then (list_long 4 n d) (passed-before (list_long 1 n a) (list_long 3 n c) one ∙ is_short 3 c k)
+          ∙ fails_then (list_long 4 n d) (passed_before (list_long 1 n a) (list_long 3 n c) one ∙ is_short 3 c k)
       by (no h) (no k) (yes l) =
           let none = clear_more test 2 (clear_more test 1 (clear_more test 0 (clear_start test) (le-ltb a n (omega arith))) (le-ltb b n rows)) (le-ltb c n (omega arith)) in
-          let two = (then_iff (list_long 1 n a) (list_long 3 n c)).1 ((list-long 1 n a).1 (omega arith), (list-long 3 n c).1 (omega arith)) in
+          let two = (then_iff (list_long 1 n a) (list_long 3 n c)).1 ((list_long_lem 1 n a).1 (omega arith), (list_long_lem 3 n c).1 (omega arith)) in
           first_short 3 (omega arith) (found test 4 3 (omega arith) none (lt-ltb d n l))
-          ∙ sym (passed-before (list_long 1 n a then list_long 3 n c) (list_long 4 n d) two ∙ is_short 4 d l)
+          ∙ sym (passed_before (list_long 1 n a then list_long 3 n c) (list_long 4 n d) two ∙ is_short 4 d l)
       by (no h) (no k) (no l) =
-          let two = (then_iff (list_long 1 n a) (list_long 3 n c)).1 ((list-long 1 n a).1 (omega arith), (list-long 3 n c).1 (omega arith)) in
-          (lists_long_lem n a b c d).1 (record { first-long = omega arith; second-long = rows; third_long = omega arith; fourth_long = omega arith })
-          ∙ sym ((then_iff (list_long 1 n a then list_long 3 n c) (list_long 4 n d)).1 (two, (list-long 4 n d).1 (omega arith)))
+          let two = (then_iff (list_long 1 n a) (list_long 3 n c)).1 ((list_long_lem 1 n a).1 (omega arith), (list_long_lem 3 n c).1 (omega arith)) in
+          (lists_long_lem n a b c d).1 (record { first_long = omega arith; second_long = rows; third_long = omega arith; fourth_long = omega arith })
+          ∙ sym ((then_iff (list_long 1 n a then list_long 3 n c) (list_long 4 n d)).1 (two, (list_long_lem 4 n d).1 (omega arith)))
 
 module _ (n : ℕ) (costs : List ℤ) (cols rows : List ℕ) (us vs : List ℤ) (small : n ≤ sheet_side) (enough : n ≤ length rows) (named : Named (square n costs) cols rows) where
   injective : Injective n n (at cols)
-  injective = injective-back (at cols) (at rows) named.inside named.back
+  injective = injective_back (at cols) (at rows) named.inside named.back
 
   -- No column is spare.
   spares : SparesNotBelow (night_of n n costs []) vs cols
@@ -95,12 +95,12 @@ module _ (n : ℕ) (costs : List ℤ) (cols rows : List ℕ) (us vs : List ℤ) 
 
   shaped-same : shaped_oblong n n costs (length cols) (length us) (length vs) ≡ lists
   shaped-same =
-      let passes = (then_iff (side_within sheet_side n) (rows_fit n n)).1 ((side-within sheet_side n).1 small, (rows_fit_lem n n).1 (le_refl n)) in
-      ap (λ (v : Verdict). v then list_long 1 n (length cols) then list_long 3 n (length us) then list_long 4 n (length vs)) (passed-before _ (costs_fill n n costs) passes)
+      let passes = (then_iff (side_within sheet_side n) (rows_fit_lem n n)).1 ((side_within_lem sheet_side n).1 small, (rows_fit_lem n n).1 (le_refl n)) in
+      ap (λ (v : Verdict). v then list_long 1 n (length cols) then list_long 3 n (length us) then list_long 4 n (length vs)) (passed_before _ (costs_fill n n costs) passes)
 
   square-same : shaped n costs (length cols ∷ length rows ∷ length us ∷ length vs ∷ []) ≡ lists
   square-same =
-      ap₂ ◌then◌ (passed-before (side_within side n) (costs_fill n n costs) ((side-within side n).1 (le_trans small sheet_side-within)))
+      ap₂ ◌then◌ (passed_before (side_within side n) (costs_fill n n costs) ((side_within_lem side n).1 (le_trans small sheet_side_within)))
       (lists_three n (length cols) (length rows) (length us) (length vs) enough)
       ∙ sym (then_assoc (costs_fill n n costs) (list_long 1 n (length cols) then list_long 3 n (length us)) (list_long 4 n (length vs)))
       ∙ ap (λ (v : Verdict). v then list_long 4 n (length vs)) (sym (then_assoc (costs_fill n n costs) (list_long 1 n (length cols)) (list_long 3 n (length us))))
@@ -108,21 +108,21 @@ module _ (n : ℕ) (costs : List ℤ) (cols rows : List ℕ) (us vs : List ℤ) 
   -- 6 and 7 are passed in both.
   paired_same : paired_oblong n n costs cols ≡ costs_within costs
   paired_same =
-      passed-after _ (columns_once n cols) ((columns-once n cols).1 injective.once)
-      ∙ passed-after (costs_within costs) (columns_inside n n cols) ((columns-inside n n cols).1 named.inside)
+      passed_after _ (columns_once n cols) ((columns_once_lem n cols).1 injective.once)
+      ∙ passed_after (costs_within costs) (columns_inside n n cols) ((columns_inside_lem n n cols).1 named.inside)
 
-  named-same : (costs_within costs then columns_inside n n cols then rows_named n cols rows) ≡ costs_within costs
-  named-same =
-      passed-after _ (rows_named n cols rows) ((rows_named_lem n cols rows).1 named.back)
-      ∙ passed-after (costs_within costs) (columns_inside n n cols) ((columns-inside n n cols).1 named.inside)
+  named_same : (costs_within costs then columns_inside n n cols then rows_named_lem n cols rows) ≡ costs_within costs
+  named_same =
+      passed_after _ (rows_named_lem n cols rows) ((rows_named_lem n cols rows).1 named.back)
+      ∙ passed_after (costs_within costs) (columns_inside n n cols) ((columns_inside_lem n n cols).1 named.inside)
 
   checks-same : checks_oblong n n costs cols us vs ≡ checks n costs cols rows us vs
   unfolding checks_oblong checks
   checks-same =
-      passed-after _ (spares_not_below n n cols vs) ((spares_not_below_lem (night_of n n costs []) cols vs).1 spares)
+      passed_after _ (spares_not_below n n cols vs) ((spares_not_below_lem (night_of n n costs []) cols vs).1 spares)
       ∙ ap₂ ◌then◌ (ap₂ ◌then◌ shaped-same paired_same) (ap (λ (night : Night). price_tests night cols us vs) (square-unbarred n costs))
       ∙ then_assoc lists (costs_within costs) (price_tests (square n costs) cols us vs)
-      ∙ sym (ap₂ ◌then◌ square-same (ap (λ (v : Verdict). v then price_tests (square n costs) cols us vs) named-same))
+      ∙ sym (ap₂ ◌then◌ square-same (ap (λ (v : Verdict). v then price_tests (square n costs) cols us vs) named_same))
 
   -- The answers are the same.
   pub square_oblong : check_oblong n n costs cols us vs ≡ check n costs cols rows us vs

@@ -23,14 +23,14 @@ use Rattle.assignment.specs.Prices.{priced, Feasible, Tight, SparesNotBelow}
 use Rattle.matrix.specs.Verdicts.{Passes}
 use Rattle.matrix.proofs.First.{Clear, nowhere, ended}
 use Rattle.matrix.proofs.Verdicts.{then_iff, fails_if_iff, fails_at_by_iff, fails_at_iff}
-use Rattle.matrix.proofs.Passed.{prices-within}
-use Rattle.checker.specs.Tests.{rows_named, slack, over, over_in, under_costs, under_costs_but, loose, tight_on, tight_on_but, rows_fit, used_by, columns_once, spare_below, spares_not_below}
+use Rattle.matrix.proofs.Passed.{prices_within_lem}
+use Rattle.checker.specs.Tests.{rows_named_lem, slack, over, over_in, under_costs, under_costs_but, loose, tight_on, tight_on_but, rows_fit_lem, used_by, columns_once, spare_below, spares_not_below}
 use Rattle.checker.specs.Check.{price_tests}
 use Rattle.checker.specs.Proven.{Fair, FeasibleBut, TightBut}
 use Rattle.checker.proofs.Places.{differ_false, differ_same}
-use Rattle.checker.proofs.But.{but-clear}
+use Rattle.checker.proofs.But.{but_clear}
 
-pub rows_named_lem : (n : ℕ) (cols rows : List ℕ) → Passes (rows_named n cols rows) ↔ ((i : ℕ) → i < n → at rows (at cols i) ≡ i)
+pub rows_named_lem : (n : ℕ) (cols rows : List ℕ) → Passes (rows_named_lem n cols rows) ↔ ((i : ℕ) → i < n → at rows (at cols i) ≡ i)
 rows_named_lem n cols rows =
     let t = fails_at_iff _ _ _ _ in
     (λ e i l. eqb-true (at rows (at cols i)) i (not-false _ (t.0 e i l)), λ h. t.1 (λ i l. ap not (eq-eqb (at rows (at cols i)) i (h i l))))
@@ -71,25 +71,25 @@ module _ (night : Night) (us vs : List ℤ) where
         λ f. row.1 (λ j m. false_and _ _ (λ allowed. let h = f j m allowed in le_lt_z (slack night us vs i j) (pos 0) (omega (zarith, dif (night.cost i j) (priced us vs i j))))),
       )
 
-  row-met : (cols : List ℕ) (i : ℕ) → (loose night cols us vs i ≡ false) ↔ (priced us vs i (at cols i) ≡ night.cost i (at cols i))
-  row-met cols i = (λ e. none _ _ (differ_false _ _ e), λ h. differ_same _ _ (no_slack _ _ h))
+  row_met : (cols : List ℕ) (i : ℕ) → (loose night cols us vs i ≡ false) ↔ (priced us vs i (at cols i) ≡ night.cost i (at cols i))
+  row_met cols i = (λ e. none _ _ (differ_false _ _ e), λ h. differ_same _ _ (no_slack _ _ h))
 
-  pub under-costs : Passes (under_costs night us vs) ↔ Feasible night us vs
-  under-costs =
+  pub under_costs_lem : Passes (under_costs night us vs) ↔ Feasible night us vs
+  under_costs_lem =
       let t = fails_at_by_iff _ _ _ _ _ in
       (λ e. record { under = λ i j l m allowed. (row_under i).0 (t.0 e i l) j m allowed }, λ f. t.1 (λ i l. (row_under i).1 (λ j m allowed. f.under i j l m allowed)))
 
-  pub tight-on : (cols : List ℕ) → Passes (tight_on night cols us vs) ↔ Tight night us vs cols
-  tight-on cols =
+  pub tight_on_lem : (cols : List ℕ) → Passes (tight_on night cols us vs) ↔ Tight night us vs cols
+  tight_on_lem cols =
       let t = fails_at_by_iff _ _ _ _ _ in
-      (λ e. record { met = λ i l. (row-met cols i).0 (t.0 e i l) }, λ h. t.1 (λ i l. (row-met cols i).1 (h.met i l)))
+      (λ e. record { met = λ i l. (row_met cols i).0 (t.0 e i l) }, λ h. t.1 (λ i l. (row_met cols i).1 (h.met i l)))
 
   -- The same, leaving out row s.
   module _ (s : ℕ) where
     pub under_costs_but_lem : Passes (under_costs_but s night us vs) ↔ FeasibleBut s night us vs
     under_costs_but_lem =
         let t = fails_at_by_iff _ _ _ _ _ in
-        let b = but-clear s (over_in night us vs) night.row_count in (
+        let b = but_clear s (over_in night us vs) night.row_count in (
           λ e. record { under = λ i j l d m allowed. (row_under i).0 (b.0 (t.0 e) i l d) j m allowed },
           λ f. t.1 (b.1 (λ i l d. (row_under i).1 (λ j m allowed. f.under i j l d m allowed))),
         )
@@ -97,8 +97,8 @@ module _ (night : Night) (us vs : List ℤ) where
     pub tight_on_but_lem : (cols : List ℕ) → Passes (tight_on_but s night cols us vs) ↔ TightBut s night us vs cols
     tight_on_but_lem cols =
         let t = fails_at_by_iff _ _ _ _ _ in
-        let b = but-clear s (loose night cols us vs) night.row_count in
-        (λ e. record { met = λ i l d. (row-met cols i).0 (b.0 (t.0 e) i l d) }, λ h. t.1 (b.1 (λ i l d. (row-met cols i).1 (h.met i l d))))
+        let b = but_clear s (loose night cols us vs) night.row_count in
+        (λ e. record { met = λ i l d. (row_met cols i).0 (b.0 (t.0 e) i l d) }, λ h. t.1 (b.1 (λ i l d. (row_met cols i).1 (h.met i l d))))
 
 -- 8, 9 and 10 are passed exactly by fair prices that are tight on the pairing.
 pub price_tests_iff : (night : Night) (cols : List ℕ) (us vs : List ℤ) → night.row_count ≤ length us → night.column_count ≤ length vs
@@ -107,23 +107,23 @@ price_tests_iff night cols us vs rows columns = (
   λ e.
       let t10 = (then_iff _ _).0 e in
       let t9 = (then_iff _ _).0 t10.0 in
-      let w = (prices-within night.row_count night.column_count us vs).0 t9.0 in (
+      let w = (prices_within_lem night.row_count night.column_count us vs).0 t9.0 in (
         record {
-          row-prices = record { enough = rows; within = w.0 };
-          column-prices = record { enough = columns; within = w.1 };
-          feasible = (under-costs night us vs).0 t9.1;
+          row_prices = record { enough = rows; within = w.0 };
+          column_prices = record { enough = columns; within = w.1 };
+          feasible = (under_costs_lem night us vs).0 t9.1;
         },
-        (tight-on night us vs cols).0 t10.1,
+        (tight_on_lem night us vs cols).0 t10.1,
       ),
   λ h.
       let f = h.0 in
-      let t9 = (then_iff _ _).1 ((prices-within night.row_count night.column_count us vs).1 (f.row-prices.within, f.column-prices.within), (under-costs night us vs).1 f.feasible) in
-      (then_iff _ _).1 (t9, (tight-on night us vs cols).1 h.1),
+      let t9 = (then_iff _ _).1 ((prices_within_lem night.row_count night.column_count us vs).1 (f.row_prices.within, f.column_prices.within), (under_costs_lem night us vs).1 f.feasible) in
+      (then_iff _ _).1 (t9, (tight_on_lem night us vs cols).1 h.1),
 )
 
 -- ---- an oblong night
 
-pub rows_fit_lem : (m n : ℕ) → Passes (rows_fit m n) ↔ (m ≤ n)
+pub rows_fit_lem : (m n : ℕ) → Passes (rows_fit_lem m n) ↔ (m ≤ n)
 rows_fit_lem m n = let t = fails_if_iff _ _ _ in (λ e. ltb-false n m (t.0 e), λ h. t.1 (le-ltb n m h))
 
 -- A column that one of the rows has, and one that none has.
@@ -133,8 +133,8 @@ used cols count j i l e = some_make count (λ k. eqb (at cols k) j) i l (eq-eqb 
 not_used : (cols : List ℕ) (count j : ℕ) → ((i : ℕ) → i < count → at cols i ≡ j → ⊥) → used_by cols count j ≡ false
 not_used cols count j none = not_true_false (λ t. let s = some_read count (λ k. eqb (at cols k) j) t in none s.0 s.1 (eqb-true (at cols s.0) j s.2))
 
-pub columns-once : (m : ℕ) (cols : List ℕ) → Passes (columns_once m cols) ↔ ((i k : ℕ) → i < m → k < m → at cols i ≡ at cols k → i ≡ k)
-columns-once m cols = (
+pub columns_once_lem : (m : ℕ) (cols : List ℕ) → Passes (columns_once m cols) ↔ ((i k : ℕ) → i < m → k < m → at cols i ≡ at cols k → i ≡ k)
+columns_once_lem m cols = (
   λ e i k l h same. by e i k l h same (dec_lt i k) (dec_lt k i),
   λ once. t.1 (λ i l. not_used cols i (at cols i) (λ k h same. let q = once k i (omega arith) l same in omega arith)),
 )

@@ -6,11 +6,11 @@ use Rattle.checker.specs.Proven.{Prices}
 
 -- The costs of m rows and n columns within the limit, with the prices of the rows and of the columns.
 pub record Priced (m n : ℕ) (costs us vs : List ℤ) : Type 0 where
-  pub rows-small : m ≤ side
+  pub rows_small : m ≤ side
   pub small : n ≤ side
   pub filled : length costs ≡ m * n
-  pub row-prices : Prices m us
-  pub column-prices : Prices n vs
+  pub row_prices : Prices m us
+  pub column_prices : Prices n vs
 
 -- Where a row has bars, a number has a bit for each column.
 abbrev pub BitsFit : ℕ → List ℕ → Type 0

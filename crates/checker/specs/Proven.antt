@@ -18,8 +18,8 @@ Accepts answer = (total : ℤ) × (answer ≡ Total total)
 pub record Sizes (n : ℕ) (costs : List ℤ) (cols rows : List ℕ) : Type 0 where
   pub small : n ≤ side
   pub squared : length costs ≡ n * n
-  pub columns-listed : n ≤ length cols
-  pub rows-listed : n ≤ length rows
+  pub columns_listed : n ≤ length cols
+  pub rows_listed : n ≤ length rows
 
 -- At least n prices, the first n of them in -10K..10K.
 pub record Prices (n : ℕ) (prices : List ℤ) : Type 0 where
@@ -31,8 +31,8 @@ pub record Proven (n : ℕ) (costs : List ℤ) (cols rows : List ℕ) (us vs : L
   pub sizes : Sizes n costs cols rows
   pub within : (k : ℕ) → k < length costs → Within K (signed_at costs k)
   pub named : Named (square n costs) cols rows
-  pub row-prices : Prices n us
-  pub column-prices : Prices n vs
+  pub row_prices : Prices n us
+  pub column_prices : Prices n vs
   pub feasible : Feasible (square n costs) us vs
   pub tight : Tight (square n costs) us vs cols
 
@@ -52,17 +52,17 @@ pub record Shown (night : Night) (cols : List ℕ) (us vs : List ℤ) : Type 0 w
 
 -- For any night: a price for each row and each column, each in -10K..10K, and feasible.
 pub record Fair (night : Night) (us vs : List ℤ) : Type 0 where
-  pub row-prices : Prices night.row_count us
-  pub column-prices : Prices night.column_count vs
+  pub row_prices : Prices night.row_count us
+  pub column_prices : Prices night.column_count vs
   pub feasible : Feasible night us vs
 
 -- A pairing of a night with bars, well-formed: sizes, ranges, names, and no barred pair.
 pub record BarredPaired (n : ℕ) (costs : List ℤ) (bars cols rows : List ℕ) : Type 0 where
   pub small : n ≤ sheet_side
   pub squared : length costs ≡ n * n
-  pub columns-listed : n ≤ length cols
-  pub rows-listed : n ≤ length rows
-  pub bars-listed : n ≤ length bars
+  pub columns_listed : n ≤ length cols
+  pub rows_listed : n ≤ length rows
+  pub bars_listed : n ≤ length bars
   pub within : (k : ℕ) → k < length costs → Within barred_most (signed_at costs k)
   pub clear : (i : ℕ) → i < n → bits_above n (at bars i) ≡ false
   pub named : Named (barred n costs bars) cols rows
@@ -73,7 +73,7 @@ pub record OblongPaired (m n : ℕ) (costs : List ℤ) (cols : List ℕ) : Type 
   pub small : n ≤ sheet_side
   pub fits : m ≤ n
   pub filled : length costs ≡ m * n
-  pub columns-listed : m ≤ length cols
+  pub columns_listed : m ≤ length cols
   pub within : (k : ℕ) → k < length costs → Within K (signed_at costs k)
   pub inside : (i : ℕ) → i < m → at cols i < n
   pub once : (i k : ℕ) → i < m → k < m → at cols i ≡ at cols k → i ≡ k

@@ -19,15 +19,15 @@ numbered (Told pairings) h = tt
 numbered (Refused refusal) h = h refusal refl
 
 -- Where every place is far below 2^48, it is told as it is.
-told-plain : (answer : Seconded) → ((refusal : Refusal) → answer ≡ Refused refusal → Tellable refusal) → seconded_any (second_values answer) ≡ seconded (second_values answer)
-told-plain (Told pairings) h = refl
-told-plain (Refused q) h =
+told_plain : (answer : Seconded) → ((refusal : Refusal) → answer ≡ Refused refusal → Tellable refusal) → seconded_any (second_values answer) ≡ seconded (second_values answer)
+told_plain (Told pairings) h = refl
+told_plain (Refused q) h =
     ap (λ (code : ℕ). let s : Second = record { refusal = code; total = pos 0; slack = slack_of q; also = 0 } in s) (capped_same q (h q refl))
 
 -- An answer and lists that are those of an outcome.
 module _ (o : Outcome) (answer : Seconded) (lent : Lent) (e : told_of (outcome_of answer lent) ≡ told_of o) where
-  pub second-numbered : ((refusal : Refusal) → o.answer ≡ Refused refusal → number_of refusal < 256) → NumberedSecond answer
-  second-numbered h =
+  pub second_numbered : ((refusal : Refusal) → o.answer ≡ Refused refusal → number_of refusal < 256) → NumberedSecond answer
+  second_numbered h =
       subst NumberedSecond (sym (second_values_determine answer o.answer (ap (λ (f : Found). f.values) e))) (numbered o.answer h)
 
   module _ (s : Second) (d : s ≡ seconded_any (second_values answer)) where
@@ -36,6 +36,6 @@ module _ (o : Outcome) (answer : Seconded) (lent : Lent) (e : told_of (outcome_o
         ap₂ (λ (s : Second) (l : Lent). let h : HandedSecond = record { second = s; lent = l } in h)
         (d ∙ ap (λ (f : Found). seconded_any f.values) e) (ap (λ (f : Found). f.lent) e)
 
-    pub second-handed : ((refusal : Refusal) → o.answer ≡ Refused refusal → Tellable refusal) → ◌≡◌ {A = HandedSecond} (record { second = s; lent = lent }) (handed_second o)
-    second-handed h =
-        second_handed_any ∙ ap (λ (s : Second). let h : HandedSecond = record { second = s; lent = o.lent } in h) (told-plain o.answer h)
+    pub second_handed : ((refusal : Refusal) → o.answer ≡ Refused refusal → Tellable refusal) → ◌≡◌ {A = HandedSecond} (record { second = s; lent = lent }) (handed_second o)
+    second_handed h =
+        second_handed_any ∙ ap (λ (s : Second). let h : HandedSecond = record { second = s; lent = o.lent } in h) (told_plain o.answer h)

@@ -15,11 +15,11 @@ pub record Told (w : Width) (z : ℤ) : Type 0 where
   pub downs : down (to_z w (of_z w z)) ≡ down z
   pub size : up z + down z ≤ 2 ^ hbits w
 
-pub told-fits : {w : Width} {z : ℤ} → SFits w z → Told w z
-told-fits {w} {z} h = record { ups = ap up (to_z-of_z h); downs = ap down (to_z-of_z h); size = sfits_read w z h }
+pub told_fits : {w : Width} {z : ℤ} → SFits w z → Told w z
+told_fits {w} {z} h = record { ups = ap up (to_z-of_z h); downs = ap down (to_z-of_z h); size = sfits_read w z h }
 
 pub told : (w : Width) (z : ℤ) → mag z < 2 ^ hbits w → Told w z
-told w z h = told-fits (record { sfits = h })
+told w z h = told_fits (record { sfits = h })
 
 -- For rw: the bits of z, read again, are z.
 pub read_back : (w : Width) (z : ℤ) → mag z < 2 ^ hbits w → to_z w (of_z w z) ≡ z

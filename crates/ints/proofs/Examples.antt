@@ -12,7 +12,7 @@ use Rattle.ints.proofs.Sums.{sum, dif, up_neg, down_neg, exact, at, ◌⊟◌}
 use Rattle.ints.proofs.Ranges.{zarith}
 use Rattle.ints.proofs.Shapes.{zlin}
 use Rattle.ints.proofs.Tests.{le_or_lt}
-use Rattle.ints.proofs.Bits.{told-fits}
+use Rattle.ints.proofs.Bits.{told_fits}
 
 -- ---- orders and equations of numbers alone
 
@@ -68,8 +68,8 @@ greater_of_two a b c h k d f g = ⊎_elim (λ l. omega (zarith, f l)) (λ l. ome
 within_inner_listed : (a b : ℤ) → Within 1000 a → Within 50 b → Within 1050 (a -ℤ b)
 within_inner_listed a b h k = omega (zlin, dif a b)
 
-within-named : (a b d : ℤ) (n m : ℕ) → Within (n + m) a → b ≡ a +ℤ d → Within m d → Within (n + m + m) b
-within-named a b d n m h k l = omega zlin
+within_named : (a b d : ℤ) (n m : ℕ) → Within (n + m) a → b ≡ a +ℤ d → Within m d → Within (n + m + m) b
+within_named a b d n m h k l = omega zlin
 
 within_multiple : (a b : ℤ) (k : ℕ) → Within k a → Within (5 * k) b → Within (6 * k) (a -ℤ b)
 within_multiple a b k h l = omega (zlin, dif a b)
@@ -85,4 +85,4 @@ tests : (a b : ℤ) → lt_z a b ≡ true → le_z b a ≡ true → ⊥
 tests a b h k = omega zarith
 
 bits : (a b : ℤ) → lt_z (to_z w64 (of_z w64 a)) (to_z w64 (of_z w64 b)) ≡ false → SFits w64 a → SFits w64 b → b ≤ℤ a
-bits a b h f g = omega (zarith, told-fits f, told-fits g)
+bits a b h f g = omega (zarith, told_fits f, told_fits g)

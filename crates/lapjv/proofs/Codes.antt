@@ -7,25 +7,25 @@ use lib.IntN.{ℤ}
 use lib.ListN.{length}
 use Rattle.matrix.specs.declared.Verdict.{Verdict}
 use Rattle.matrix.specs.declared.Verdict.TheVariants.{Passed, Fails}
-use Rattle.matrix.proofs.Verdicts.{passed_first, Small, then_small, fails_at-small}
+use Rattle.matrix.proofs.Verdicts.{passed_first, Small, then_small, fails_at_small}
 use Rattle.matrix.proofs.Passed.{shaped_iff}
-use Rattle.matrix.proofs.Codes.{square-small, shaped-small, rooms_small}
+use Rattle.matrix.proofs.Codes.{square_small, shaped_small, rooms_small}
 use Rattle.lapjv.specs.Asked.{TellableSolved}
 use Rattle.lapjv.specs.Solve.{Lent, tested, outcome, solve}
 
-pub tested-small : (n : ℕ) (costs : List ℤ) (lent : Lent) → Small (tested n costs lent)
+pub tested_small : (n : ℕ) (costs : List ℤ) (lent : Lent) → Small (tested n costs lent)
 unfolding tested
-tested-small n costs lent =
+tested_small n costs lent =
     then_small _ _
-    (then_small _ _ (shaped-small n costs (length lent.cols) (length lent.rows) (length lent.prices_of_rows) (length lent.prices_of_columns))
+    (then_small _ _ (shaped_small n costs (length lent.cols) (length lent.rows) (length lent.prices_of_rows) (length lent.prices_of_columns))
     (λ e. rooms_small n (length lent.indices) (length lent.numbers)))
-    (λ e. fails_at-small _ _ _ _ (lit< tt) (λ k l.
+    (λ e. fails_at_small _ _ _ _ (lit< tt) (λ k l.
     let s = (shaped_iff n costs (length lent.cols) (length lent.rows) (length lent.prices_of_rows) (length lent.prices_of_columns)).0 (passed_first _ _ e) in
-    omega (arith, square-small n (length costs) s.small s.squared)))
+    omega (arith, square_small n (length costs) s.small s.squared)))
 
-pub solve-places : (n : ℕ) (costs : List ℤ) (lent : Lent) → TellableSolved (solve n costs lent).answer
+pub solve_places : (n : ℕ) (costs : List ℤ) (lent : Lent) → TellableSolved (solve n costs lent).answer
 unfolding solve outcome
-solve-places n costs lent = by (tested n costs lent) (tested-small n costs lent)
+solve_places n costs lent = by (tested n costs lent) (tested_small n costs lent)
   where
     by : (verdict : Verdict) → Small verdict → TellableSolved (outcome n costs lent verdict).answer
     by Passed h = tt

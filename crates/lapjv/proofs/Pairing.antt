@@ -12,19 +12,19 @@ use Rattle.lists.specs.Permutations.{at}
 use Rattle.assignment.specs.Pairings.{signed_at, square, total}
 use Rattle.matrix.specs.Limits.{K, near}
 use Rattle.matrix.specs.Asked.{Listed}
-use Rattle.matrix.proofs.SmallLimits.{K-small}
+use Rattle.matrix.proofs.SmallLimits.{K_small}
 use Rattle.rules.specs.Columns.{Stage, column_reduction}
 use Rattle.rules.specs.Rows.{pass_end}
 use Rattle.rules.specs.Augmentation.{Progress, augments, augmentation}
 use Rattle.rules.specs.Run.{Result, stages, run, prices_of_rows}
-use Rattle.rules.proofs.Stages.{search-ready}
+use Rattle.rules.proofs.Stages.{search_ready}
 use Rattle.rules.specs.Right.{Right}
 use Rattle.rules.proofs.Run.{run_right}
 use Rattle.augmentation.specs.Augmentation.{CanAugment, CanTurn, Augmented, state_of}
 use Rattle.lapjv.specs.declared.Reduced.{Reduced}
 use Rattle.lapjv.specs.Asked.{CanPrice}
 use Rattle.lapjv.specs.Stages.{Pairable, pass_one, pass_two, ReducedBy, answer_in, PairedBy}
-use Rattle.lapjv.proofs.Ready.{cost, costs-within, side-free, near_five}
+use Rattle.lapjv.proofs.Ready.{cost, costs_within_lem, side-free, near_five}
 use Rattle.lapjv.proofs.Reducing.{two_good}
 
 module _ (n : ℕ) (costs : List ℤ) (p : Pairable n costs) (cols rows : List ℕ) (v : List ℤ) (room : List ℕ) (r : Reduced)
@@ -36,28 +36,28 @@ module _ (n : ℕ) (costs : List ℤ) (p : Pairable n costs) (cols rows : List �
   s = pass_end (pass_two n costs)
 
   -- Search m can be made.
-  can-turn : (m : ℕ) → m < s.count → CanTurn n costs (augments n c s.frees m (state_of s.pairs.cols s.pairs.rows s.prices 0)) (at s.frees m)
-  can-turn m l =
-      let q = search-ready n c p.some K (costs-within n costs p) s (two_good n costs p) m l in
-      record { can = q.can; prices-near = λ k. near_five (q.prices-within k) }
+  can_turn : (m : ℕ) → m < s.count → CanTurn n costs (augments n c s.frees m (state_of s.pairs.cols s.pairs.rows s.prices 0)) (at s.frees m)
+  can_turn m l =
+      let q = search_ready n c p.some K (costs_within_lem n costs p) s (two_good n costs p) m l in
+      record { can = q.can; prices_near_lem = λ k. near_five (q.prices_within_lem k) }
 
-  pub can-augment : (d : List ℤ) → length d ≡ n → CanAugment n costs r.rows_left cols rows v d room
-  can-augment d e =
+  pub can_augment : (d : List ℤ) → length d ≡ n → CanAugment n costs r.rows_left cols rows v d room
+  can_augment d e =
       let G = two_good n costs p in
       record {
         small = p.small;
-        few = subst (λ (x : Stage). x.count ≤ n) (sym R.stage) G.count-few;
-        costs-size = p.squared;
-        costs-near = λ k. within_mono (omega (arith, K-small)) (p.within k);
-        cols-size = ap (λ (x : Stage). length x.pairs.cols) R.stage ∙ G.kept.agree.cols-size;
-        rows-size = ap (λ (x : Stage). length x.pairs.rows) R.stage ∙ G.kept.agree.rows-size;
-        prices-size = ap (λ (x : Stage). length x.prices) R.stage ∙ G.kept.prices-size;
-        distances-size = e;
-        room-size = R.room-size;
+        few = subst (λ (x : Stage). x.count ≤ n) (sym R.stage) G.count_few;
+        costs_size = p.squared;
+        costs-near = λ k. within_mono (omega (arith, K_small)) (p.within k);
+        cols_size = ap (λ (x : Stage). length x.pairs.cols) R.stage ∙ G.kept.agree.cols_size;
+        rows_size = ap (λ (x : Stage). length x.pairs.rows) R.stage ∙ G.kept.agree.rows_size;
+        prices_size = ap (λ (x : Stage). length x.prices) R.stage ∙ G.kept.prices_size;
+        distances_size = e;
+        room_size = R.room_size;
         turn = subst
             (λ (x : Stage). (m : ℕ) → m < x.count
             → CanTurn n costs (augments n c x.frees m (state_of x.pairs.cols x.pairs.rows x.prices 0)) (at x.frees m))
-            (sym R.stage) can-turn;
+            (sym R.stage) can_turn;
       }
 
   -- After the augmentation.
@@ -70,39 +70,39 @@ module _ (n : ℕ) (costs : List ℤ) (p : Pairable n costs) (cols rows : List �
     right : Right n costs K (run n costs)
     right = run_right n costs K p.within (omega (arith, side-free, p.small))
 
-    cols-run : (run n costs).cols ≡ cols'
+    cols_run : (run n costs).cols ≡ cols'
     unfolding run
-    cols-run = sym (ap (λ (x : Progress). x.pairs.cols) last)
+    cols_run = sym (ap (λ (x : Progress). x.pairs.cols) last)
 
-    v-run : (run n costs).prices_of_columns ≡ v'
+    v_run : (run n costs).prices_of_columns ≡ v'
     unfolding run
-    v-run = sym (ap (λ (x : Progress). x.prices) last)
+    v_run = sym (ap (λ (x : Progress). x.prices) last)
 
     pub sizes : (length cols' ≡ n) × (length rows' ≡ n) × (length v' ≡ n)
     unfolding run
     sizes = (
-      ap length (sym cols-run) ∙ right.cols-size,
-      ap (λ (x : Progress). length x.pairs.rows) last ∙ right.rows-size,
-      ap length (sym v-run) ∙ right.column_prices_size,
+      ap length (sym cols_run) ∙ right.cols_size,
+      ap (λ (x : Progress). length x.pairs.rows) last ∙ right.rows_size,
+      ap length (sym v_run) ∙ right.column_prices_size,
     )
 
     inside : (i : ℕ) → i < n → at cols' i < n
-    inside = subst (λ (l : List ℕ). (i : ℕ) → i < n → at l i < n) cols-run right.named.inside
+    inside = subst (λ (l : List ℕ). (i : ℕ) → i < n → at l i < n) cols_run right.named.inside
 
     pub can_price : (us : List ℤ) → length us ≡ n → CanPrice n costs cols' v' us
     can_price us e = record {
       small = p.small;
       squared = p.squared;
-      cols-size = sizes.0;
-      v-size = sizes.2;
-      us-size = e;
+      cols_size = sizes.0;
+      v_size = sizes.2;
+      us_size = e;
       inside = inside;
-      prices-near = subst (λ (l : List ℤ). (j : ℕ) → j < n → Within near (signed_at l j)) v-run
+      prices_near_lem = subst (λ (l : List ℤ). (j : ℕ) → j < n → Within near (signed_at l j)) v_run
           (λ j l. near_five (let b = right.column_prices_between j l in record { low = omega arith; high = omega arith }));
     }
 
-    pub can-total : Listed n costs n cols'
-    can-total = record { small = p.small; squared = p.squared; rows = omega arith; listed = omega (arith, sizes.0); inside = inside }
+    pub can_total : Listed n costs n cols'
+    can_total = record { small = p.small; squared = p.squared; rows = omega arith; listed = omega (arith, sizes.0); inside = inside }
 
     -- The answer, from the last state and the counts of the stages before it.
     abbrev answer_from : ℕ → ℕ → ℕ → ℕ → ℕ → Progress → Result
@@ -133,7 +133,7 @@ module _ (n : ℕ) (costs : List ℤ) (p : Pairable n costs) (cols rows : List �
     paired_by us room'' d' d'' t eu et er el ed dl = record {
       answer =
           ap₂ (λ (x : List ℤ) (y : ℤ). answer_in cols' rows' x v' (record { total = y; counts = (answer_from a b o e f x').counts })) eu et
-          ∙ ap (λ (k : ℕ). answer_from k b o e f x') R.free-rows
+          ∙ ap (λ (k : ℕ). answer_from k b o e f x') R.free_rows
           ∙ ap (λ (k : ℕ). answer_from (column_reduction n c).count k o e f x') R.looks_one
           ∙ ap (λ (k : ℕ). answer_from (column_reduction n c).count (pass_one n costs).pass.looks k e f x') R.left_one
           ∙ ap (λ (k : ℕ). answer_from (column_reduction n c).count (pass_one n costs).pass.looks (pass_one n costs).pass.left k f x') R.looks_two

@@ -41,11 +41,11 @@ module _ (n : ℕ) (costs : List ℤ) (p : Pairable n costs) where
     sized : Sized n (pass_start (stage_at cols rows v (part 0 n room) count))
     sized =
         let P = all_passable in
-        record { cols-size = P.cols-size; rows-size = P.rows-size; prices-size = P.prices-size; frees-size = P.frees-size; left-most = omega arith }
+        record { cols_size = P.cols_size; rows_size = P.rows_size; prices_size = P.prices_size; frees_size = P.frees_size; left_most = omega arith }
 
     -- All rows that rule 3 left can be passed over, or none.
-    pub first-pass : (m : ℕ) → (1 ≤ m → count ≡ m) → Passable n costs cols rows v (part 0 n room) m
-    first-pass m all = elim (dec_le 1 m) [
+    pub first_pass : (m : ℕ) → (1 ≤ m → count ≡ m) → Passable n costs cols rows v (part 0 n room) m
+    first_pass m all = elim (dec_le 1 m) [
       | yes h ↦ subst (Passable n costs cols rows v (part 0 n room)) (all h) all_passable
       | no h ↦ let none : 0 ≡ m = omega arith in
           subst (Passable n costs cols rows v (part 0 n room)) none
@@ -60,11 +60,11 @@ module _ (n : ℕ) (costs : List ℤ) (p : Pairable n costs) where
 
       again : Sized n (pass_start (stage_at cols₁ rows₁ v₁ (part 0 n room₁) 0))
       again = record {
-        cols-size = sized_one.cols-size;
-        rows-size = sized_one.rows-size;
-        prices-size = sized_one.prices-size;
-        frees-size = sized_one.frees-size;
-        left-most = omega arith;
+        cols_size = sized_one.cols_size;
+        rows_size = sized_one.rows_size;
+        prices_size = sized_one.prices_size;
+        frees_size = sized_one.frees_size;
+        left_most = omega arith;
       }
 
       one : count ≡ m₁ → passing_at cols₁ rows₁ v₁ (part 0 n room₁) pass₁ ≡ pass_one n costs
@@ -74,8 +74,8 @@ module _ (n : ℕ) (costs : List ℤ) (p : Pairable n costs) where
       stage_one all = ap pass_end (one all)
 
       -- All rows that the first pass left can be passed over, or none.
-      pub second-pass : (m : ℕ) → (1 ≤ m → (count ≡ m₁) × (pass₁.left ≡ m)) → Passable n costs cols₁ rows₁ v₁ (part 0 n room₁) m
-      second-pass m all = elim (dec_le 1 m) [
+      pub second_pass : (m : ℕ) → (1 ≤ m → (count ≡ m₁) × (pass₁.left ≡ m)) → Passable n costs cols₁ rows₁ v₁ (part 0 n room₁) m
+      second_pass m all = elim (dec_le 1 m) [
         | yes h ↦ subst (Passable n costs cols₁ rows₁ v₁ (part 0 n room₁)) (all h).1
             (passable (pass_end (pass_one n costs)) one_good cols₁ rows₁ v₁ room₁ pass₁.left (stage_one (all h).0))
         | no h ↦ let none : 0 ≡ m = omega arith in
@@ -96,9 +96,9 @@ module _ (n : ℕ) (costs : List ℤ) (p : Pairable n costs) where
             ∙ ap (row_reduction n cost) (stage_one all_one) in
             record {
               stage = ap pass_end two;
-              free-rows = ap (λ (s : Stage). s.count) e;
+              free_rows = ap (λ (s : Stage). s.count) e;
               looks_one = ap (λ (x : Passing). x.pass.looks) (one all_one);
               left_one = ap (λ (x : Passing). x.pass.left) (one all_one);
               looks_two = ap (λ (x : Passing). x.pass.looks) two;
-              room-size = size;
+              room_size = size;
             }

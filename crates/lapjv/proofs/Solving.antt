@@ -33,18 +33,18 @@ front_length m l h = lent_length m 0 m l (sub-zero m) (omega arith)
 module _ (n : ℕ) (costs : List ℤ) (cols rows : List ℕ) (us vs : List ℤ) (indices : List ℕ) (numbers : List ℤ)
     (p : WithinLimits n costs (lent_of cols rows us vs indices numbers)) where
   pub pairable : (n ≡ 0 → ⊥) → Pairable n costs
-  pairable d = record { some = omega arith; small = p.small; squared = p.squared; within = within_everywhere K costs p.costs-within }
+  pairable d = record { some = omega arith; small = p.small; squared = p.squared; within = within_everywhere K costs p.costs_within_lem }
 
   pub sized : Sized n (front n cols) (front n rows) (front n vs) (front (4 * n) indices)
   sized = record {
-    cols-size = front_length n cols p.cols-enough;
-    rows-size = front_length n rows p.rows-enough;
-    prices-size = front_length n vs p.column_prices_enough;
-    room-size = omega (arith, front_length (4 * n) indices p.indices-enough);
+    cols_size = front_length n cols p.cols_enough;
+    rows_size = front_length n rows p.rows_enough;
+    prices_size = front_length n vs p.column_prices_enough;
+    room_size = omega (arith, front_length (4 * n) indices p.indices_enough);
   }
 
   pub others_sized : (length (front n us) ≡ n) × (length (front n numbers) ≡ n)
-  others_sized = (front_length n us p.row_prices_enough, front_length n numbers p.numbers-enough)
+  others_sized = (front_length n us p.row_prices_enough, front_length n numbers p.numbers_enough)
 
   pub solved_by : (cols' rows' : List ℕ) (us' vs' : List ℤ) (room' : List ℕ) (d' : List ℤ) (night : Sums) → PairedBy n costs cols' rows' us' vs' room' d' night
       → outcome_of (Paired night)

@@ -60,7 +60,7 @@ solver_row_surcharge n lent amount costs costs' with-amounts p p' =
     chosen : (l : List ℤ) → WithinLimits n l lent → take n (solve n l lent).lent.cols ≡ (run n l).cols
     chosen l q =
         ap (λ (x : Outcome). take n x.lent.cols) (passes_paired n l lent q)
-        ∙ take_at (run n l).cols (drop n lent.cols) n (run_right_bounded n l room).cols-size
+        ∙ take_at (run n l).cols (drop n lent.cols) n (run_right_bounded n l room).cols_size
 
 -- ---- there are such nights
 
@@ -70,13 +70,13 @@ pub amounts_pass : (n : ℕ) (lent : Lent) (amount : ℕ → ℤ) (costs : List 
 amounts_pass n lent amount costs p within = record {
   small = p.small;
   squared = size;
-  cols-enough = p.cols-enough;
-  rows-enough = p.rows-enough;
+  cols_enough = p.cols_enough;
+  rows_enough = p.rows_enough;
   row_prices_enough = p.row_prices_enough;
   column_prices_enough = p.column_prices_enough;
-  indices-enough = p.indices-enough;
-  numbers-enough = p.numbers-enough;
-  costs-within = λ k l. let m : k < n * n = omega (arith, size) in subst (Within K) (sym (get_d_table (n * n) plus (pos 0) k m)) (within k m);
+  indices_enough = p.indices_enough;
+  numbers_enough = p.numbers_enough;
+  costs_within_lem = λ k l. let m : k < n * n = omega (arith, size) in subst (Within K) (sym (get_d_table (n * n) plus (pos 0) k m)) (within k m);
 }
   where
     plus : ℕ → ℤ
@@ -96,13 +96,13 @@ nothing_passes : (n : ℕ) → n ≤ side → WithinLimits n (nothing n) (room n
 nothing_passes n small = record {
   small = small;
   squared = length-table (n * n) (λ k. pos 0);
-  cols-enough = omega (arith, length-replicate {A = ℕ} n 0);
-  rows-enough = omega (arith, length-replicate {A = ℕ} n 0);
+  cols_enough = omega (arith, length-replicate {A = ℕ} n 0);
+  rows_enough = omega (arith, length-replicate {A = ℕ} n 0);
   row_prices_enough = omega (arith, length-replicate n (pos 0));
   column_prices_enough = omega (arith, length-replicate n (pos 0));
-  indices-enough = omega (arith, length-replicate {A = ℕ} (4 * n) 0);
-  numbers-enough = omega (arith, length-replicate n (pos 0));
-  costs-within = λ k l. subst (Within K) (sym (get_d_constant (n * n) (pos 0) k)) (record { low = omega arith; high = omega arith });
+  indices_enough = omega (arith, length-replicate {A = ℕ} (4 * n) 0);
+  numbers_enough = omega (arith, length-replicate n (pos 0));
+  costs_within_lem = λ k l. subst (Within K) (sym (get_d_constant (n * n) (pos 0) k)) (record { low = omega arith; high = omega arith });
 }
 
 -- At every side within the limit and for any amounts within K: all that `solver_surcharge` asks for.

@@ -9,7 +9,7 @@ use Rattle.matrix.specs.Verdicts as verdicts
 use Rattle.matrix.specs.declared.Refusal.{Refusal}
 use Rattle.matrix.specs.declared.Verdict.TheVariants.{Fails}
 use Rattle.matrix.proofs.Verdicts.{then_iff}
-use Rattle.matrix.proofs.Passed.{shaped_iff, rooms_long_lem, costs-within}
+use Rattle.matrix.proofs.Passed.{shaped_iff, rooms_long_lem, costs_within_lem}
 use Rattle.rules.specs.Run.{run}
 use Rattle.lapjv.specs.Solve.{Lent, tested, outcome, solve, refused, paired}
 use Rattle.lapjv.specs.WithinLimits.{WithinLimits}
@@ -28,21 +28,21 @@ module _ (n : ℕ) (costs : List ℤ) (lent : Lent) where
             record {
               small = s.small;
               squared = s.squared;
-              cols-enough = s.long.first-long;
-              rows-enough = s.long.second-long;
+              cols_enough = s.long.first_long;
+              rows_enough = s.long.second_long;
               row_prices_enough = s.long.third_long;
               column_prices_enough = s.long.fourth_long;
-              indices-enough = r.0;
-              numbers-enough = r.1;
-              costs-within = (costs-within costs).0 (t5.0 e).1;
+              indices_enough = r.0;
+              numbers_enough = r.1;
+              costs_within_lem = (costs_within_lem costs).0 (t5.0 e).1;
             },
         λ p.
             let s = shape.1 (record {
               small = p.small;
               squared = p.squared;
-              long = record { first-long = p.cols-enough; second-long = p.rows-enough; third_long = p.row_prices_enough; fourth_long = p.column_prices_enough };
+              long = record { first_long = p.cols_enough; second_long = p.rows_enough; third_long = p.row_prices_enough; fourth_long = p.column_prices_enough };
             }) in
-            t5.1 (t4.1 (s, rooms.1 (p.indices-enough, p.numbers-enough)), (costs-within costs).1 p.costs-within),
+            t5.1 (t4.1 (s, rooms.1 (p.indices_enough, p.numbers_enough)), (costs_within_lem costs).1 p.costs_within_lem),
       )
 
   -- Such an input is never refused.

@@ -17,8 +17,8 @@ TellableSolved (Refused refusal) = Tellable refusal
 pub record CanPrice (n : ℕ) (costs : List ℤ) (cols : List ℕ) (v us : List ℤ) : Type 0 where
   pub small : n ≤ side
   pub squared : length costs ≡ n * n
-  pub cols-size : length cols ≡ n
-  pub v-size : length v ≡ n
-  pub us-size : length us ≡ n
+  pub cols_size : length cols ≡ n
+  pub v_size : length v ≡ n
+  pub us_size : length us ≡ n
   pub inside : (i : ℕ) → i < n → at cols i < n
-  pub prices-near : (j : ℕ) → j < n → Within near (signed_at v j)
+  pub prices_near_lem : (j : ℕ) → j < n → Within near (signed_at v j)

@@ -20,10 +20,10 @@ pub record Pairable (n : ℕ) (costs : List ℤ) : Type 0 where
 
 -- Lists of n entries, and a room of 4n.
 pub record Sized (n : ℕ) (cols rows : List ℕ) (v : List ℤ) (room : List ℕ) : Type 0 where
-  pub cols-size : length cols ≡ n
-  pub rows-size : length rows ≡ n
-  pub prices-size : length v ≡ n
-  pub room-size : length room ≡ n + n + n + n
+  pub cols_size : length cols ≡ n
+  pub rows_size : length rows ≡ n
+  pub prices_size : length v ≡ n
+  pub room_size : length room ≡ n + n + n + n
 
 -- The first pass of a night, and the second.
 abbrev pub pass_one : ℕ → List ℤ → Passing
@@ -35,11 +35,11 @@ pass_two n costs = row_reduction n (square n costs).cost (pass_end (pass_one n c
 -- Rules 3 and 4 have run: the stage that the second pass leaves, with the counts on the way.
 pub record ReducedBy (n : ℕ) (costs : List ℤ) (cols rows : List ℕ) (v : List ℤ) (room : List ℕ) (r : Reduced) : Type 0 where
   pub stage : stage_at cols rows v (part 0 n room) r.rows_left ≡ pass_end (pass_two n costs)
-  pub free-rows : r.free_rows ≡ (column_reduction n (square n costs).cost).count
+  pub free_rows : r.free_rows ≡ (column_reduction n (square n costs).cost).count
   pub looks_one : r.looks_one ≡ (pass_one n costs).pass.looks
   pub left_one : r.left_one ≡ (pass_one n costs).pass.left
   pub looks_two : r.looks_two ≡ (pass_two n costs).pass.looks
-  pub room-size : length room ≡ n + n + n + n
+  pub room_size : length room ≡ n + n + n + n
 
 -- The answer that lent lists and the total with its counts hold.
 abbrev pub answer_in : List ℕ → List ℕ → List ℤ → List ℤ → Sums → Result

@@ -9,10 +9,10 @@ use Rattle.lapjv.specs.Solve.{Lent}
 pub record WithinLimits (n : ℕ) (costs : List ℤ) (lent : Lent) : Type 0 where
   pub small : n ≤ side
   pub squared : length costs ≡ n * n
-  pub cols-enough : n ≤ length lent.cols
-  pub rows-enough : n ≤ length lent.rows
+  pub cols_enough : n ≤ length lent.cols
+  pub rows_enough : n ≤ length lent.rows
   pub row_prices_enough : n ≤ length lent.prices_of_rows
   pub column_prices_enough : n ≤ length lent.prices_of_columns
-  pub indices-enough : 4 * n ≤ length lent.indices
-  pub numbers-enough : n ≤ length lent.numbers
-  pub costs-within : (k : ℕ) → k < length costs → Within K (signed_at costs k)
+  pub indices_enough : 4 * n ≤ length lent.indices
+  pub numbers_enough : n ≤ length lent.numbers
+  pub costs_within_lem : (k : ℕ) → k < length costs → Within K (signed_at costs k)

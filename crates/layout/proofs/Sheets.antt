@@ -31,25 +31,25 @@ module _ (edition : ℕ) (note : List ℕ) (side : ℕ) (costs : List ℤ) (more
   in_two : sheet ≡ front ++ end
   in_two = simp append_assoc
 
-  pub sheet-length : length sheet ≡ length note + distance + 12
-  sheet-length =
+  pub sheet_length_lem : length sheet ≡ length note + distance + 12
+  sheet_length_lem =
       omega (arith, length-append note (flat_map (signed_bytes 4) costs ++ (more ++ end)), length-append (flat_map (signed_bytes 4) costs) (more ++ end), length-append more end, length_flat_map (signed_bytes 4) 4 (length-signed_bytes 4) costs, length-trailer distance side edition sheet_mark)
 
   pub sheet_distance : distance < 256 ^ 4 → distance_of sheet ≡ distance
   sheet_distance h = ap distance_of in_two ∙ trailers.distance_read front distance side edition sheet_mark refl h
 
-  pub sheet-side : side < 256 ^ 2 → side_of sheet ≡ side
-  sheet-side h = ap side_of in_two ∙ trailers.side-read front distance side edition sheet_mark refl h
+  pub sheet_side_lem : side < 256 ^ 2 → side_of sheet ≡ side
+  sheet_side_lem h = ap side_of in_two ∙ trailers.side-read front distance side edition sheet_mark refl h
 
-  pub sheet-edition : edition < 256 ^ 2 → edition_of sheet ≡ edition
-  sheet-edition h = ap edition_of in_two ∙ trailers.edition-read front distance side edition sheet_mark refl h
+  pub sheet_edition : edition < 256 ^ 2 → edition_of sheet ≡ edition
+  sheet_edition h = ap edition_of in_two ∙ trailers.edition_read front distance side edition sheet_mark refl h
 
-  pub sheet-mark : mark_of sheet ≡ value_of sheet_mark
-  sheet-mark = ap mark_of in_two ∙ trailers.mark-read front distance side edition sheet_mark refl
+  pub sheet_mark_lem : mark_of sheet ≡ value_of sheet_mark
+  sheet_mark_lem = ap mark_of in_two ∙ trailers.mark-read front distance side edition sheet_mark refl
 
-  pub sheet-costs : ((k : ℕ) → k < length costs → mag (get_or costs k (pos 0)) < 256 ^ 4 / 2) → costs_at distance (length costs) sheet ≡ costs
-  sheet-costs fit =
-      let start : length sheet - 12 - distance ≡ length note = omega (arith, sheet-length) in
+  pub sheet_costs : ((k : ℕ) → k < length costs → mag (get_or costs k (pos 0)) < 256 ^ 4 / 2) → costs_at distance (length costs) sheet ≡ costs
+  sheet_costs fit =
+      let start : length sheet - 12 - distance ≡ length note = omega (arith, sheet_length_lem) in
       ap (λ (base : ℕ). fields (signed_value 4) base 4 (length costs) sheet) start
       ∙ fields_flat_map (signed_bytes 4) 4 (length-signed_bytes 4) (signed_value 4) note (length note) costs (length costs) (more ++ end) (pos 0) refl refl
       (λ k l. signed_value-signed_bytes 4 (get_or costs k (pos 0)) (fit k l))
@@ -62,15 +62,15 @@ sheet_row_count edition note side costs m h =
     ∙ row_count_read (note ++ flat_map (signed_bytes 4) costs) m end (length-trailer (4 * length costs + length (bytes_of 2 m)) side edition sheet_mark) h
 
 -- What stands between costs and trailer, if it is a number for each row, is found again.
-pub sheet-bars : (edition : ℕ) (note : List ℕ) (side : ℕ) (costs : List ℤ) (bars : List ℕ) → ((i : ℕ) → i < length bars → get_or bars i 0 < 256 ^ 8)
+pub sheet_bars : (edition : ℕ) (note : List ℕ) (side : ℕ) (costs : List ℤ) (bars : List ℕ) → ((i : ℕ) → i < length bars → get_or bars i 0 < 256 ^ 8)
     → bars_at (length bars) (sheet_with edition note side costs (flat_map (bytes_of 8) bars)) ≡ bars
-sheet-bars edition note side costs bars fit =
+sheet_bars edition note side costs bars fit =
     let more = flat_map (bytes_of 8) bars in
     let size = length_flat_map (bytes_of 8) 8 (length-bytes_of 8) bars in
     let first = note ++ flat_map (signed_bytes 4) costs in
     let end = trailer (4 * length costs + length more) side edition sheet_mark in
     let long : length first ≡ length note + length costs * 4 = omega (arith, length-append note (flat_map (signed_bytes 4) costs), length_flat_map (signed_bytes 4) 4 (length-signed_bytes 4) costs) in
-    let start : length (sheet_with edition note side costs more) - 12 - 8 * length bars ≡ length first = omega (arith, sheet-length edition note side costs more) in
+    let start : length (sheet_with edition note side costs more) - 12 - 8 * length bars ≡ length first = omega (arith, sheet_length_lem edition note side costs more) in
     ap₂ (λ (base : ℕ) (bytes : List ℕ). fields value_of base 8 (length bars) bytes) start (sym (append_assoc note (flat_map (signed_bytes 4) costs) (more ++ end)))
     ∙ fields_flat_map (bytes_of 8) 8 (length-bytes_of 8) value_of first (length first) bars (length bars) end 0 refl refl
     (λ i l. value_bytes_of 8 (get_or bars i 0) (fit i l))

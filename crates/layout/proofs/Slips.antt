@@ -20,8 +20,8 @@ module _ (m n : ℕ) (cols : List ℕ) (prices_of_rows prices_of_columns : List 
   abbrev first_part : List ℕ
   first_part = flat_map (bytes_of 2) cols
 
-  abbrev second-part : List ℕ
-  second-part = flat_map (signed_bytes 8) prices_of_rows
+  abbrev second_part : List ℕ
+  second_part = flat_map (signed_bytes 8) prices_of_rows
 
   abbrev third_part : List ℕ
   third_part = flat_map (signed_bytes 8) prices_of_columns
@@ -33,47 +33,47 @@ module _ (m n : ℕ) (cols : List ℕ) (prices_of_rows prices_of_columns : List 
     length-first : length first_part ≡ 2 * m
     length-first = omega (arith, length_flat_map (bytes_of 2) 2 (length-bytes_of 2) cols)
 
-    length-second : length (first_part ++ second-part) ≡ 10 * m
-    length-second =
-        omega (arith, length-append first_part second-part, length-first, length_flat_map (signed_bytes 8) 8 (length-signed_bytes 8) prices_of_rows)
+    length_second : length (first_part ++ second_part) ≡ 10 * m
+    length_second =
+        omega (arith, length-append first_part second_part, length-first, length_flat_map (signed_bytes 8) 8 (length-signed_bytes 8) prices_of_rows)
 
-    length_third : length ((first_part ++ second-part) ++ third_part) ≡ 10 * m + 8 * n
+    length_third : length ((first_part ++ second_part) ++ third_part) ≡ 10 * m + 8 * n
     length_third =
-        omega (arith, length-append (first_part ++ second-part) third_part, length-second, length_flat_map (signed_bytes 8) 8 (length-signed_bytes 8) prices_of_columns)
+        omega (arith, length-append (first_part ++ second_part) third_part, length_second, length_flat_map (signed_bytes 8) 8 (length-signed_bytes 8) prices_of_columns)
 
     pub length_body : length body ≡ body_length m n
     length_body =
-        let parted : body ≡ ((first_part ++ second-part) ++ third_part) ++ signed_bytes 8 total = simp append_assoc in
-        ap length parted ∙ omega (arith, length-append ((first_part ++ second-part) ++ third_part) (signed_bytes 8 total), length_third, length-signed_bytes 8 total)
+        let parted : body ≡ ((first_part ++ second_part) ++ third_part) ++ signed_bytes 8 total = simp append_assoc in
+        ap length parted ∙ omega (arith, length-append ((first_part ++ second_part) ++ third_part) (signed_bytes 8 total), length_third, length-signed_bytes 8 total)
 
   module _ (h : Held m n cols prices_of_rows prices_of_columns total) (rest : List ℕ) where
-    pub slip-columns : slip_columns m (body ++ rest) ≡ cols
-    slip-columns =
-        ap (slip_columns m) (append_assoc first_part (second-part ++ (third_part ++ signed_bytes 8 total)) rest)
+    pub slip_columns_lem : slip_columns m (body ++ rest) ≡ cols
+    slip_columns_lem =
+        ap (slip_columns m) (append_assoc first_part (second_part ++ (third_part ++ signed_bytes 8 total)) rest)
         ∙ fields_flat_map (bytes_of 2) 2 (length-bytes_of 2) value_of [] 0 cols m _ 0 refl h.columns
         (λ i l. value_bytes_of 2 (at cols i) (h.column_fits i l))
 
     pub slip_row_prices_lem : slip_row_prices m (body ++ rest) ≡ prices_of_rows
     slip_row_prices_lem =
-        let parted : body ++ rest ≡ first_part ++ (second-part ++ ((third_part ++ signed_bytes 8 total) ++ rest)) = simp append_assoc in
+        let parted : body ++ rest ≡ first_part ++ (second_part ++ ((third_part ++ signed_bytes 8 total) ++ rest)) = simp append_assoc in
         ap (slip_row_prices m) parted
         ∙ fields_flat_map (signed_bytes 8) 8 (length-signed_bytes 8) (signed_value 8) first_part (2 * m) prices_of_rows m _ (pos 0) (length-first h.columns h.rows h.prices) h.rows
         (λ i l. signed_value-signed_bytes 8 (get_or prices_of_rows i (pos 0)) (h.row_price_fits i l))
 
     pub slip_column_prices_lem : slip_column_prices m n (body ++ rest) ≡ prices_of_columns
     slip_column_prices_lem =
-        let parted : body ++ rest ≡ (first_part ++ second-part) ++ (third_part ++ (signed_bytes 8 total ++ rest)) = simp append_assoc in
+        let parted : body ++ rest ≡ (first_part ++ second_part) ++ (third_part ++ (signed_bytes 8 total ++ rest)) = simp append_assoc in
         ap (slip_column_prices m n) parted
-        ∙ fields_flat_map (signed_bytes 8) 8 (length-signed_bytes 8) (signed_value 8) (first_part ++ second-part) (10 * m) prices_of_columns n _ (pos 0) (length-second h.columns h.rows h.prices) h.prices
+        ∙ fields_flat_map (signed_bytes 8) 8 (length-signed_bytes 8) (signed_value 8) (first_part ++ second_part) (10 * m) prices_of_columns n _ (pos 0) (length_second h.columns h.rows h.prices) h.prices
         (λ j l. signed_value-signed_bytes 8 (get_or prices_of_columns j (pos 0)) (h.column_price_fits j l))
 
-    pub slip-total : slip_total m n (body ++ rest) ≡ total
-    slip-total =
-        let parted : body ++ rest ≡ ((first_part ++ second-part) ++ third_part) ++ (signed_bytes 8 total ++ rest) = simp append_assoc in
+    pub slip_total_lem : slip_total m n (body ++ rest) ≡ total
+    slip_total_lem =
+        let parted : body ++ rest ≡ ((first_part ++ second_part) ++ third_part) ++ (signed_bytes 8 total ++ rest) = simp append_assoc in
         ap (slip_total m n) parted
-        ∙ ap (λ (l : List ℕ). signed_value 8 (take 8 l)) (drop_at ((first_part ++ second-part) ++ third_part) (signed_bytes 8 total ++ rest) (10 * m + 8 * n) (length_third h.columns h.rows h.prices))
+        ∙ ap (λ (l : List ℕ). signed_value 8 (take 8 l)) (drop_at ((first_part ++ second_part) ++ third_part) (signed_bytes 8 total ++ rest) (10 * m + 8 * n) (length_third h.columns h.rows h.prices))
         ∙ ap (signed_value 8) (take_at (signed_bytes 8 total) rest 8 (length-signed_bytes 8 total))
-        ∙ signed_value-signed_bytes 8 total h.total-fits
+        ∙ signed_value-signed_bytes 8 total h.total_fits
 
 pub length-row_count : (edition m : ℕ) → length (row_count edition m) ≡ row_count_length edition
 length-row_count edition m = by (has_row_count edition)
@@ -96,5 +96,5 @@ length-slip_of edition m n cols prices_of_rows prices_of_columns total c r p =
     )
 
 -- "distance 18n+8", "18n+20" bytes: where the edition has no row count.
-pub square-slip : (edition n : ℕ) → has_row_count edition ≡ false → slip_distance edition n n ≡ 18 * n + 8
-square-slip edition n h = ap (λ (t : Bool). body_length n n + cond t 2 0) h ∙ omega arith
+pub square_slip : (edition n : ℕ) → has_row_count edition ≡ false → slip_distance edition n n ≡ 18 * n + 8
+square_slip edition n h = ap (λ (t : Bool). body_length n n + cond t 2 0) h ∙ omega arith

@@ -54,9 +54,9 @@ module _ (front : List ℕ) (distance side edition : ℕ) (mark : List ℕ) (fou
   unfolding bytes_of
   side-read h = ap value_of (found 4 8 2 refl) ∙ value_bytes_of 2 side h
 
-  pub edition-read : edition < 256 ^ 2 → edition_of bytes ≡ edition
+  pub edition_read : edition < 256 ^ 2 → edition_of bytes ≡ edition
   unfolding bytes_of
-  edition-read h = ap value_of (found 6 6 2 refl) ∙ value_bytes_of 2 edition h
+  edition_read h = ap value_of (found 6 6 2 refl) ∙ value_bytes_of 2 edition h
 
   pub mark-read : mark_of bytes ≡ value_of mark
   unfolding bytes_of

@@ -58,4 +58,4 @@ pub record Held (m n : ℕ) (cols : List ℕ) (prices_of_rows prices_of_columns 
   pub column_fits : (i : ℕ) → i < m → at cols i < 256 ^ 2
   pub row_price_fits : (i : ℕ) → i < m → mag (get_or prices_of_rows i (pos 0)) < 256 ^ 8 / 2
   pub column_price_fits : (j : ℕ) → j < n → mag (get_or prices_of_columns j (pos 0)) < 256 ^ 8 / 2
-  pub total-fits : mag total < 256 ^ 8 / 2
+  pub total_fits : mag total < 256 ^ 8 / 2

@@ -23,20 +23,20 @@ pub columns_more : (cols : List ℕ) (k : ℕ) → columns_text cols (suc k) ≡
 unfolding columns_text
 columns_more cols k = refl
 
-columns-same : (a b : List ℕ) (k : ℕ) → ((i : ℕ) → i < k → at a i ≡ at b i) → columns_text a k ≡ columns_text b k
-columns-same a b zero e = columns_start a ∙ sym (columns_start b)
-columns-same a b (suc k) e =
-    columns_more a k ∙ ap₂ (λ (t : List ℕ) (x : ℕ). t ++ (blank ++ decimal x)) (columns-same a b k (λ i l. e i (omega arith))) (e k (omega arith))
+columns_same : (a b : List ℕ) (k : ℕ) → ((i : ℕ) → i < k → at a i ≡ at b i) → columns_text a k ≡ columns_text b k
+columns_same a b zero e = columns_start a ∙ sym (columns_start b)
+columns_same a b (suc k) e =
+    columns_more a k ∙ ap₂ (λ (t : List ℕ) (x : ℕ). t ++ (blank ++ decimal x)) (columns_same a b k (λ i l. e i (omega arith))) (e k (omega arith))
     ∙ sym (columns_more b k)
 
 -- The first columns of a list, said of a list that has no others.
-pub columns-first : (m : ℕ) (cols : List ℕ) → m ≤ length cols → columns_text cols m ≡ columns_text (take m cols) (length (take m cols))
-columns-first m cols h =
-    columns-same cols (take m cols) m (λ i l. sym (get_or-take m cols i 0 l)) ∙ ap (columns_text (take m cols)) (sym (length-take-le m cols h))
+pub columns_first : (m : ℕ) (cols : List ℕ) → m ≤ length cols → columns_text cols m ≡ columns_text (take m cols) (length (take m cols))
+columns_first m cols h =
+    columns_same cols (take m cols) m (λ i l. sym (get_or-take m cols i 0 l)) ∙ ap (columns_text (take m cols)) (sym (length-take-le m cols h))
 
 -- A column of at most two digits.
-pub column-short : (x : ℕ) → x < 100 → length (decimal x) ≤ 2
-column-short x h = length_digits 1 20 x (omega arith)
+pub column_short : (x : ℕ) → x < 100 → length (decimal x) ≤ 2
+column_short x h = length_digits 1 20 x (omega arith)
 
 -- ---- what the search leaves in its list
 
@@ -50,8 +50,8 @@ module _ (night : Night) (cols : List ℕ) (a : Answer) (right : Right night col
       by only h = refl
       by (also other) h = ap also (take_at other (drop night.row_count list) night.row_count h.pairing.size)
 
-  pub columns-short : night.column_count ≤ 64 → r ≡ true → (i : ℕ) → i < night.row_count → at after i < 100
-  columns-short few e i l = rw written (by a right (sym told ∙ e))
+  pub columns_short : night.column_count ≤ 64 → r ≡ true → (i : ℕ) → i < night.row_count → at after i < 100
+  columns_short few e i l = rw written (by a right (sym told ∙ e))
     where
       by : (x : Answer) → Right night cols x → another x ≡ true → at (written_front night.row_count x list) i < 100
       by only h t = absurd (true≢false (sym t))

@@ -19,9 +19,9 @@ digits_none : (x : ℕ) → digits 0 x ≡ []
 unfolding digits
 digits_none x = refl
 
-digits-small : (k x : ℕ) → x < 10 → digits (suc k) x ≡ (48 + x % 10) ∷ []
+digits_small : (k x : ℕ) → x < 10 → digits (suc k) x ≡ (48 + x % 10) ∷ []
 unfolding digits
-digits-small k x h = rw (lt-ltb x 10 h)
+digits_small k x h = rw (lt-ltb x 10 h)
 
 digits_more : (k x : ℕ) → 10 ≤ x → digits (suc k) x ≡ digits k (x / 10) ++ ((48 + x % 10) ∷ [])
 unfolding digits
@@ -29,18 +29,18 @@ digits_more k x h = rw (le-ltb x 10 h)
 
 -- More digits than enough are as good as enough.
 enough : (k m x : ℕ) → x < 10 ^ suc k → x < 10 ^ suc m → digits (suc k) x ≡ digits (suc m) x
-enough zero m x h l = digits-small 0 x (omega arith) ∙ sym (digits-small m x (omega arith))
-enough (suc k) zero x h l = digits-small (suc k) x (omega arith) ∙ sym (digits-small 0 x (omega arith))
+enough zero m x h l = digits_small 0 x (omega arith) ∙ sym (digits_small m x (omega arith))
+enough (suc k) zero x h l = digits_small (suc k) x (omega arith) ∙ sym (digits_small 0 x (omega arith))
 enough (suc k) (suc m) x h l = by (dec_lt x 10) (enough k m (x / 10) (less-below (suc k) x h) (less-below (suc m) x l))
   where
     by : Dec (x < 10) → digits (suc k) (x / 10) ≡ digits (suc m) (x / 10) → digits (suc (suc k)) x ≡ digits (suc (suc m)) x
-    by (yes s) same = digits-small (suc k) x s ∙ sym (digits-small (suc m) x s)
+    by (yes s) same = digits_small (suc k) x s ∙ sym (digits_small (suc m) x s)
     by (no s) same =
         digits_more (suc k) x (omega arith) ∙ ap (λ (t : List ℕ). t ++ ((48 + x % 10) ∷ [])) same ∙ sym (digits_more (suc m) x (omega arith))
 
 -- The two laws that determine the digits of a number of 64 bits.
-pub decimal-small : (x : ℕ) → x < 10 → decimal x ≡ (48 + x % 10) ∷ []
-decimal-small = digits-small 19
+pub decimal_small : (x : ℕ) → x < 10 → decimal x ≡ (48 + x % 10) ∷ []
+decimal_small = digits_small 19
 
 pub decimal_more : (x : ℕ) → x < 2 ^ 64 → 10 ≤ x → decimal x ≡ decimal (x / 10) ++ ((48 + x % 10) ∷ [])
 decimal_more x l h =
@@ -55,7 +55,7 @@ length_digits k zero x h = omega (arith, ap length (digits_none x))
 length_digits k (suc m) x h = by (dec_lt x 10) k h (λ j l. length_digits j m (x / 10) l)
   where
     by : Dec (x < 10) → (k : ℕ) → x < 10 ^ suc k → ((j : ℕ) → x / 10 < 10 ^ suc j → length (digits m (x / 10)) ≤ suc j) → length (digits (suc m) x) ≤ suc k
-    by (yes s) k h ih = omega (arith, ap length (digits-small m x s))
+    by (yes s) k h ih = omega (arith, ap length (digits_small m x s))
     by (no s) zero h ih = absurd (omega arith)
     by (no s) (suc k) h ih =
         omega (arith, ap length (digits_more m x (omega arith)), length-append (digits m (x / 10)) ((48 + x % 10) ∷ []), ih k (less-below (suc k) x h))

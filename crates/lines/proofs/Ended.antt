@@ -12,19 +12,19 @@ use lib.ListN.{length, take, drop}
 use lib.Seq.{take_at, take-take, get_or-take}
 use Rattle.lists.specs.Permutations.{at}
 use Rattle.lists.specs.Counts.{bit_of}
-use Rattle.lists.proofs.Runs.{first-before}
+use Rattle.lists.proofs.Runs.{first_before}
 use Rattle.assignment.specs.Pairings.{signed_at}
-use Rattle.assignment.proofs.Longer.{tight-first, spares-first}
+use Rattle.assignment.proofs.Longer.{tight_first, spares_first}
 use Rattle.bars.specs.Barred.{night_of}
 use Rattle.bars.proofs.FilledCosts.{filled-place, filled_costs_length, filled_costs_at}
 use Rattle.matrix.specs.Limits.{K}
 use Rattle.matrix.proofs.Places.{place-below}
-use Rattle.matrix.proofs.SmallLimits.{sheet_side-within}
+use Rattle.matrix.proofs.SmallLimits.{sheet_side_within}
 use Rattle.checker.specs.Proven.{Shown}
 use Rattle.rules.specs.Run.{Result}
 use Rattle.rules.proofs.Run.{right_within_ten}
 use Rattle.swaps.specs.Second.{Answer, second}
-use Rattle.swaps.proofs.Costs.{second-same, shown-same}
+use Rattle.swaps.proofs.Costs.{second_same, shown_same}
 use Rattle.sheet.specs.Reading.{Laid, night, read}
 use Rattle.sheet.specs.Settle.{fresh, solved_costs, found, barred_row, ended}
 use Rattle.sheet.proofs.Nights as nights
@@ -66,7 +66,7 @@ module _ (sheet : List ℕ) (room : ℕ) (laid : Laid) (e : read room sheet ≡ 
   rows_same zero h = refl
   rows_same (suc k) h =
       ap₂ (λ (l : List ℕ) (z : ℤ). l ++ row_line k (at a.cols k) z) (rows_same k (omega arith))
-      (cost-same laid k (at a.cols k) (omega arith) (inside k (omega arith)) (first-before (λ i. bit_of (at laid.bars i) (at a.cols i)) n k (omega arith)))
+      (cost-same laid k (at a.cols k) (omega arith) (inside k (omega arith)) (first_before (λ i. bit_of (at laid.bars i) (at a.cols i)) n k (omega arith)))
 
   -- ---- the search
 
@@ -82,14 +82,14 @@ module _ (sheet : List ℕ) (room : ℕ) (laid : Laid) (e : read room sheet ≡ 
       next : (i : ℕ) → suc i * n ≡ i * n + n
       next i = omega arith
 
-  pub night-shown : Shown (nights.sheet_night sheet room laid e) a.cols a.prices_of_rows a.prices_of_columns
-  night-shown =
+  pub night_shown : Shown (nights.sheet_night sheet room laid e) a.cols a.prices_of_rows a.prices_of_columns
+  night_shown =
       let night = nights.sheet_night sheet room laid e in
       record {
-        pairing = nights.night-pairing sheet room laid e free;
-        feasible = nights.night-feasible sheet room laid e free;
-        tight = (tight-first night a.cols a.prices_of_rows a.prices_of_columns).0 (nights.night-tight sheet room laid e free);
-        spares = (spares-first night a.cols a.prices_of_columns).0 (nights.night-spares sheet room laid e free);
+        pairing = nights.night_pairing sheet room laid e free;
+        feasible = nights.night_feasible sheet room laid e free;
+        tight = (tight_first night a.cols a.prices_of_rows a.prices_of_columns).0 (nights.night_tight sheet room laid e free);
+        spares = (spares_first night a.cols a.prices_of_columns).0 (nights.night_spares sheet room laid e free);
       }
 
   searchable : Searchable m n kept laid.bars a.cols a.prices_of_rows a.prices_of_columns
@@ -99,23 +99,23 @@ module _ (sheet : List ℕ) (room : ℕ) (laid : Laid) (e : read room sheet ≡ 
       record {
         fewer = fewer;
         few = few;
-        small = omega (arith, (nights.readable sheet room laid e).small, sheet_side-within);
-        row-prices = record { enough = omega (arith, right.row_prices_size, fewer); within = λ i l. within.0 i (omega (arith, fewer)) };
-        column-prices = record { enough = omega (arith, right.column_prices_size); within = within.1 };
-        listed = omega (arith, right.cols-size, fewer);
-        shown = shown-same (nights.sheet_night sheet room laid e) (λ i j. signed_at kept (i * n + j)) kept_same a.prices_of_rows a.prices_of_columns a.cols night-shown;
+        small = omega (arith, (nights.readable sheet room laid e).small, sheet_side_within);
+        row_prices = record { enough = omega (arith, right.row_prices_size, fewer); within = λ i l. within.0 i (omega (arith, fewer)) };
+        column_prices = record { enough = omega (arith, right.column_prices_size); within = within.1 };
+        listed = omega (arith, right.cols_size, fewer);
+        shown = shown_same (nights.sheet_night sheet room laid e) (λ i j. signed_at kept (i * n + j)) kept_same a.prices_of_rows a.prices_of_columns a.cols night_shown;
       }
 
-  second-kept : second (night_of m n kept laid.bars) a.prices_of_rows a.prices_of_columns a.cols ≡ second_of laid
-  second-kept = second-same (nights.sheet_night sheet room laid e) (λ i j. signed_at kept (i * n + j)) kept_same a.prices_of_rows a.prices_of_columns a.cols
+  second_kept : second (night_of m n kept laid.bars) a.prices_of_rows a.prices_of_columns a.cols ≡ second_of laid
+  second_kept = second_same (nights.sheet_night sheet room laid e) (λ i j. signed_at kept (i * n + j)) kept_same a.prices_of_rows a.prices_of_columns a.cols
 
   -- ---- what stands at the front of the arrays
 
-  filled-size : length (solved_costs laid) ≡ n * n
-  filled-size = filled_costs_length n (pos K) laid.costs laid.bars
+  filled_size : length (solved_costs laid) ≡ n * n
+  filled_size = filled_costs_length n (pos K) laid.costs laid.bars
 
   costs_are : take (n * n) (ended laid).costs ≡ solved_costs laid
-  costs_are = take_at (solved_costs laid) (drop (n * n) fresh.costs) (n * n) filled-size
+  costs_are = take_at (solved_costs laid) (drop (n * n) fresh.costs) (n * n) filled_size
 
   kept_are : take (m * n) (ended laid).costs ≡ kept
   kept_are = sym (take-take (m * n) (n * n) (ended laid).costs (mul-le-mul_right n fewer)) ∙ ap (take (m * n)) costs_are
@@ -124,7 +124,7 @@ module _ (sheet : List ℕ) (room : ℕ) (laid : Laid) (e : read room sheet ≡ 
   bars_are = take_at laid.bars (drop n fresh.bars) n (nights.readable sheet room laid e).rows
 
   cols_are : take n (ended laid).cols ≡ a.cols
-  cols_are = take_at a.cols (drop n fresh.cols) n (nights.owed sheet room laid e).cols-size
+  cols_are = take_at a.cols (drop n fresh.cols) n (nights.owed sheet room laid e).cols_size
 
   row_prices_are : take n (ended laid).row_prices ≡ a.prices_of_rows
   row_prices_are = take_at a.prices_of_rows (drop n fresh.row_prices) n (nights.owed sheet room laid e).row_prices_size
@@ -133,14 +133,14 @@ module _ (sheet : List ℕ) (room : ℕ) (laid : Laid) (e : read room sheet ≡ 
   column_prices_are = take_at a.prices_of_columns (drop n fresh.col_prices) n (nights.owed sheet room laid e).column_prices_size
 
   -- What `put_night` is asked with, and what it then writes.
-  pub ended-ready : (out : List ℕ) → 160 + 110 * 64 ≤ length out → Ready m n (ended laid) out
-  ended-ready out long = record {
+  pub ended_ready : (out : List ℕ) → 160 + 110 * 64 ≤ length out → Ready m n (ended laid) out
+  ended_ready out long = record {
     rows = rw (costs_are, cols_are)
-        (record { fewer = fewer; squared = filled-size; listed = omega (arith, (nights.owed sheet room laid e).cols-size, fewer); inside = λ i l. inside i (omega (arith, fewer)); roomy = omega (arith, fewer, few) });
+        (record { fewer = fewer; squared = filled_size; listed = omega (arith, (nights.owed sheet room laid e).cols_size, fewer); inside = λ i l. inside i (omega (arith, fewer)); roomy = omega (arith, fewer, few) });
     searchable = rw (kept_are, bars_are, cols_are, row_prices_are, column_prices_are) searchable;
   }
 
   pub ended_lines : state_lines m n a.total (ended laid) ≡ night_lines laid
   ended_lines =
       rw (costs_are, kept_are, bars_are, cols_are, row_prices_are, column_prices_are)
-      (ap₂ (λ (l : List ℕ) (t : Answer). accepted_line n a.total ++ (l ++ (spare_lines m a.cols n ++ second_line t))) (rows_same m fewer) second-kept)
+      (ap₂ (λ (l : List ℕ) (t : Answer). accepted_line n a.total ++ (l ++ (spare_lines m a.cols n ++ second_line t))) (rows_same m fewer) second_kept)

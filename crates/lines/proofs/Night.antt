@@ -15,7 +15,7 @@ use Rattle.sheet.specs.Reading.{Laid, Read, refused, night, read}
 use Rattle.sheet.specs.Settle.{found, barred_row, ended, blocked_with, accepted_with, settled_as}
 use Rattle.lines.specs.Lines.{refused_line, no_pairing, night_lines, lines_as}
 use Rattle.lines.specs.Asked.{state_lines, Ready}
-use Rattle.lines.proofs.Ended.{ended-ready, ended_lines}
+use Rattle.lines.proofs.Ended.{ended_ready, ended_lines}
 
 module _ (room : ℕ) (s : Settled) where
   reply_is : (x : Read) → s ≡ settled_as x → s.reply ≡ (settled_as x).reply
@@ -52,7 +52,7 @@ module _ (room : ℕ) (s : Settled) where
       let sum : total ≡ (found laid).total = cc r in
       let state : s.state ≡ ended laid = ap (λ (t : Settled). t.state) e in
       let free = ltb-false (barred_row laid) laid.side b in
-      rw (same_rows, same-side, sum, state) (ended-ready sheet room laid q free out long, ended_lines sheet room laid q free)
+      rw (same_rows, same-side, sum, state) (ended_ready sheet room laid q free out long, ended_lines sheet room laid q free)
 
   pub night_lines_lem : (sheet : List ℕ) (x : Read) → read room sheet ≡ x → s ≡ settled_as x → (edition m n : ℕ) (total : ℤ) → s.reply ≡ Accepted edition m n total → (out : List ℕ)
       → 160 + 110 * 64 ≤ length out → Written m n total out (lines_as x)

@@ -30,8 +30,8 @@ pub line_start : (base : ℕ) (room : List ℕ) → base + 80 ≤ length room �
 line_start base room h = record { ends = λ q f. f; reach = omega arith; long = h }
 
 -- At most m bytes fit where they come to no more than 80.
-pub line-fits : {base k place : ℕ} {l room : List ℕ} {line : List ℕ → List ℕ} (m : ℕ) → Line base k l line room place → k + m ≤ 80 → place + m ≤ length room
-line-fits m n h = omega (arith, n.reach, n.long)
+pub line_fits : {base k place : ℕ} {l room : List ℕ} {line : List ℕ → List ℕ} (m : ℕ) → Line base k l line room place → k + m ≤ 80 → place + m ≤ length room
+line_fits m n h = omega (arith, n.reach, n.long)
 
 -- A write of at most w bytes more.
 pub line_then : {base k i j : ℕ} {l m r : List ℕ} {line : List ℕ → List ℕ} (p : List ℕ) (w : ℕ) → Line base k l line m i → Put m i p r j

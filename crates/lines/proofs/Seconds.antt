@@ -11,9 +11,9 @@ use Rattle.swaps.specs.Second.{Answer, only, also, Another, Right}
 use Rattle.swaps.proofs.Shown.{shown_right}
 use Rattle.sheet.specs.Reading.{Laid, night, read}
 use Rattle.sheet.specs.Settle.{found, barred_row}
-use Rattle.sheet.proofs.Nights.{sheet_night, night-total}
+use Rattle.sheet.proofs.Nights.{sheet_night, night_total}
 use Rattle.lines.specs.Lines.{second_line, second_of}
-use Rattle.lines.proofs.Ended.{night-shown}
+use Rattle.lines.proofs.Ended.{night_shown}
 
 -- The two lines differ in their first byte.
 line-only : (a : Answer) → second_line a ≡ second_line only → a ≡ only
@@ -30,10 +30,10 @@ module _ (sheet : List ℕ) (room : ℕ) (laid : Laid) (e : read room sheet ≡ 
   NoOther = (other : List ℕ) → Pairing (sheet_night sheet room laid e) other → total (sheet_night sheet room laid e) other ≡ (found laid).total → other ≡ paired
 
   right : Right (sheet_night sheet room laid e) paired (second_of laid)
-  right = shown_right (sheet_night sheet room laid e) (found laid).prices_of_rows (found laid).prices_of_columns (found laid).cols (night-shown sheet room laid e free)
+  right = shown_right (sheet_night sheet room laid e) (found laid).prices_of_rows (found laid).prices_of_columns (found laid).cols (night_shown sheet room laid e free)
 
   total_is : (found laid).total ≡ total (sheet_night sheet room laid e) paired
-  total_is = night-total sheet room laid e free
+  total_is = night_total sheet room laid e free
 
   pub only_iff : (second_line (second_of laid) ≡ second_line only) ↔ NoOther
   only_iff = (
@@ -45,8 +45,8 @@ module _ (sheet : List ℕ) (room : ℕ) (laid : Laid) (e : read room sheet ≡ 
       by none only r = refl
       by none (also other) r = absurd (r.differs (none other r.pairing (r.same ∙ sym total_is)))
 
-  pub also-another : (other : List ℕ) → second_of laid ≡ also other
+  pub also_another : (other : List ℕ) → second_of laid ≡ also other
       → Pairing (sheet_night sheet room laid e) other × (total (sheet_night sheet room laid e) other ≡ (found laid).total) × (other ≢ paired)
-  also-another other q =
+  also_another other q =
       let r : Another (sheet_night sheet room laid e) paired other = subst (Right (sheet_night sheet room laid e) paired) q right in
       (r.pairing, r.same ∙ sym total_is, r.differs)

@@ -27,8 +27,8 @@ pub record Searchable (m n : ℕ) (costs : List ℤ) (bars cols : List ℕ) (us 
   pub fewer : m ≤ n
   pub few : n ≤ 64
   pub small : n ≤ side
-  pub row-prices : Prices m us
-  pub column-prices : Prices n vs
+  pub row_prices : Prices m us
+  pub column_prices : Prices n vs
   pub listed : m ≤ length cols
   pub shown : Shown (night_of m n costs bars) cols us vs
 

@@ -122,9 +122,9 @@ below_top k x l clear =
         let one : x / 2 ^ k ≡ 1 = omega arith in
         absurd (eqb-false (x / 2 ^ k % 2) 1 clear (ap (λ (y : ℕ). y % 2) one))
 
-clear-below : (k n x : ℕ) → x < 2 ^ k → ((i : ℕ) → n ≤ i → bit_of x i ≡ false) → x < 2 ^ n
-clear-below zero n x l clear = omega (arith, pow_pos n)
-clear-below (suc k) n x l clear = by (dec_lt k n) (λ h. clear-below k n x (below_top k x l (clear k h)) clear)
+clear_below : (k n x : ℕ) → x < 2 ^ k → ((i : ℕ) → n ≤ i → bit_of x i ≡ false) → x < 2 ^ n
+clear_below zero n x l clear = omega (arith, pow_pos n)
+clear_below (suc k) n x l clear = by (dec_lt k n) (λ h. clear_below k n x (below_top k x l (clear k h)) clear)
   where
     by : Dec (k < n) → (n ≤ k → x < 2 ^ n) → x < 2 ^ n
     by (yes h) rest = let m : 2 ^ suc k ≤ 2 ^ n = pow_mono h in omega arith
@@ -134,7 +134,7 @@ clear-below (suc k) n x l clear = by (dec_lt k n) (λ h. clear-below k n x (belo
 pub clear_iff : (k n x : ℕ) → x < 2 ^ k → (x < 2 ^ n) ↔ ((i : ℕ) → n ≤ i → bit_of x i ≡ false)
 clear_iff k n x bound = (
   λ l i h. let m : 2 ^ n ≤ 2 ^ i = pow_mono h in let e : x / 2 ^ i ≡ 0 = div-eq_of_lt (omega arith) in rw e,
-  clear-below k n x bound,
+  clear_below k n x bound,
 )
 
 -- ---- as code tests it

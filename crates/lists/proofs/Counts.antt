@@ -13,7 +13,7 @@ use Rattle.ints.proofs.Tests.{not_true_false}
 use Rattle.lists.specs.Runs.{first}
 use Rattle.lists.specs.Sums.{sum}
 use Rattle.lists.proofs.Cases.{cond_cases, flags_same, or_second}
-use Rattle.lists.proofs.Runs.{first_holds, first-before}
+use Rattle.lists.proofs.Runs.{first_holds, first_before}
 use Rattle.lists.proofs.Sums.{sum_change}
 use Rattle.lists.specs.Counts.{count, some}
 
@@ -90,7 +90,7 @@ pub some_make : (n : ℕ) (test : ℕ → Bool) (i : ℕ) → i < n → test i �
 some_make n test i l e = by (dec_lt i (first n test))
   where
     by : Dec (i < first n test) → some n test ≡ true
-    by (yes h) = absurd (true≢false (sym e ∙ first-before test n i h))
+    by (yes h) = absurd (true≢false (sym e ∙ first_before test n i h))
     by (no h) = lt-ltb (first n test) n (omega arith)
 
 pub some_cong : (n : ℕ) (f g : ℕ → Bool) → ((i : ℕ) → i < n → f i ≡ g i) → some n f ≡ some n g

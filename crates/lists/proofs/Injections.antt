@@ -14,7 +14,7 @@ use Rattle.ints.proofs.Shapes.{zlin}
 use Rattle.lists.specs.Runs.{first}
 use Rattle.lists.specs.Sums.{sum}
 use Rattle.lists.specs.Permutations.{Injective}
-use Rattle.lists.proofs.Runs.{first_le, first_holds, first-before}
+use Rattle.lists.proofs.Runs.{first_le, first_holds, first_before}
 use Rattle.lists.proofs.Sums.{sum_none, sum-last, sum_cong, sum_zero, sum_le, sum_sub, sum_ones, sum_change}
 
 -- ---- composed, restricted, equal
@@ -31,8 +31,8 @@ injective_cong e p = record {
   once = λ i k l h s. p.once i k l h (e i l ∙ s ∙ sym (e k h));
 }
 
-pub injective-fewer : {l m n : ℕ} {f : ℕ → ℕ} → l ≤ m → Injective m n f → Injective l n f
-injective-fewer h p = record { below = λ i l. p.below i (omega arith); once = λ i k l j e. p.once i k (omega arith) (omega arith) e }
+pub injective_fewer : {l m n : ℕ} {f : ℕ → ℕ} → l ≤ m → Injective m n f → Injective l n f
+injective_fewer h p = record { below = λ i l. p.below i (omega arith); once = λ i k l j e. p.once i k (omega arith) (omega arith) e }
 
 -- ---- whether a number is reached, and from where
 
@@ -48,7 +48,7 @@ reached_or_not f m j = by (dec_lt (source f m j) m)
   where
     by : Dec (source f m j < m) → Reached f m j ⊎ ((i : ℕ) → i < m → f i ≢ j)
     by (yes l) = inl (source f m j, l, eqb-true (f (source f m j)) j (first_holds (λ i. eqb (f i) j) m l))
-    by (no l) = inr (λ i h. eqb-false (f i) j (first-before (λ k. eqb (f k) j) m i (omega (arith, first_le (λ k. eqb (f k) j) m))))
+    by (no l) = inr (λ i h. eqb-false (f i) j (first_before (λ k. eqb (f k) j) m i (omega (arith, first_le (λ k. eqb (f k) j) m))))
 
 pub source_of : {m n : ℕ} {f : ℕ → ℕ} → Injective m n f → (i : ℕ) → i < m → source f m (f i) ≡ i
 source_of {m} {f = f} p i l = by (dec_lt (source f m (f i)) m)
@@ -56,7 +56,7 @@ source_of {m} {f = f} p i l = by (dec_lt (source f m (f i)) m)
     by : Dec (source f m (f i) < m) → source f m (f i) ≡ i
     by (yes h) = p.once (source f m (f i)) i h l (eqb-true (f (source f m (f i))) (f i) (first_holds (λ k. eqb (f k) (f i)) m h))
     by (no h) =
-        absurd (eqb-false (f i) (f i) (first-before (λ k. eqb (f k) (f i)) m i (omega (arith, first_le (λ k. eqb (f k) (f i)) m))) refl)
+        absurd (eqb-false (f i) (f i) (first_before (λ k. eqb (f k) (f i)) m i (omega (arith, first_le (λ k. eqb (f k) (f i)) m))) refl)
 
 -- ---- sums over what is reached
 
@@ -90,7 +90,7 @@ module _ {n : ℕ} where
       omega (zlin, sum_none (λ i. w (f i)), sum_le n w (λ j. pos 0) h, sum_zero n (λ j. pos 0) (λ j l. refl))
   sum_injection_le (suc m) f w p h =
       let r = rest_sum m f w p in
-      omega (zlin, r.0, r.1, sum-last m (λ i. w (f i)), sum_injection_le m f (without w (f m)) (injective-fewer (omega arith) p) small)
+      omega (zlin, r.0, r.1, sum-last m (λ i. w (f i)), sum_injection_le m f (without w (f m)) (injective_fewer (omega arith) p) small)
     where
       small : (j : ℕ) → j < n → without w (f m) j ≤ℤ pos 0
       small j l =
@@ -105,7 +105,7 @@ module _ {n : ℕ} where
   sum_injection zero f w p h = sum_zero n w (λ j l. h j l (λ i m. absurd (omega arith))) ∙ sym (sum_none (λ i. w (f i)))
   sum_injection (suc m) f w p h =
       let r = rest_sum m f w p in
-      omega (zlin, r.0, r.1, sum-last m (λ i. w (f i)), sum_injection m f (without w (f m)) (injective-fewer (omega arith) p) none)
+      omega (zlin, r.0, r.1, sum-last m (λ i. w (f i)), sum_injection m f (without w (f m)) (injective_fewer (omega arith) p) none)
     where
       none : (j : ℕ) → j < n → ((i : ℕ) → i < m → f i ≢ j) → without w (f m) j ≡ pos 0
       none j l u =
@@ -132,18 +132,18 @@ pigeonhole {m} {n} {f} p = omega (zlin, sum_injection_le m f (λ j. negsuc 0) p 
 abbrev also : (ℕ → ℕ) → ℕ → ℕ → ℕ → ℕ
 also f m j i = cond (eqb i m) j (f i)
 
-also-at : (f : ℕ → ℕ) (m j : ℕ) → also f m j m ≡ j
-also-at f m j = rw (eq-eqb m m refl)
+also_at : (f : ℕ → ℕ) (m j : ℕ) → also f m j m ≡ j
+also_at f m j = rw (eq-eqb m m refl)
 
-also-below : (f : ℕ → ℕ) (m j i : ℕ) → i < m → also f m j i ≡ f i
-also-below f m j i l = rw (ne_eqb i m (λ e. omega arith))
+also_below : (f : ℕ → ℕ) (m j i : ℕ) → i < m → also f m j i ≡ f i
+also_below f m j i l = rw (ne_eqb i m (λ e. omega arith))
 
-injective-also : {m n : ℕ} {f : ℕ → ℕ} → Injective m n f → (j : ℕ) → j < n → ((i : ℕ) → i < m → f i ≢ j) → Injective (suc m) n (also f m j)
-injective-also {m} {n} {f} p j l u =
+injective_also : {m n : ℕ} {f : ℕ → ℕ} → Injective m n f → (j : ℕ) → j < n → ((i : ℕ) → i < m → f i ≢ j) → Injective (suc m) n (also f m j)
+injective_also {m} {n} {f} p j l u =
     record {
       below = λ i h. elim (ℕ_discrete i m) [
-        | yes e ↦ omega (arith, ap (also f m j) e, also-at f m j)
-        | no d ↦ omega (arith, also-below f m j i (omega arith), p.below i (omega arith))
+        | yes e ↦ omega (arith, ap (also f m j) e, also_at f m j)
+        | no d ↦ omega (arith, also_below f m j i (omega arith), p.below i (omega arith))
       ];
       once = λ i k h g e. both i k h g e (ℕ_discrete i m) (ℕ_discrete k m);
     }
@@ -151,16 +151,16 @@ injective-also {m} {n} {f} p j l u =
     both : (i k : ℕ) → i < suc m → k < suc m → also f m j i ≡ also f m j k → Dec (i ≡ m) → Dec (k ≡ m) → i ≡ k
     both i k h g e (yes a) (yes b) = a ∙ sym b
     both i k h g e (yes a) (no b) =
-        absurd (u k (omega arith) (sym (also-below f m j k (omega arith)) ∙ sym e ∙ ap (also f m j) a ∙ also-at f m j))
+        absurd (u k (omega arith) (sym (also_below f m j k (omega arith)) ∙ sym e ∙ ap (also f m j) a ∙ also_at f m j))
     both i k h g e (no a) (yes b) =
-        absurd (u i (omega arith) (sym (also-below f m j i (omega arith)) ∙ e ∙ ap (also f m j) b ∙ also-at f m j))
+        absurd (u i (omega arith) (sym (also_below f m j i (omega arith)) ∙ e ∙ ap (also f m j) b ∙ also_at f m j))
     both i k h g e (no a) (no b) =
-        p.once i k (omega arith) (omega arith) (sym (also-below f m j i (omega arith)) ∙ e ∙ also-below f m j k (omega arith))
+        p.once i k (omega arith) (omega arith) (sym (also_below f m j i (omega arith)) ∙ e ∙ also_below f m j k (omega arith))
 
 -- An injection of the numbers below n into themselves reaches each of them.
 pub reached : {n : ℕ} {f : ℕ → ℕ} → Injective n n f → (j : ℕ) → j < n → Reached f n j
 reached {n} {f} p j l =
-    ⊎_elim (λ r. r) (λ u. let h = pigeonhole (injective-also p j l u) in absurd (omega arith)) (reached_or_not f n j)
+    ⊎_elim (λ r. r) (λ u. let h = pigeonhole (injective_also p j l u) in absurd (omega arith)) (reached_or_not f n j)
 
 -- Its terms come to the sum of all.
 pub sum_permuted : {n : ℕ} {f : ℕ → ℕ} (w : ℕ → ℤ) → Injective n n f → sum n (λ i. w (f i)) ≡ sum n w

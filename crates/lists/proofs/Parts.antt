@@ -20,8 +20,8 @@ module _ {A : Type 0} where
   pub part-short : (a m : ℕ) (l : List A) → length (part a m l) ≤ m
   part-short a m l = omega (arith, length-take m (drop a l), min-le_left m (length (drop a l)))
 
-  pub part-inside : (a m : ℕ) (l : List A) (i : ℕ) → i < length (part a m l) → a + i < length l
-  part-inside a m l i h = omega (arith, length-take m (drop a l), min-le_right m (length (drop a l)), length-drop a l)
+  pub part_inside : (a m : ℕ) (l : List A) (i : ℕ) → i < length (part a m l) → a + i < length l
+  part_inside a m l i h = omega (arith, length-take m (drop a l), min-le_right m (length (drop a l)), length-drop a l)
 
   pub part_slice : (a m : ℕ) (l : List A) → part a m l ≡ slice a (a + m) l
   part_slice zero m l = rw zero-add
@@ -72,8 +72,8 @@ module _ {A : Type 0} where
         ap (λ (k : ℕ). get_or (replaced a p l) (k + i) d) (sym front) ∙ get_or-append-add (take a l) (p ++ drop (a + length p) l) i d
         ∙ get_or-append p (drop (a + length p) l) d i h
 
-    pub replaced-before : take a (replaced a p l) ≡ take a l
-    replaced-before = take_at (take a l) (p ++ drop (a + length p) l) a front
+    pub replaced_before : take a (replaced a p l) ≡ take a l
+    replaced_before = take_at (take a l) (p ++ drop (a + length p) l) a front
 
     -- What was written, with all before it.
     pub replaced_front : take (a + length p) (replaced a p l) ≡ take a l ++ p
@@ -81,8 +81,8 @@ module _ {A : Type 0} where
         ap (take (a + length p)) (sym (append_assoc (take a l) p (drop (a + length p) l)))
         ∙ take_at (take a l ++ p) (drop (a + length p) l) (a + length p) (omega (arith, length-append (take a l) p, front))
 
-    pub replaced-after : drop (a + length p) (replaced a p l) ≡ drop (a + length p) l
-    replaced-after =
+    pub replaced_after : drop (a + length p) (replaced a p l) ≡ drop (a + length p) l
+    replaced_after =
         sym (drop-drop (length p) a (replaced a p l))
         ∙ ap (drop (length p)) (drop_at (take a l) (p ++ drop (a + length p) l) a front)
         ∙ drop_at p (drop (a + length p) l) (length p) refl
@@ -91,14 +91,14 @@ module _ {A : Type 0} where
     pub replaced_part_before : (b m : ℕ) → b + m ≤ a → part b m (replaced a p l) ≡ part b m l
     replaced_part_before b m h =
         part_slice b m (replaced a p l)
-        ∙ ap (drop b) (sym (take-take (b + m) a (replaced a p l) h) ∙ ap (take (b + m)) replaced-before ∙ take-take (b + m) a l h)
+        ∙ ap (drop b) (sym (take-take (b + m) a (replaced a p l) h) ∙ ap (take (b + m)) replaced_before ∙ take-take (b + m) a l h)
         ∙ sym (part_slice b m l)
 
     replaced-drop : (b : ℕ) → a + length p ≤ b → drop b (replaced a p l) ≡ drop b l
     replaced-drop b h =
         let e : b ≡ a + length p + (b - (a + length p)) = omega arith in
         ap (λ (k : ℕ). drop k (replaced a p l)) e ∙ sym (drop-drop (b - (a + length p)) (a + length p) (replaced a p l))
-        ∙ ap (drop (b - (a + length p))) replaced-after ∙ drop-drop (b - (a + length p)) (a + length p) l ∙ ap (λ (k : ℕ). drop k l) (sym e)
+        ∙ ap (drop (b - (a + length p))) replaced_after ∙ drop-drop (b - (a + length p)) (a + length p) l ∙ ap (λ (k : ℕ). drop k l) (sym e)
 
     pub replaced_part_after : (b m : ℕ) → a + length p ≤ b → part b m (replaced a p l) ≡ part b m l
     replaced_part_after b m h = ap (take m) (replaced-drop b h)
@@ -134,8 +134,8 @@ module _ {A : Type 0} where
 
   pub replaced-replaced : (a : ℕ) (p q l : List A) → length p ≡ length q → a + length p ≤ length l → replaced a q (replaced a p l) ≡ replaced a q l
   replaced-replaced a p q l e h =
-      ap₂ (λ (s t : List A). s ++ (q ++ t)) (replaced-before a p l h)
-      (ap (λ (k : ℕ). drop (a + k) (replaced a p l)) (sym e) ∙ replaced-after a p l h ∙ ap (λ (k : ℕ). drop (a + k) l) e)
+      ap₂ (λ (s t : List A). s ++ (q ++ t)) (replaced_before a p l h)
+      (ap (λ (k : ℕ). drop (a + k) (replaced a p l)) (sym e) ∙ replaced_after a p l h ∙ ap (λ (k : ℕ). drop (a + k) l) e)
 
   -- Two parts, one behind the other, may be written over in either order.
   pub replaced_swap : (a b : ℕ) (p q l : List A) → a + length p ≤ b → b + length q ≤ length l

@@ -21,14 +21,14 @@ pub length-exchange : (l : List ℕ) (a b : ℕ) → length (exchange l a b) ≡
 length-exchange l a b = simp length-set
 
 module _ (l : List ℕ) (a b : ℕ) where
-  pub exchange-second : b < length l → at (exchange l a b) b ≡ at l a
-  exchange-second h = get_or-set_same (set l a (at l b)) b (at l a) 0 (lt-length-set l a (at l b) h)
+  pub exchange_second : b < length l → at (exchange l a b) b ≡ at l a
+  exchange_second h = get_or-set_same (set l a (at l b)) b (at l a) 0 (lt-length-set l a (at l b) h)
 
   pub exchange-first : a < length l → b < length l → at (exchange l a b) a ≡ at l b
   exchange-first h g = by (ℕ_discrete a b)
     where
       by : Dec (a ≡ b) → at (exchange l a b) a ≡ at l b
-      by (yes e) = ap (at (exchange l a b)) e ∙ exchange-second g ∙ ap (at l) e
+      by (yes e) = ap (at (exchange l a b)) e ∙ exchange_second g ∙ ap (at l) e
       by (no d) = get_or-set_other (set l a (at l b)) b a (at l a) 0 d ∙ get_or-set_same l a (at l b) 0 h
 
   pub exchange_other : (i : ℕ) → i ≢ a → i ≢ b → at (exchange l a b) i ≡ at l i
@@ -77,20 +77,20 @@ exchange_permutation {n} {l} p a b ha hb = record {
         by (yes e) d =
             rw (eq-eqb i a e) (ap (at (exchange l a b)) e ∙ exchange-first l a b (omega (arith, p.size)) (omega (arith, p.size)))
         by (no d) (yes e) =
-            rw (ne_eqb i a d, eq-eqb i b e) (ap (at (exchange l a b)) e ∙ exchange-second l a b (omega (arith, p.size)))
+            rw (ne_eqb i a d, eq-eqb i b e) (ap (at (exchange l a b)) e ∙ exchange_second l a b (omega (arith, p.size)))
         by (no d) (no e) = rw (ne_eqb i a d, ne_eqb i b e) (exchange_other l a b i d e)
 
 -- ---- lists that name each other
 
 module _ {m n : ℕ} (f g : ℕ → ℕ) (inside : (i : ℕ) → i < m → f i < n) (back : (i : ℕ) → i < m → g (f i) ≡ i) where
   -- Where g finds i again at f i, no two numbers go to the same.
-  pub injective-back : Injective m n f
-  injective-back = record { below = inside; once = λ i k l h e. sym (back i l) ∙ ap g e ∙ back k h }
+  pub injective_back : Injective m n f
+  injective_back = record { below = inside; once = λ i k l h e. sym (back i l) ∙ ap g e ∙ back k h }
 
 -- On as many numbers g then goes into the same, and f finds j again at g j.
-pub back-back : {n : ℕ} (f g : ℕ → ℕ) → ((i : ℕ) → i < n → f i < n) → ((i : ℕ) → i < n → g (f i) ≡ i) → (j : ℕ) → j < n → (g j < n) × (f (g j) ≡ j)
-back-back f g inside back j l =
-    let r = reached (injective-back f g inside back) j l in
+pub back_back : {n : ℕ} (f g : ℕ → ℕ) → ((i : ℕ) → i < n → f i < n) → ((i : ℕ) → i < n → g (f i) ≡ i) → (j : ℕ) → j < n → (g j < n) × (f (g j) ≡ j)
+back_back f g inside back j l =
+    let r = reached (injective_back f g inside back) j l in
     let e : g j ≡ r.0 = ap g (sym r.2) ∙ back r.0 r.1 in
     (omega (arith, r.1), ap f e ∙ r.2)
 

@@ -174,8 +174,8 @@ module _ (test : ℕ → Bool) where
   pub first_holds : (n : ℕ) → first n test < n → test (first n test) ≡ true
   first_holds n = (sought n).holds
 
-  pub first-before : (n i : ℕ) → i < first n test → test i ≡ false
-  first-before n = (sought n).before
+  pub first_before : (n i : ℕ) → i < first n test → test i ≡ false
+  first_before n = (sought n).before
 
   -- A place at which the test holds, and before which it holds nowhere, is the first.
   pub first-at : (n k : ℕ) → k < n → test k ≡ true → ((i : ℕ) → i < k → test i ≡ false) → first n test ≡ k
@@ -183,7 +183,7 @@ module _ (test : ℕ → Bool) where
     where
       by : Dec (first n test < k) → Dec (k < first n test) → first n test ≡ k
       by (yes h) g = absurd (true≢false (sym (first_holds n (omega arith)) ∙ f (first n test) h))
-      by (no h) (yes g) = absurd (true≢false (sym e ∙ first-before n k g))
+      by (no h) (yes g) = absurd (true≢false (sym e ∙ first_before n k g))
       by (no h) (no g) = omega arith
 
   pub first_none : (n : ℕ) → ((i : ℕ) → i < n → test i ≡ false) → first n test ≡ n

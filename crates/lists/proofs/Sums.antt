@@ -84,11 +84,11 @@ sum_ones zero = refl
 sum_ones (suc n) = omega (zlin, sum_ones n)
 
 -- A sum of n terms within k is within n * k.
-pub sum-within : (n k : ℕ) (f : ℕ → ℤ) → ((i : ℕ) → i < n → Within k (f i)) → Within (n * k) (sum n f)
+pub sum_within : (n k : ℕ) (f : ℕ → ℤ) → ((i : ℕ) → i < n → Within k (f i)) → Within (n * k) (sum n f)
 unfolding sum
-sum-within zero k f h = rw (zero-mul k) (record { low = omega arith; high = omega arith })
-sum-within (suc n) k f h =
-    let w = sum-within n k f (λ i l. h i (omega arith)) in
+sum_within zero k f h = rw (zero-mul k) (record { low = omega arith; high = omega arith })
+sum_within (suc n) k f h =
+    let w = sum_within n k f (λ i l. h i (omega arith)) in
     rw (suc-mul n k) (omega (zlin, h n (omega arith), ints.sum (sum n f) (f n)))
 
 -- Two functions that differ at k alone.

@@ -18,8 +18,8 @@ neither : (a b : Bool) → (a || b) ≡ false → (a ≡ false) × (b ≡ false)
 neither true b e = absurd (true≢false e)
 neither false b e = (refl, e)
 
-pub outside-within : (k : ℕ) (z : ℤ) → (outside (pos k) z ≡ false) ↔ Within k z
-outside-within k z = (
+pub outside_within : (k : ℕ) (z : ℤ) → (outside (pos k) z ≡ false) ↔ Within k z
+outside_within k z = (
   λ e. let h = neither (lt_z z (neg_ℤ (pos k))) (lt_z (pos k) z) e in omega (zarith, h, up_neg (pos k), down_neg (pos k)),
   λ w. let o = (within_orders k z).0 w in rw (le_lt_z z (neg_ℤ (pos k)) o.0, le_lt_z (pos k) z o.1),
 )
@@ -27,8 +27,8 @@ outside-within k z = (
 -- ---- minus a number, in a signed local
 
 module _ {w : Width} {z : ℤ} (f : SFits w z) (g : SFits w (pos 0 -ℤ z)) where
-  pub minus-fits : SFits w (pos 0 -ℤ to_z w (of_z w z))
-  minus-fits = rw (to_z-of_z f) g
+  pub minus_fits : SFits w (pos 0 -ℤ to_z w (of_z w z))
+  minus_fits = rw (to_z-of_z f) g
 
   pub minus-read : to_z w (of_z w (pos 0 -ℤ to_z w (of_z w z))) ≡ neg_ℤ z
-  minus-read = to_z-of_z minus-fits ∙ ap (λ (y : ℤ). pos 0 -ℤ y) (to_z-of_z f) ∙ +ℤ_idl (neg_ℤ z)
+  minus-read = to_z-of_z minus_fits ∙ ap (λ (y : ℤ). pos 0 -ℤ y) (to_z-of_z f) ∙ +ℤ_idl (neg_ℤ z)

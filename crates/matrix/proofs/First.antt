@@ -6,7 +6,7 @@ use native.Mathlib.Omega.{arith}
 use borrow.Author.Count.{below_none, below_more}
 use lib.Dec.{ltb}
 use Rattle.lists.specs.Runs.{first}
-use Rattle.lists.proofs.Runs.{upward_cong, first-at, first_none, first-before}
+use Rattle.lists.proofs.Runs.{upward_cong, first-at, first_none, first_before}
 
 -- The test holds at no place below i.
 abbrev pub Clear : (ℕ → Bool) → ℕ → Type 0
@@ -29,7 +29,7 @@ module _ (test : ℕ → Bool) where
 
   -- Where no place was found, the test holds at none.
   pub nowhere : (n : ℕ) → n ≤ first n test → Clear test n
-  nowhere n h k l = first-before test n k (omega arith)
+  nowhere n h k l = first_before test n k (omega arith)
 
 -- Only the places below n count.
 pub first_cong : (n : ℕ) (f g : ℕ → Bool) → ((i : ℕ) → i < n → f i ≡ g i) → first n f ≡ first n g

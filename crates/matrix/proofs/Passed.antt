@@ -15,13 +15,13 @@ use Rattle.matrix.specs.Refusals.{PriceOutside}
 use Rattle.matrix.specs.Tests.{short}
 use Rattle.matrix.specs.Verdicts.{Passes, ◌then◌}
 use Rattle.matrix.specs.Tests.{side_within, costs_fill, lists_long, list_long, shaped, list_short, rooms_long, costs_in, costs_within, columns_inside, prices_in, prices_within}
-use Rattle.matrix.proofs.Bounds.{outside-within}
+use Rattle.matrix.proofs.Bounds.{outside_within}
 use Rattle.matrix.specs.Asked.{Long, Shaped}
-use Rattle.matrix.proofs.Lengths.{clear-long, long-clear}
+use Rattle.matrix.proofs.Lengths.{clear_long, long_clear}
 use Rattle.matrix.proofs.Verdicts.{then_iff, fails_if_iff, fails_at_iff}
 
-pub side-within : (limit n : ℕ) → Passes (side_within limit n) ↔ (n ≤ limit)
-side-within limit n = let t = fails_if_iff _ _ _ in (λ e. ltb-false limit n (t.0 e), λ h. t.1 (le-ltb limit n h))
+pub side_within_lem : (limit n : ℕ) → Passes (side_within limit n) ↔ (n ≤ limit)
+side_within_lem limit n = let t = fails_if_iff _ _ _ in (λ e. ltb-false limit n (t.0 e), λ h. t.1 (le-ltb limit n h))
 
 pub costs_fill_lem : (m n : ℕ) (costs : List ℤ) → Passes (costs_fill m n costs) ↔ (length costs ≡ m * n)
 costs_fill_lem m n costs =
@@ -31,25 +31,25 @@ costs_fill_lem m n costs =
 pub lists_long_lem : (n a b c d : ℕ) → Passes (lists_long n (a ∷ b ∷ c ∷ d ∷ [])) ↔ Long n a b c d
 lists_long_lem n a b c d =
     let t = fails_at_iff _ (λ k. k + 1) 4 (short n (a ∷ b ∷ c ∷ d ∷ [])) in
-    (λ e. clear-long n a b c d (t.0 e), λ h. t.1 (long-clear n a b c d h))
+    (λ e. clear_long n a b c d (t.0 e), λ h. t.1 (long_clear n a b c d h))
 
-pub list-long : (number n length : ℕ) → Passes (list_long number n length) ↔ (n ≤ length)
-list-long number n length = let t = fails_if_iff _ _ _ in (λ e. ltb-false length n (t.0 e), λ h. t.1 (le-ltb length n h))
+pub list_long_lem : (number n length : ℕ) → Passes (list_long number n length) ↔ (n ≤ length)
+list_long_lem number n length = let t = fails_if_iff _ _ _ in (λ e. ltb-false length n (t.0 e), λ h. t.1 (le-ltb length n h))
 
 pub shaped_iff : (n : ℕ) (costs : List ℤ) (a b c d : ℕ) → Passes (shaped n costs (a ∷ b ∷ c ∷ d ∷ [])) ↔ Shaped n costs a b c d
 shaped_iff n costs a b c d =
     let t3 = then_iff (side_within side n then costs_fill n n costs) (lists_long n (a ∷ b ∷ c ∷ d ∷ [])) in
     let t2 = then_iff (side_within side n) (costs_fill n n costs) in (
       λ e. record {
-        small = (side-within side n).0 (t2.0 (t3.0 e).0).0;
+        small = (side_within_lem side n).0 (t2.0 (t3.0 e).0).0;
         squared = (costs_fill_lem n n costs).0 (t2.0 (t3.0 e).0).1;
         long = (lists_long_lem n a b c d).0 (t3.0 e).1;
       },
-      λ h. t3.1 (t2.1 ((side-within side n).1 h.small, (costs_fill_lem n n costs).1 h.squared), (lists_long_lem n a b c d).1 h.long),
+      λ h. t3.1 (t2.1 ((side_within_lem side n).1 h.small, (costs_fill_lem n n costs).1 h.squared), (lists_long_lem n a b c d).1 h.long),
     )
 
-pub list-short : (n length : ℕ) → Passes (list_short n length) ↔ (length ≤ n)
-list-short n length = let t = fails_if_iff _ _ _ in (λ e. ltb-false n length (t.0 e), λ h. t.1 (le-ltb n length h))
+pub list_short_lem : (n length : ℕ) → Passes (list_short n length) ↔ (length ≤ n)
+list_short_lem n length = let t = fails_if_iff _ _ _ in (λ e. ltb-false n length (t.0 e), λ h. t.1 (le-ltb n length h))
 
 pub rooms_long_lem : (n indices numbers : ℕ) → Passes (rooms_long n indices numbers) ↔ ((4 * n ≤ indices) × (n ≤ numbers))
 rooms_long_lem n indices numbers =
@@ -63,13 +63,13 @@ rooms_long_lem n indices numbers =
 pub costs_in_lem : (limit : ℕ) (costs : List ℤ) → Passes (costs_in (pos limit) costs) ↔ ((k : ℕ) → k < length costs → Within limit (signed_at costs k))
 costs_in_lem limit costs =
     let t = fails_at_iff _ _ _ _ in
-    (λ e k l. (outside-within limit (signed_at costs k)).0 (t.0 e k l), λ h. t.1 (λ k l. (outside-within limit (signed_at costs k)).1 (h k l)))
+    (λ e k l. (outside_within limit (signed_at costs k)).0 (t.0 e k l), λ h. t.1 (λ k l. (outside_within limit (signed_at costs k)).1 (h k l)))
 
-pub costs-within : (costs : List ℤ) → Passes (costs_within costs) ↔ ((k : ℕ) → k < length costs → Within K (signed_at costs k))
-costs-within costs = costs_in_lem K costs
+pub costs_within_lem : (costs : List ℤ) → Passes (costs_within costs) ↔ ((k : ℕ) → k < length costs → Within K (signed_at costs k))
+costs_within_lem costs = costs_in_lem K costs
 
-pub columns-inside : (count n : ℕ) (cols : List ℕ) → Passes (columns_inside count n cols) ↔ ((i : ℕ) → i < count → at cols i < n)
-columns-inside count n cols =
+pub columns_inside_lem : (count n : ℕ) (cols : List ℕ) → Passes (columns_inside count n cols) ↔ ((i : ℕ) → i < count → at cols i < n)
+columns_inside_lem count n cols =
     let t = fails_at_iff _ _ _ _ in
     (λ e i l. leb-false n (at cols i) (t.0 e i l), λ h. t.1 (λ i l. lt-leb n (at cols i) (h i l)))
 
@@ -79,10 +79,10 @@ prices_in_lem number limit m n us vs =
     let b = then_iff _ _ in
     let s = fails_at_iff _ _ _ _ in
     let t = fails_at_iff _ _ _ _ in (
-      λ e. (λ i l. (outside-within limit (signed_at us i)).0 (s.0 (b.0 e).0 i l), λ j l. (outside-within limit (signed_at vs j)).0 (t.0 (b.0 e).1 j l)),
-      λ h. b.1 (s.1 (λ i l. (outside-within limit (signed_at us i)).1 (h.0 i l)), t.1 (λ j l. (outside-within limit (signed_at vs j)).1 (h.1 j l))),
+      λ e. (λ i l. (outside_within limit (signed_at us i)).0 (s.0 (b.0 e).0 i l), λ j l. (outside_within limit (signed_at vs j)).0 (t.0 (b.0 e).1 j l)),
+      λ h. b.1 (s.1 (λ i l. (outside_within limit (signed_at us i)).1 (h.0 i l)), t.1 (λ j l. (outside_within limit (signed_at vs j)).1 (h.1 j l))),
     )
 
-pub prices-within : (m n : ℕ) (us vs : List ℤ) → Passes (prices_within m n us vs)
+pub prices_within_lem : (m n : ℕ) (us vs : List ℤ) → Passes (prices_within m n us vs)
     ↔ (((i : ℕ) → i < m → Within (10 * K) (signed_at us i)) × ((j : ℕ) → j < n → Within (10 * K) (signed_at vs j)))
-prices-within m n us vs = prices_in_lem PriceOutside (10 * K) m n us vs
+prices_within_lem m n us vs = prices_in_lem PriceOutside (10 * K) m n us vs

@@ -14,8 +14,8 @@ module _ (n : ℕ) (costs : List ℤ) (i : ℕ) where
   pub row_of_length : i * n + n ≤ length costs → length (part (i * n) n costs) ≡ n
   row_of_length h = part_length (i * n) n costs h
 
-  pub row-length : i < n → length costs ≡ n * n → length (part (i * n) n costs) ≡ n
-  row-length l e = row_of_length (omega (arith, mul-le-mul_right n l))
+  pub row_length : i < n → length costs ≡ n * n → length (part (i * n) n costs) ≡ n
+  row_length l e = row_of_length (omega (arith, mul-le-mul_right n l))
 
   pub row_at : (j : ℕ) → j < n → signed_at (part (i * n) n costs) j ≡ signed_at costs (i * n + j)
   row_at j l = part_at (i * n) n costs j (pos 0) l

@@ -15,7 +15,7 @@ use Rattle.matrix.specs.declared.Refusal.{Refusal}
 use Rattle.matrix.specs.declared.Answer.TheVariants.{Total, Refused}
 use Rattle.matrix.specs.declared.Verdict.{Verdict}
 use Rattle.matrix.specs.declared.Verdict.TheVariants.{Passed, Fails}
-use Rattle.lists.proofs.Runs.{first_holds, first-before}
+use Rattle.lists.proofs.Runs.{first_holds, first_before}
 use Rattle.matrix.proofs.First.{Clear, ended, nowhere, first_cong}
 
 -- A refusal is no pass.
@@ -107,9 +107,9 @@ pub fails_totalled : {verdict : Verdict} (total : ℤ) {refusal : Refusal} → v
 unfolding totalled
 fails_totalled total e = rw e
 
-pub passed-totalled : {verdict : Verdict} {total answer : ℤ} → Passes verdict → answer ≡ total → Total answer ≡ totalled verdict total
+pub passed_totalled : {verdict : Verdict} {total answer : ℤ} → Passes verdict → answer ≡ total → Total answer ≡ totalled verdict total
 unfolding totalled
-passed-totalled e f = rw e (ap Total f)
+passed_totalled e f = rw e (ap Total f)
 
 pub totalled_iff : (verdict : Verdict) (total : ℤ) {t : ℤ} → (totalled verdict total ≡ Total t) ↔ (Passes verdict × (t ≡ total))
 unfolding totalled
@@ -172,7 +172,7 @@ module _ (P : Refusal → Type 0) where
   unfolding fails_at_by
   fails_at_by_every number place slack n test f =
       fails_by_every number (place (first n test)) (slack (first n test)) _
-      (λ e. let l = ltb-true (first n test) n e in f (first n test) l (first_holds test n l) (first-before test n))
+      (λ e. let l = ltb-true (first n test) n e in f (first n test) l (first_holds test n l) (first_before test n))
 
 pub refused_every : (P : Refusal → Type 0) (verdict : Verdict) (total : ℤ) {refusal : Refusal} → Every P verdict → totalled verdict total ≡ Refused refusal → P refusal
 unfolding totalled
@@ -187,11 +187,11 @@ Small verdict = Every Tellable verdict
 pub then_small : (a b : Verdict) → Small a → (Passes a → Small b) → Small (a then b)
 then_small = then_every Tellable
 
-pub fails_if-small : (number : ℕ) (place : ℕ) (test : Bool) → number < 256 → (test ≡ true → place < 2 ^ 48) → Small (fails_if number place test)
-fails_if-small number place test s f = fails_by_every Tellable number place (pos 0) test (λ e. (s, f e))
+pub fails_if_small : (number : ℕ) (place : ℕ) (test : Bool) → number < 256 → (test ≡ true → place < 2 ^ 48) → Small (fails_if number place test)
+fails_if_small number place test s f = fails_by_every Tellable number place (pos 0) test (λ e. (s, f e))
 
-pub fails_at_by-small : (number : ℕ) (place : ℕ → ℕ) (slack : ℕ → ℤ) (n : ℕ) (test : ℕ → Bool) → number < 256 → ((k : ℕ) → k < n → place k < 2 ^ 48) → Small (fails_at_by number place slack n test)
-fails_at_by-small number place slack n test s f = fails_at_by_every Tellable number place slack n test (λ k l e clear. (s, f k l))
+pub fails_at_by_small : (number : ℕ) (place : ℕ → ℕ) (slack : ℕ → ℤ) (n : ℕ) (test : ℕ → Bool) → number < 256 → ((k : ℕ) → k < n → place k < 2 ^ 48) → Small (fails_at_by number place slack n test)
+fails_at_by_small number place slack n test s f = fails_at_by_every Tellable number place slack n test (λ k l e clear. (s, f k l))
 
-pub fails_at-small : (number : ℕ) (place : ℕ → ℕ) (n : ℕ) (test : ℕ → Bool) → number < 256 → ((k : ℕ) → k < n → place k < 2 ^ 48) → Small (fails_at number place n test)
-fails_at-small number place n test = fails_at_by-small number place (λ k. pos 0) n test
+pub fails_at_small : (number : ℕ) (place : ℕ → ℕ) (n : ℕ) (test : ℕ → Bool) → number < 256 → ((k : ℕ) → k < n → place k < 2 ^ 48) → Small (fails_at number place n test)
+fails_at_small number place n test = fails_at_by_small number place (λ k. pos 0) n test

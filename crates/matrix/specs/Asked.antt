@@ -31,8 +31,8 @@ pub record Listed (n : ℕ) (costs : List ℤ) (m : ℕ) (cols : List ℕ) : Typ
 
 -- Each of four lengths is at least n.
 pub record Long (n a b c d : ℕ) : Type 0 where
-  pub first-long : n ≤ a
-  pub second-long : n ≤ b
+  pub first_long : n ≤ a
+  pub second_long : n ≤ b
   pub third_long : n ≤ c
   pub fourth_long : n ≤ d
 

@@ -48,13 +48,13 @@ module _ (sent : List ℕ) (k : Kept) where
   unfolding piece
   piece-ended e = ap (piece_by sent k) e
 
-  pub piece-long : (n : ℕ) → held k ≡ Taking n → sheet_most < n + length sent → piece sent k ≡ taken SheetOver (marked over_mark k)
+  pub piece_long : (n : ℕ) → held k ≡ Taking n → sheet_most < n + length sent → piece sent k ≡ taken SheetOver (marked over_mark k)
   unfolding piece
-  piece-long n e h = ap (piece_by sent k) e ∙ rw (lt-ltb sheet_most (n + length sent) h) refl
+  piece_long n e h = ap (piece_by sent k) e ∙ rw (lt-ltb sheet_most (n + length sent) h) refl
 
-  pub piece-fits : (n : ℕ) → held k ≡ Taking n → n + length sent ≤ sheet_most → piece sent k ≡ taken 0 (longer n sent k)
+  pub piece_fits : (n : ℕ) → held k ≡ Taking n → n + length sent ≤ sheet_most → piece sent k ≡ taken 0 (longer n sent k)
   unfolding piece
-  piece-fits n e h = ap (piece_by sent k) e ∙ rw (le-ltb sheet_most (n + length sent) h) refl
+  piece_fits n e h = ap (piece_by sent k) e ∙ rw (le-ltb sheet_most (n + length sent) h) refl
 
 -- ---- the end
 

@@ -17,7 +17,7 @@ use Rattle.sheet.specs.Settle.{pair}
 use Rattle.pieces.specs.declared.Held.TheVariants.{Taking, Over}
 use Rattle.pieces.specs.Kept.{Kept, came, mark, held, Fresh}
 use Rattle.pieces.specs.Calls.{longer, Taken, piece, Ending, end, pieces, whole}
-use Rattle.pieces.proofs.Calls.{piece-over, piece-long, piece-fits, end-over, end_taking, marked-over}
+use Rattle.pieces.proofs.Calls.{piece-over, piece_long, piece_fits, end-over, end_taking, marked-over}
 
 -- The sheet so far stands at the front of the room.
 record Holding (k : Kept) (sheet : List ℕ) : Type 0 where
@@ -62,11 +62,11 @@ module _ (k : Kept) (sheet : List ℕ) (h : Holding k sheet) where
 
     piece_holding : length sheet + length sent ≤ sheet_most → Holding (piece sent k).kept (sheet ++ sent)
     piece_holding fits =
-        subst (λ (t : Taken). Holding t.kept (sheet ++ sent)) (sym (piece-fits sent k (length sheet) holding_held fits)) (holding_longer fits)
+        subst (λ (t : Taken). Holding t.kept (sheet ++ sent)) (sym (piece_fits sent k (length sheet) holding_held fits)) (holding_longer fits)
 
     piece_passes : sheet_most < length sheet + length sent → held (piece sent k).kept ≡ Over
     piece_passes past =
-        ap (λ (t : Taken). held t.kept) (piece-long sent k (length sheet) holding_held past) ∙ marked-over k h.two (length sheet) holding_held
+        ap (λ (t : Taken). held t.kept) (piece_long sent k (length sheet) holding_held past) ∙ marked-over k h.two (length sheet) holding_held
 
 -- Once 17 was given, pieces change nothing.
 over_stays : (k : Kept) → held k ≡ Over → (sent : List (List ℕ)) → held (pieces sent k) ≡ Over
@@ -79,10 +79,10 @@ data After (k : Kept) (sheet : List ℕ) : Type 0 where
   passed : sheet_most < length sheet → held k ≡ Over → After k sheet
   within : Holding k sheet → After k sheet
 
-after-pieces : (sent : List (List ℕ)) (k : Kept) (sheet : List ℕ) → Holding k sheet → After (pieces sent k) (sheet ++ joined sent)
+after_pieces : (sent : List (List ℕ)) (k : Kept) (sheet : List ℕ) → Holding k sheet → After (pieces sent k) (sheet ++ joined sent)
 unfolding pieces joined
-after-pieces [] k sheet h = subst (After k) (sym (append-nil sheet)) (within h)
-after-pieces (bytes ∷ rest) k sheet h = by (dec_lt sheet_most (length sheet + length bytes)) (after-pieces rest (piece bytes k).kept (sheet ++ bytes))
+after_pieces [] k sheet h = subst (After k) (sym (append-nil sheet)) (within h)
+after_pieces (bytes ∷ rest) k sheet h = by (dec_lt sheet_most (length sheet + length bytes)) (after_pieces rest (piece bytes k).kept (sheet ++ bytes))
   where
     by : Dec (sheet_most < length sheet + length bytes)
         → (Holding (piece bytes k).kept (sheet ++ bytes) → After (pieces rest (piece bytes k).kept) ((sheet ++ bytes) ++ joined rest))
@@ -96,30 +96,30 @@ end_after : (k : Kept) (sheet : List ℕ) → After k sheet → (slip : List ℕ
 end_after k sheet (passed past e) slip = rw (lt-ltb sheet_most (length sheet) past) (ap (λ (x : Ending). x.delivery) (end-over slip k e))
 end_after k sheet (within h) slip = rw (le-ltb sheet_most (length sheet) h.few) (end_holding k sheet h slip)
 
-number-after : (k : Kept) (sheet : List ℕ) → After k sheet → (sent : List ℕ)
+number_after : (k : Kept) (sheet : List ℕ) → After k sheet → (sent : List ℕ)
     → (piece sent k).number ≡ cond (ltb sheet_most (length sheet + length sent)) SheetOver 0
-number-after k sheet (passed past e) sent =
+number_after k sheet (passed past e) sent =
     rw (lt-ltb sheet_most (length sheet + length sent) (omega arith)) (ap (λ (t : Taken). t.number) (piece-over sent k e))
-number-after k sheet (within h) sent = by (dec_lt sheet_most (length sheet + length sent))
+number_after k sheet (within h) sent = by (dec_lt sheet_most (length sheet + length sent))
   where
     by : Dec (sheet_most < length sheet + length sent) → (piece sent k).number ≡ cond (ltb sheet_most (length sheet + length sent)) SheetOver 0
     by (yes past) =
-        rw (lt-ltb sheet_most (length sheet + length sent) past) (ap (λ (t : Taken). t.number) (piece-long sent k (length sheet) (holding_held k sheet h) past))
+        rw (lt-ltb sheet_most (length sheet + length sent) past) (ap (λ (t : Taken). t.number) (piece_long sent k (length sheet) (holding_held k sheet h) past))
     by (no past) =
         rw (le-ltb sheet_most (length sheet + length sent) (omega arith))
-        (ap (λ (t : Taken). t.number) (piece-fits sent k (length sheet) (holding_held k sheet h) (omega arith)))
+        (ap (λ (t : Taken). t.number) (piece_fits sent k (length sheet) (holding_held k sheet h) (omega arith)))
 
 -- ---- on a fresh state
 
 module _ (k : Kept) (f : Fresh k) where
   -- Each piece answers 0, until one, with all before it, is over 65,536 bytes: it and all that follow answer 17.
-  pub piece-number : (before : List (List ℕ)) (sent : List ℕ)
+  pub piece_number : (before : List (List ℕ)) (sent : List ℕ)
       → (piece sent (pieces before k)).number ≡ cond (ltb sheet_most (length (joined before) + length sent)) SheetOver 0
-  piece-number before sent = number-after (pieces before k) (joined before) (after-pieces before k [] (fresh_holding k f)) sent
+  piece_number before sent = number_after (pieces before k) (joined before) (after_pieces before k [] (fresh_holding k f)) sent
 
   -- For any pieces, taken in order and ended: number and slip's room are those of their whole.
   pub however_cut : (sent : List (List ℕ)) (slip : List ℕ) → (end slip (pieces sent k)).delivery ≡ whole (joined sent) slip
-  however_cut sent slip = end_after (pieces sent k) (joined sent) (after-pieces sent k [] (fresh_holding k f)) slip
+  however_cut sent slip = end_after (pieces sent k) (joined sent) (after_pieces sent k [] (fresh_holding k f)) slip
 
 -- Two cuttings of the same bytes, on any two fresh states.
 pub cuts_agree : (k l : Kept) → Fresh k → Fresh l → (one other : List (List ℕ)) → joined one ≡ joined other → (slip : List ℕ)

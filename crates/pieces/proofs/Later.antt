@@ -11,7 +11,7 @@ use Rattle.pieces.specs.declared.Held.{Held}
 use Rattle.pieces.specs.declared.Held.TheVariants.{Taking, Over, Ended}
 use Rattle.pieces.specs.Kept.{Kept, held}
 use Rattle.pieces.specs.Calls.{Taken, taken, piece, Ending, ending, delivered, end}
-use Rattle.pieces.proofs.Calls.{piece-over, piece-ended, piece-long, piece-fits, end-over, end-ended, end_taking, marked-over, marked-ended}
+use Rattle.pieces.proofs.Calls.{piece-over, piece-ended, piece_long, piece_fits, end-over, end-ended, end_taking, marked-over, marked-ended}
 
 -- Every call but a reset answers this number and changes nothing.
 pub record Answers (number : ℕ) (k : Kept) : Type 0 where
@@ -34,9 +34,9 @@ module _ (k : Kept) (two : length k.state ≡ 2) where
     over_by (Taking n) e q = by (dec_lt sheet_most (n + length sent))
       where
         by : Dec (sheet_most < n + length sent) → held (piece sent k).kept ≡ Over
-        by (yes l) = ap (λ (t : Taken). held t.kept) (piece-long sent k n e l) ∙ marked-over k two n e
+        by (yes l) = ap (λ (t : Taken). held t.kept) (piece_long sent k n e l) ∙ marked-over k two n e
         by (no l) =
-            let same : 0 ≡ SheetOver = sym (ap (λ (t : Taken). t.number) (piece-fits sent k n e (omega arith))) ∙ q in
+            let same : 0 ≡ SheetOver = sym (ap (λ (t : Taken). t.number) (piece_fits sent k n e (omega arith))) ∙ q in
             absurd (omega arith)
 
     -- A piece that gives 17: so does every later call.

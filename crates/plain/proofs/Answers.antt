@@ -13,12 +13,12 @@ use Rattle.ints.proofs.Tests.{lt_lt_z, le_lt_z, not_true_false}
 use Rattle.lists.specs.Counts.{some}
 use Rattle.lists.specs.Runs.{upward, first}
 use Rattle.lists.proofs.Cases.{below_suc}
-use Rattle.lists.proofs.Runs.{upward_keeps, first_holds, first-before, first-at}
+use Rattle.lists.proofs.Runs.{upward_keeps, first_holds, first_before, first-at}
 use Rattle.assignment.specs.Pairings.{Night, Pairing, total, Least}
 use Rattle.plain.specs.Engine.{list_count, list_of, is_pairing, cost_of, less, is_least, chosen, written}
 use Rattle.plain.specs.declared.Found.{Found}
 use Rattle.plain.specs.declared.Found.TheVariants.{Nothing, Costs}
-use Rattle.plain.proofs.Numbers.{number, length_digits, digits-below, digits_number, number-below, number_digits, Before, before-lower}
+use Rattle.plain.proofs.Numbers.{number, length_digits, digits-below, digits_number, number_below, number_digits, Before, before_lower}
 use Rattle.plain.proofs.Pairings.{clear_none, none_clear, passes_pairing, pairing_passes}
 
 -- ---- what costs less
@@ -76,9 +76,9 @@ positive zero (suc m) h = absurd (omega arith)
 positive (suc n) m h = one-le-pow m (suc n) (omega arith)
 
 module _ (night : Night) (cols : List ℕ) where
-  pub cost-passed : is_pairing night cols ≡ true → cost_of night cols ≡ Costs (total night cols)
+  pub cost_passed : is_pairing night cols ≡ true → cost_of night cols ≡ Costs (total night cols)
   unfolding cost_of
-  cost-passed p = rw p refl
+  cost_passed p = rw p refl
 
   pub cost_failed : is_pairing night cols ≡ false → cost_of night cols ≡ Nothing
   unfolding cost_of
@@ -162,19 +162,19 @@ module _ (night : Night) where
   abbrev LeastList : ℕ → Type 0
   LeastList k = (j : ℕ) → j < list_count night → less (cost_at j) (cost_at k) ≡ false
 
-  least-list : (k : ℕ) → is_least night k ≡ true → LeastList k
+  least_list : (k : ℕ) → is_least night k ≡ true → LeastList k
   unfolding is_least
-  least-list k e = none_clear (list_count night) (λ j. less (cost_at j) (cost_at k)) (not-true _ e)
+  least_list k e = none_clear (list_count night) (λ j. less (cost_at j) (cost_at k)) (not-true _ e)
 
-  list-least : (k : ℕ) → LeastList k → is_least night k ≡ true
+  list_least : (k : ℕ) → LeastList k → is_least night k ≡ true
   unfolding is_least
-  list-least k h = ap not (clear_none (list_count night) (λ j. less (cost_at j) (cost_at k)) h)
+  list_least k h = ap not (clear_none (list_count night) (λ j. less (cost_at j) (cost_at k)) h)
 
   best_first : (t : ℤ) (cols : List ℕ) (b : Best (list_count night) (Costs t) cols) → first_least ≡ b.place
   best_first t cols b =
       first-at (is_least night) (list_count night) b.place b.reach
-      (list-least b.place (λ j l. subst (λ (f : Found). less (cost_at j) f ≡ false) b.costs (b.least j l)))
-      (λ j l. not_true_false (λ e. true≢false (sym (over j l) ∙ least-list j e b.place b.reach)))
+      (list_least b.place (λ j l. subst (λ (f : Found). less (cost_at j) f ≡ false) b.costs (b.least j l)))
+      (λ j l. not_true_false (λ e. true≢false (sym (over j l) ∙ least_list j e b.place b.reach)))
     where
       over : (j : ℕ) → j < b.place → less (cost_at b.place) (cost_at j) ≡ true
       over j l = subst (λ (f : Found). less f (cost_at j) ≡ true) b.costs (b.first j l)
@@ -182,7 +182,7 @@ module _ (night : Night) where
   none_first : 0 < list_count night → ((j : ℕ) → j < list_count night → less (cost_at j) Nothing ≡ false) → first_least ≡ 0
   none_first some none =
       first-at (is_least night) (list_count night) 0 some
-      (list-least 0 (λ j l. subst (λ (f : Found). less (cost_at j) f ≡ false) (sym (less_nothing (cost_at 0) (none 0 some))) (none j l)))
+      (list_least 0 (λ j l. subst (λ (f : Found). less (cost_at j) f ≡ false) (sym (less_nothing (cost_at 0) (none 0 some))) (none j l)))
       (λ j l. absurd (omega arith))
 
   -- After all lists the engine's answer is held.
@@ -203,31 +203,31 @@ module _ (night : Night) where
   number_of cols = number night.column_count night.row_count cols
 
   -- Every pairing has its number: it is below the count, and its list is the pairing.
-  pub pairing-number : (cols : List ℕ) → Pairing night cols → number_of cols < list_count night
-  pairing-number cols p = number-below night.column_count night.row_count cols p.inside
+  pub pairing_number : (cols : List ℕ) → Pairing night cols → number_of cols < list_count night
+  pairing_number cols p = number_below night.column_count night.row_count cols p.inside
 
-  pub number-list : (cols : List ℕ) → Pairing night cols → list_of night (number_of cols) ≡ cols
-  number-list cols p = digits_number night.column_count night.row_count cols p.size p.inside
+  pub number_list : (cols : List ℕ) → Pairing night cols → list_of night (number_of cols) ≡ cols
+  number_list cols p = digits_number night.column_count night.row_count cols p.size p.inside
 
-  pairing-cost : (cols : List ℕ) → Pairing night cols → cost_of night cols ≡ Costs (total night cols)
-  pairing-cost cols p = cost-passed night cols (pairing_passes night cols p)
+  pairing_cost : (cols : List ℕ) → Pairing night cols → cost_of night cols ≡ Costs (total night cols)
+  pairing_cost cols p = cost_passed night cols (pairing_passes night cols p)
 
-  number-cost : (cols : List ℕ) → Pairing night cols → cost_at (number_of cols) ≡ Costs (total night cols)
-  number-cost cols p = ap (cost_of night) (number-list cols p) ∙ pairing-cost cols p
+  number_cost : (cols : List ℕ) → Pairing night cols → cost_at (number_of cols) ≡ Costs (total night cols)
+  number_cost cols p = ap (cost_of night) (number_list cols p) ∙ pairing_cost cols p
 
   module _ (enough : night.row_count ≤ night.column_count) where
-    pub some-list : 0 < list_count night
-    some-list = positive night.column_count night.row_count enough
+    pub some_list : 0 < list_count night
+    some_list = positive night.column_count night.row_count enough
 
     -- A list that costs something is a pairing, and that is its total.
-    cost-pairing : (k : ℕ) (t : ℤ) → cost_at k ≡ Costs t → Pairing night (list_of night k) × (t ≡ total night (list_of night k))
-    cost-pairing k t e = by (is_pairing night (list_of night k)) refl
+    cost_pairing : (k : ℕ) (t : ℤ) → cost_at k ≡ Costs t → Pairing night (list_of night k) × (t ≡ total night (list_of night k))
+    cost_pairing k t e = by (is_pairing night (list_of night k)) refl
       where
         by : (b : Bool) → is_pairing night (list_of night k) ≡ b → Pairing night (list_of night k) × (t ≡ total night (list_of night k))
         by true p = (
           passes_pairing night (list_of night k) (length_digits night.column_count night.row_count k)
               (λ i l. digits-below night.column_count night.row_count k (omega arith) i l) p,
-          same-costs t (total night (list_of night k)) (sym e ∙ cost-passed night (list_of night k) p),
+          same-costs t (total night (list_of night k)) (sym e ∙ cost_passed night (list_of night k) p),
         )
         by false p = absurd (costs_nothing t (sym e ∙ cost_failed night (list_of night k) p))
 
@@ -247,46 +247,46 @@ module _ (night : Night) where
             (λ k s l m h. kept_more k [] s.0 s.1 h)
 
         by : (found : Found) (cols : List ℕ) → Kept (list_count night) [] found cols → first_least < list_count night
-        by Nothing cols h = let e = none_first some-list h.0 in omega (arith, some-list)
+        by Nothing cols h = let e = none_first some_list h.0 in omega (arith, some_list)
         by (Costs t) cols h = let e = best_first t cols h in omega (arith, h.reach)
 
-    chosen-list : LeastList first_least
-    chosen-list = least-list first_least (first_holds (is_least night) (list_count night) first_there)
+    chosen_list : LeastList first_least
+    chosen_list = least_list first_least (first_holds (is_least night) (list_count night) first_there)
 
     -- Where nothing is found there is no pairing;
     pub nothing_none : cost_of night (chosen night) ≡ Nothing → (cols : List ℕ) → Pairing night cols → ⊥
     unfolding chosen less
     nothing_none e cols p =
-        let l = chosen-list (number_of cols) (pairing-number cols p) in
-        let m : less (Costs (total night cols)) Nothing ≡ false = rw (number-cost cols p, e) at l in
+        let l = chosen_list (number_of cols) (pairing_number cols p) in
+        let m : less (Costs (total night cols)) Nothing ≡ false = rw (number_cost cols p, e) at l in
         true≢false m
 
     -- what costs something is a least pairing, and that is its total;
     pub found-least : (t : ℤ) → cost_of night (chosen night) ≡ Costs t → Least night (chosen night) × (t ≡ total night (chosen night))
     unfolding chosen
     found-least t e =
-        let c = cost-pairing first_least t e in
+        let c = cost_pairing first_least t e in
         let same = c.1 in (
           record {
             pairing = c.0;
             least = λ other p.
-                let l = chosen-list (number_of other) (pairing-number other p) in
-                let m = not_less_totals (total night other) t (rw (number-cost other p, e) at l) in
+                let l = chosen_list (number_of other) (pairing_number other p) in
+                let m = not_less_totals (total night other) t (rw (number_cost other p, e) at l) in
                 omega zarith;
           },
           same,
         )
 
     -- and where there is a pairing, one is found.
-    pub pairing-found : (cols : List ℕ) → Pairing night cols → cost_of night (chosen night) ≡ Costs (total night (chosen night))
-    pairing-found cols p = by (cost_of night (chosen night)) refl
+    pub pairing_found : (cols : List ℕ) → Pairing night cols → cost_of night (chosen night) ≡ Costs (total night (chosen night))
+    pairing_found cols p = by (cost_of night (chosen night)) refl
       where
         by : (found : Found) → cost_of night (chosen night) ≡ found → cost_of night (chosen night) ≡ Costs (total night (chosen night))
         by Nothing e = absurd (nothing_none e cols p)
         by (Costs t) e = e ∙ ap Costs (found-least t e).1
 
     pub chosen-least : (cols : List ℕ) → Pairing night cols → Least night (chosen night)
-    chosen-least cols p = (found-least (total night (chosen night)) (pairing-found cols p)).0
+    chosen-least cols p = (found-least (total night (chosen night)) (pairing_found cols p)).0
 
     module _ (other : List ℕ) (o : Least night other) where
       -- Its total is that of any least pairing,
@@ -302,9 +302,9 @@ module _ (night : Night) where
       chosen-first b =
           let p = o.pairing in
           let l : number_of other < number_of (list_of night first_least) =
-          before-lower night.column_count night.row_count other (list_of night first_least) p.inside b in
+          before_lower night.column_count night.row_count other (list_of night first_least) p.inside b in
           let n : number_of (list_of night first_least) ≡ first_least = number_digits night.column_count night.row_count first_least first_there in
-          true≢false (sym (list-least (number_of other) none) ∙ first-before (is_least night) (list_count night) (number_of other) (omega arith))
+          true≢false (sym (list_least (number_of other) none) ∙ first_before (is_least night) (list_count night) (number_of other) (omega arith))
         where
           none : LeastList (number_of other)
           none j l = by (cost_at j) refl
@@ -312,6 +312,6 @@ module _ (night : Night) where
               by : (found : Found) → cost_at j ≡ found → less (cost_at j) (cost_at (number_of other)) ≡ false
               by Nothing e = rw e (nothing_never (cost_at (number_of other)))
               by (Costs t) e =
-                  let c = cost-pairing j t e in
+                  let c = cost_pairing j t e in
                   let m : total night other ≤ℤ t = rw (sym c.1) at (o.least (list_of night j) c.0) in
-                  rw (e, number-cost other o.pairing) (totals_not_less t (total night other) m)
+                  rw (e, number_cost other o.pairing) (totals_not_less t (total night other) m)

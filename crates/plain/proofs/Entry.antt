@@ -24,14 +24,14 @@ use Rattle.matrix.specs.declared.Answer.TheVariants.{Total, Refused}
 use Rattle.matrix.specs.declared.Refusal.{Refusal}
 use Rattle.matrix.specs.declared.Verdict.TheVariants.{Fails}
 use Rattle.matrix.proofs.First.{first_cong}
-use Rattle.matrix.proofs.Passed.{side-within, costs_fill_lem, list-long, costs-within}
+use Rattle.matrix.proofs.Passed.{side_within_lem, costs_fill_lem, list_long_lem, costs_within_lem}
 use Rattle.matrix.proofs.Verdicts.{then_iff}
 use Rattle.plain.specs.Engine.{list_count, list_of, cost_of, less, is_least, chosen, written, plain_tests, answered, plain}
 use Rattle.plain.specs.declared.Found.{Found}
 use Rattle.plain.specs.declared.Found.TheVariants.{Nothing, Costs}
 use Rattle.plain.proofs.Numbers.{Before}
 use Rattle.plain.proofs.Pairings.{passes_cong}
-use Rattle.plain.proofs.Answers.{costs_nothing, same-costs, pairing-found, chosen-least, chosen-same, chosen-first}
+use Rattle.plain.proofs.Answers.{costs_nothing, same-costs, pairing_found, chosen-least, chosen-same, chosen-first}
 
 -- Two nights of the same rows, columns and costs in which the same places are allowed: every list costs the same, and the same one is chosen.
 module _ (one : Night) (other : ℕ → ℕ → Bool) (same : (i j : ℕ) → one.allowed i j ≡ other i j) where
@@ -62,7 +62,7 @@ module _ (n : ℕ) (costs : List ℤ) where
   }
 
   square-found : cost_of (square n costs) (chosen (square n costs)) ≡ Costs (total (square n costs) (chosen (square n costs)))
-  square-found = pairing-found (square n costs) (omega arith) (table n (λ i. i)) straight
+  square-found = pairing_found (square n costs) (omega arith) (table n (λ i. i)) straight
 
   pub square-least : Least (square n costs) (chosen (square n costs))
   square-least = chosen-least (square n costs) (omega arith) (table n (λ i. i)) straight
@@ -106,15 +106,15 @@ module _ (n : ℕ) (costs : List ℤ) (cols : List ℕ) where
             let b = t3.0 a.0 in
             let c = t2.0 b.0 in
             record {
-              small = (side-within 8 n).0 c.0;
+              small = (side_within_lem 8 n).0 c.0;
               squared = (costs_fill_lem n n costs).0 c.1;
-              listed = (list-long 1 n (length cols)).0 b.1;
-              within = (costs-within costs).0 a.1;
+              listed = (list_long_lem 1 n (length cols)).0 b.1;
+              within = (costs_within_lem costs).0 a.1;
             },
         λ h.
             t5.1 (
-              t3.1 (t2.1 ((side-within 8 n).1 h.small, (costs_fill_lem n n costs).1 h.squared), (list-long 1 n (length cols)).1 h.listed),
-              (costs-within costs).1 h.within,
+              t3.1 (t2.1 ((side_within_lem 8 n).1 h.small, (costs_fill_lem n n costs).1 h.squared), (list_long_lem 1 n (length cols)).1 h.listed),
+              (costs_within_lem costs).1 h.within,
             ),
       )
 

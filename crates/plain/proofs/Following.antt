@@ -13,7 +13,7 @@ use borrow.Author.Tests.{lt-ltb, le-ltb, ltb-true}
 use Rattle.lists.specs.Permutations.{at}
 use Rattle.lists.proofs.Cases.{flags_same}
 use Rattle.plain.specs.Engine.{digits}
-use Rattle.plain.proofs.Numbers.{number, Below, digits_more, digits-take, number_cong, number-below, number_digits}
+use Rattle.plain.proofs.Numbers.{number, Below, digits_more, digits-take, number_cong, number_below, number_digits}
 
 -- The list after `cols`, and whether there is one.
 abbrev pub after : ℕ → ℕ → List ℕ → List ℕ
@@ -55,7 +55,7 @@ module _ (n : ℕ) (cols : List ℕ) (i : ℕ) (l : i < length cols) where
   pub rise_more : Below n (suc i) cols → suc (at cols i) < n → more n (suc i) cols ≡ true
   unfolding number
   rise_more h b =
-      let a : suc (number n i cols) * n ≤ n ^ i * n = mul-le-mul_right n (number-below n i cols (λ k g. h k (omega arith))) in
+      let a : suc (number n i cols) * n ≤ n ^ i * n = mul-le-mul_right n (number_below n i cols (λ k g. h k (omega arith))) in
       let e : suc (number n i cols) * n ≡ number n i cols * n + n = omega arith in
       lt-ltb (suc (number n (suc i) cols)) (n ^ suc i) (omega (arith, pow-suc n i))
 

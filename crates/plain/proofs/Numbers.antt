@@ -21,8 +21,8 @@ number n (suc m) cols = number n m cols * n + at cols m
 abbrev pub Below : ℕ → ℕ → List ℕ → Type 0
 Below n m cols = (i : ℕ) → i < m → at cols i < n
 
-pub below-fewer : (n m : ℕ) (cols : List ℕ) → Below n (suc m) cols → Below n m cols
-below-fewer n m cols h i l = h i (omega arith)
+pub below_fewer : (n m : ℕ) (cols : List ℕ) → Below n (suc m) cols → Below n m cols
+below_fewer n m cols h i l = h i (omega arith)
 
 pub length_digits : (n m k : ℕ) → length (digits n m k) ≡ m
 unfolding digits
@@ -64,7 +64,7 @@ unfolding digits number table
 digits-table n zero cols h = refl
 digits-table n (suc m) cols h =
     rw (digit_off n (number n m cols) (at cols m) (h m (omega arith)), digit_last n (number n m cols) (at cols m) (h m (omega arith)))
-    (ap (λ (l : List ℕ). l ++ (at cols m ∷ [])) (digits-table n m cols (below-fewer n m cols h)))
+    (ap (λ (l : List ℕ). l ++ (at cols m ∷ [])) (digits-table n m cols (below_fewer n m cols h)))
 
 pub digits-take : (n m : ℕ) (cols : List ℕ) → m ≤ length cols → Below n m cols → digits n m (number n m cols) ≡ take m cols
 digits-take n m cols enough h =
@@ -81,11 +81,11 @@ number_cong n zero cols other e = refl
 number_cong n (suc m) cols other e = cc (number_cong n m cols other (λ i l. e i (omega arith)), e m (omega arith))
 
 -- A list's number is below n ^ m.
-pub number-below : (n m : ℕ) (cols : List ℕ) → Below n m cols → number n m cols < n ^ m
+pub number_below : (n m : ℕ) (cols : List ℕ) → Below n m cols → number n m cols < n ^ m
 unfolding number
-number-below n zero cols h = omega (arith, pow-zero n)
-number-below n (suc m) cols h =
-    let ih : suc (number n m cols) * n ≤ n ^ m * n = mul-le-mul_right n (number-below n m cols (below-fewer n m cols h)) in
+number_below n zero cols h = omega (arith, pow-zero n)
+number_below n (suc m) cols h =
+    let ih : suc (number n m cols) * n ≤ n ^ m * n = mul-le-mul_right n (number_below n m cols (below_fewer n m cols h)) in
     let e : suc (number n m cols) * n ≡ number n m cols * n + n = omega arith in
     omega (arith, pow-suc n m, h m (omega arith))
 
@@ -118,12 +118,12 @@ wider n a b d l h =
     omega arith
 
 -- What comes before in dictionary order has the lower number,
-pub before-lower : (n m : ℕ) (cols other : List ℕ) → Below n m cols → Before m cols other → number n m cols < number n m other
+pub before_lower : (n m : ℕ) (cols other : List ℕ) → Below n m cols → Before m cols other → number n m cols < number n m other
 unfolding number
-before-lower n zero cols other h b = absurd (omega (arith, b.reach))
-before-lower n (suc m) cols other h b =
+before_lower n zero cols other h b = absurd (omega (arith, b.reach))
+before_lower n (suc m) cols other h b =
     by (dec_lt b.place m)
-    (λ l. before-lower n m cols other (below-fewer n m cols h) (record { place = b.place; reach = l; same = b.same; lower = b.lower }))
+    (λ l. before_lower n m cols other (below_fewer n m cols h) (record { place = b.place; reach = l; same = b.same; lower = b.lower }))
   where
     by : Dec (b.place < m) → (b.place < m → number n m cols < number n m other) → number n m cols * n + at cols m < number n m other * n + at other m
     by (yes l) ih = omega (arith, wider n (number n m cols) (number n m other) (at cols m) (ih l) (h m (omega arith)))
@@ -133,12 +133,12 @@ before-lower n (suc m) cols other h b =
         rw c (omega (arith, subst (λ (x : ℕ). at cols x < at other x) q b.lower))
 
 -- and the lower number comes before.
-pub lower-before : (n m : ℕ) (cols other : List ℕ) → Below n m cols → Below n m other → number n m cols < number n m other → Before m cols other
+pub lower_before : (n m : ℕ) (cols other : List ℕ) → Below n m cols → Below n m other → number n m cols < number n m other → Before m cols other
 unfolding number
-lower-before n zero cols other h g l = absurd (omega arith)
-lower-before n (suc m) cols other h g l =
+lower_before n zero cols other h g l = absurd (omega arith)
+lower_before n (suc m) cols other h g l =
     by (dec_lt (number n m cols) (number n m other)) (dec_lt (number n m other) (number n m cols))
-    (lower-before n m cols other (below-fewer n m cols h) (below-fewer n m other g))
+    (lower_before n m cols other (below_fewer n m cols h) (below_fewer n m other g))
   where
     by : Dec (number n m cols < number n m other) → Dec (number n m other < number n m cols)
         → (number n m cols < number n m other → Before m cols other) → Before (suc m) cols other
@@ -147,7 +147,7 @@ lower-before n (suc m) cols other h g l =
     by (no a) (no d) ih =
         let e : number n m cols ≡ number n m other = omega arith in
         let f : table m (at cols) ≡ table m (at other) =
-        sym (digits-table n m cols (below-fewer n m cols h)) ∙ ap (digits n m) e ∙ digits-table n m other (below-fewer n m other g) in
+        sym (digits-table n m cols (below_fewer n m cols h)) ∙ ap (digits n m) e ∙ digits-table n m other (below_fewer n m other g) in
         record {
           place = m;
           reach = omega arith;

@@ -16,8 +16,8 @@ use Rattle.bars.specs.Barred.{night_of}
 use Rattle.plain.specs.Engine.{digits, cost_of, chosen, written}
 use Rattle.plain.specs.declared.Found.{Found}
 use Rattle.plain.specs.declared.Found.TheVariants.{Nothing}
-use Rattle.plain.proofs.Numbers.{number, Below, length_digits, digits-below, digits_number, number-below, number_digits}
-use Rattle.plain.proofs.Answers.{Kept, kept_none, kept_more, kept-found, some-list, kept_cost, kept_list}
+use Rattle.plain.proofs.Numbers.{number, Below, length_digits, digits-below, digits_number, number_below, number_digits}
+use Rattle.plain.proofs.Answers.{Kept, kept_none, kept_more, kept-found, some_list, kept_cost, kept_list}
 
 -- Numbers past the first are written with digits that are not 0.
 some_digit : (n m k : ℕ) → suc k < n ^ m → 0 < n
@@ -26,10 +26,10 @@ some_digit zero (suc m) k l = absurd (omega (arith, pow-suc 0 m))
 some_digit (suc n) m k l = omega arith
 
 -- The first list is all zeros.
-zeros-number : (n m k : ℕ) → number n m (table k (λ i. 0)) ≡ 0
+zeros_number : (n m k : ℕ) → number n m (table k (λ i. 0)) ≡ 0
 unfolding number
-zeros-number n zero k = refl
-zeros-number n (suc m) k = omega (arith, ap (λ (x : ℕ). x * n) (zeros-number n m k), get_d_constant {A = ℕ} k 0 m)
+zeros_number n zero k = refl
+zeros_number n (suc m) k = omega (arith, ap (λ (x : ℕ). x * n) (zeros_number n m k), get_d_constant {A = ℕ} k 0 m)
 
 -- The list that `next` leaves, by its number.
 pub counted : (n m : ℕ) (list following : List ℕ) (more : Bool) → length list ≡ m → Below n m list
@@ -37,7 +37,7 @@ pub counted : (n m : ℕ) (list following : List ℕ) (more : Bool) → length l
     → (following ≡ digits n m (suc (number n m list))) × (more ≡ ltb (suc (number n m list)) (n ^ m))
 counted n m list following more size below left =
     subst (λ (j : ℕ). (following ≡ digits n j (suc (number n j list))) × (more ≡ ltb (suc (number n j list)) (n ^ j))) size
-    (left (number n (length list) list) (number-below n (length list) list inside) (sym (digits_number n (length list) list refl inside)))
+    (left (number n (length list) list) (number_below n (length list) list inside) (sym (digits_number n (length list) list refl inside)))
   where
     inside : Below n (length list) list
     inside = subst (λ (j : ℕ). Below n j list) (sym size) below
@@ -58,7 +58,7 @@ module _ (n m : ℕ) (costs : List ℤ) (bars lent : List ℕ) where
     size = ap length e ∙ length-table m (λ i. 0);
     same = same;
     below = subst (Below n m) (sym e) (λ i l. omega (arith, get_d_constant {A = ℕ} m 0 i));
-    kept = subst (λ (k : ℕ). Kept night k lent Nothing lent) (sym (ap (number n m) e ∙ zeros-number n m m)) (kept_none night lent);
+    kept = subst (λ (k : ℕ). Kept night k lent Nothing lent) (sym (ap (number n m) e ∙ zeros_number n m m)) (kept_none night lent);
   }
 
   -- A turn: the list is tried, and the next one counted.
@@ -74,8 +74,8 @@ module _ (n m : ℕ) (costs : List ℤ) (bars lent : List ℕ) where
     -- The last list: the engine's answer is held.
     pub head_last : m ≤ n → ltb (suc (number n m list)) (n ^ m) ≡ false → (r ≡ cost_of night (chosen night)) × (left ≡ written r (chosen night) lent)
     head_last enough l =
-        let e : suc (number n m list) ≡ n ^ m = omega (arith, ltb-false (suc (number n m list)) (n ^ m) l, number-below n m list h.below) in
-        kept-found night (some-list night enough) lent r left (subst (λ (k : ℕ). Kept night k lent r left) e turned)
+        let e : suc (number n m list) ≡ n ^ m = omega (arith, ltb-false (suc (number n m list)) (n ^ m) l, number_below n m list h.below) in
+        kept-found night (some_list night enough) lent r left (subst (λ (k : ℕ). Kept night k lent r left) e turned)
 
     -- Any other: the next one's turn.
     module _ (next : List ℕ) (next-is : next ≡ digits n m (suc (number n m list))) (l : ltb (suc (number n m list)) (n ^ m) ≡ true) where

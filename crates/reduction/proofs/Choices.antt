@@ -35,8 +35,8 @@ module _ (n : ℕ) (early : Bool) (v : List ℤ) (rows : List ℕ) (two : TwoLow
     pub choose_lowers : early ≡ true → lt_z a.value b.value ≡ true → lower_price v a.place a.value b.value ≡ choose n early v rows two
     choose_lowers y l = rw (e, y, l) refl
 
-    pub choose-second : early ≡ true → lt_z a.value b.value ≡ false → at rows a.place < n → keep_price v b.place ≡ choose n early v rows two
-    choose-second y l h = rw (e, y, l, lt-ltb (at rows a.place) n h) refl
+    pub choose_second : early ≡ true → lt_z a.value b.value ≡ false → at rows a.place < n → keep_price v b.place ≡ choose n early v rows two
+    choose_second y l h = rw (e, y, l, lt-ltb (at rows a.place) n h) refl
 
     pub choose-first : early ≡ true → lt_z a.value b.value ≡ false → n ≤ at rows a.place → keep_price v a.place ≡ choose n early v rows two
     choose-first y l h = rw (e, y, l, le-ltb (at rows a.place) n h) refl
@@ -58,8 +58,8 @@ choose-below n early v rows (Two a b) h =
 -- ---- a displaced row
 
 module _ (n : ℕ) (frees : List ℕ) (p : Pass) (back : Bool) (h : ℕ) where
-  pub displace-back : h < n → back ≡ true → placed_at (set frees p.current h) (pass_at p.current p.left (p.looks + 1)) ≡ displace n frees p back h
-  displace-back l y = rw (lt-ltb h n l, y) refl
+  pub displace_back : h < n → back ≡ true → placed_at (set frees p.current h) (pass_at p.current p.left (p.looks + 1)) ≡ displace n frees p back h
+  displace_back l y = rw (lt-ltb h n l, y) refl
 
   pub displace_next : h < n → back ≡ false → placed_at (set frees p.left h) (pass_at (p.current + 1) (p.left + 1) (p.looks + 1)) ≡ displace n frees p back h
   displace_next l y = rw (lt-ltb h n l, y) refl
@@ -73,23 +73,23 @@ module _ (x lowest second : ℤ) (hx : Within near x) (hl : Within (near + near)
   fits_x : SFits w64 x
   fits_x = omega (zlin, hx)
 
-  fits-lowest : SFits w64 lowest
-  fits-lowest = omega (zlin, hl)
+  fits_lowest : SFits w64 lowest
+  fits_lowest = omega (zlin, hl)
 
-  fits-second : SFits w64 second
-  fits-second = omega (zlin, hs)
+  fits_second : SFits w64 second
+  fits_second = omega (zlin, hs)
 
   fits_step : SFits w64 (second -ℤ lowest)
   fits_step = omega (zlin, hl, hs)
 
-  fits-lowered : SFits w64 (x -ℤ (second -ℤ lowest))
-  fits-lowered = omega (zlin, hx, hl, hs, dif second lowest)
+  fits_lowered : SFits w64 (x -ℤ (second -ℤ lowest))
+  fits_lowered = omega (zlin, hx, hl, hs, dif second lowest)
 
   pub step_fits : SFits w64 (to_z w64 (of_z w64 second) -ℤ to_z w64 (of_z w64 lowest))
-  step_fits = simp (to_z-of_z fits-lowest, to_z-of_z fits-second) fits_step
+  step_fits = simp (to_z-of_z fits_lowest, to_z-of_z fits_second) fits_step
 
-  pub lowered-fits : SFits w64 (to_z w64 (of_z w64 x) -ℤ to_z w64 (of_z w64 (to_z w64 (of_z w64 second) -ℤ to_z w64 (of_z w64 lowest))))
-  lowered-fits = simp (to_z-of_z fits-lowest, to_z-of_z fits-second, to_z-of_z fits_x, to_z-of_z fits_step) fits-lowered
+  pub lowered_fits : SFits w64 (to_z w64 (of_z w64 x) -ℤ to_z w64 (of_z w64 (to_z w64 (of_z w64 second) -ℤ to_z w64 (of_z w64 lowest))))
+  lowered_fits = simp (to_z-of_z fits_lowest, to_z-of_z fits_second, to_z-of_z fits_x, to_z-of_z fits_step) fits_lowered
 
-  pub lowered-back : to_z w64 (of_z w64 (to_z w64 (of_z w64 x) -ℤ to_z w64 (of_z w64 (to_z w64 (of_z w64 second) -ℤ to_z w64 (of_z w64 lowest))))) ≡ x -ℤ (second -ℤ lowest)
-  lowered-back = simp (to_z-of_z fits-lowest, to_z-of_z fits-second, to_z-of_z fits_x, to_z-of_z fits_step, to_z-of_z fits-lowered)
+  pub lowered_back : to_z w64 (of_z w64 (to_z w64 (of_z w64 x) -ℤ to_z w64 (of_z w64 (to_z w64 (of_z w64 second) -ℤ to_z w64 (of_z w64 lowest))))) ≡ x -ℤ (second -ℤ lowest)
+  lowered_back = simp (to_z-of_z fits_lowest, to_z-of_z fits_second, to_z-of_z fits_x, to_z-of_z fits_step, to_z-of_z fits_lowered)

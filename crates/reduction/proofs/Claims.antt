@@ -36,12 +36,12 @@ module _ (n j : ℕ) (s : Claims) (inside : j < n) (c : Claimable n (suc j) s) w
       let i = at s.rows j in
       let li : i < n = c.row_below j (omega arith) in
       record {
-        cols-size = length-set s.cols i j ∙ c.cols-size;
-        rows-size = c.rows-size;
-        marks-size = length-set s.marks i 1 ∙ c.marks-size;
+        cols_size = length-set s.cols i j ∙ c.cols_size;
+        rows_size = c.rows_size;
+        marks_size = length-set s.marks i 1 ∙ c.marks_size;
         row_below = λ k l. c.row_below k (omega arith);
         col_below = here_or_elsewhere (λ x. x < n → at (set s.cols i j) x < n) i
-            (λ l. omega (arith, get_or-set_same s.cols i j 0 (omega (arith, c.cols-size))))
+            (λ l. omega (arith, get_or-set_same s.cols i j 0 (omega (arith, c.cols_size))))
             (λ x d l. omega (arith, get_or-set_other s.cols i x j 0 d, c.col_below x l));
       }
 
@@ -49,9 +49,9 @@ module _ (n j : ℕ) (s : Claims) (inside : j < n) (c : Claimable n (suc j) s) w
   loses_claimable =
       let i = at s.rows j in
       record {
-        cols-size = c.cols-size;
-        rows-size = length-set s.rows j free ∙ c.rows-size;
-        marks-size = length-set s.marks i 2 ∙ c.marks-size;
+        cols_size = c.cols_size;
+        rows_size = length-set s.rows j free ∙ c.rows_size;
+        marks_size = length-set s.marks i 2 ∙ c.marks_size;
         row_below = λ k l. omega (arith, get_or-set_other s.rows j k free 0 (λ e. omega arith), c.row_below k (omega arith));
         col_below = c.col_below;
       }

@@ -25,8 +25,8 @@ use Rattle.reduction.proofs.Recalled.{candidates_rise}
 -- ---- row reduction: prices only fall
 
 -- A price that is not raised. Past the end of the list nothing is stored.
-set-fell : (v : List ℤ) (j : ℕ) (p : ℤ) → p ≤ℤ signed_at v j → Fell v (set v j p)
-set-fell v j p h = record {
+set_fell : (v : List ℤ) (j : ℕ) (p : ℤ) → p ≤ℤ signed_at v j → Fell v (set v j p)
+set_fell v j p h = record {
   fell = here_or_elsewhere (λ k. signed_at (set v j p) k ≤ℤ signed_at v k) j
       (elim (lt_or_le j (length v)) [
         | inl l ↦ omega (zlin, get_or-set_same v j p (pos 0) l)
@@ -50,7 +50,7 @@ pub look_falls : (n : ℕ) (cost : ℕ → ℕ → ℤ) (x : Passing) → Fell x
 look_falls n cost x =
     let t = two_lowest n (reduced cost (signed_at x.prices) (at x.frees x.pass.current)) in
     let w = choose n (is_early n x.pass) x.prices x.pairs.rows t in
-    set-fell x.prices w.column w.price (choose_falls n (is_early n x.pass) x.prices x.pairs.rows t)
+    set_fell x.prices w.column w.price (choose_falls n (is_early n x.pass) x.prices x.pairs.rows t)
 
 -- Reduced costs only rise.
 reduced_rises : (cost : ℕ → ℕ → ℤ) {v u : List ℤ} → Fell v u → (i k : ℕ) → reduced cost (signed_at v) i k ≤ℤ reduced cost (signed_at u) i k

@@ -17,7 +17,7 @@ use Rattle.rules.specs.Lowest.{low, beside, two_lowest}
 use Rattle.reduction.specs.declared.candidates.Three.{Three}
 use Rattle.reduction.specs.Candidates.{Before, FirstTwo, Candidates, FirstThree, FoundThree, three, far, start_three, insert}
 use Rattle.reduction.proofs.Turns.{two_lowest_two}
-use Rattle.reduction.proofs.Order.{AreFirst, found_are_first, before-below, before-left, before_trans, in_order, first_two_found}
+use Rattle.reduction.proofs.Order.{AreFirst, found_are_first, before_below, before_left, before_trans, in_order, first_two_found}
 use Rattle.reduction.proofs.Recalled.{candidates_qpr, candidates_prq}
 
 -- ---- the candidates found: the first three, and a bound of the others, as a loop over the row has them
@@ -37,30 +37,30 @@ module _ {f : ℕ → ℤ} {w : ℤ} where
   module _ {p q : ℕ} (t : FirstTwo f 2 p q) where
     start_candidates : Candidates f 3 p q 2 w
     start_candidates = record {
-      p_inside = omega (arith, t.first-inside);
-      q_inside = omega (arith, t.second-inside);
+      p_inside = omega (arith, t.first_inside);
+      q_inside = omega (arith, t.second_inside);
       r_inside = omega arith;
       p_q = t.apart;
-      p_r = λ e. omega (arith, t.first-inside);
-      q_r = λ e. omega (arith, t.second-inside);
-      others = λ k l d e h. absurd (omega (arith, t.first-inside, t.second-inside, t.apart));
+      p_r = λ e. omega (arith, t.first_inside);
+      q_r = λ e. omega (arith, t.second_inside);
+      others = λ k l d e h. absurd (omega (arith, t.first_inside, t.second_inside, t.apart));
     }
 
     start_third : f q ≤ℤ f 2 → f 2 ≤ℤ w → FirstThree f 3 p q 2 w
-    start_third h = three_start start_candidates (in_order t) (before-left t.second-inside h)
+    start_third h = three_start start_candidates (in_order t) (before_left t.second_inside h)
 
     start_second : f p ≤ℤ f 2 → f 2 <ℤ f q → f q ≤ℤ w → FirstThree f 3 p 2 q w
-    start_second h l = three_start (candidates_prq start_candidates) (before-left t.first-inside h) (before-below l)
+    start_second h l = three_start (candidates_prq start_candidates) (before_left t.first_inside h) (before_below l)
 
     start_first : f 2 <ℤ f p → f q ≤ℤ w → FirstThree f 3 2 p q w
-    start_first l = three_start (candidates_qpr (candidates_prq start_candidates)) (before-below l) (in_order t)
+    start_first l = three_start (candidates_qpr (candidates_prq start_candidates)) (before_below l) (in_order t)
 
 module _ {f : ℕ → ℤ} {n p q r : ℕ} {w : ℤ} (t : FirstThree f n p q r w) where
   -- The two lowest are the first two of three.
   first_three_two : two_lowest n f ≡ Two (low (f p) p) (low (f q) q)
   first_three_two = first_two_found (record {
-    first-inside = t.kept.p_inside;
-    second-inside = t.kept.q_inside;
+    first_inside = t.kept.p_inside;
+    second_inside = t.kept.q_inside;
     apart = t.kept.p_q;
     first = λ k l d. elim (ℕ_discrete k q) [
       | yes e ↦ subst (Before f p) (sym e) t.first
@@ -76,8 +76,8 @@ module _ {f : ℕ → ℤ} {n p q r : ℕ} {w : ℤ} (t : FirstThree f n p q r w
       ]
 
   -- Past places that are not below the bound.
-  three-pass : (m : ℕ) → n ≤ m → ((k : ℕ) → k < m → n ≤ k → lt_z (f k) w ≡ false) → FirstThree f m p q r w
-  three-pass m more passed = record {
+  three_pass : (m : ℕ) → n ≤ m → ((k : ℕ) → k < m → n ≤ k → lt_z (f k) w ≡ false) → FirstThree f m p q r w
+  three_pass m more passed = record {
     kept = record {
       p_inside = omega (arith, t.kept.p_inside);
       q_inside = omega (arith, t.kept.q_inside);
@@ -94,7 +94,7 @@ module _ {f : ℕ → ℤ} {n p q r : ℕ} {w : ℤ} (t : FirstThree f n p q r w
     second = t.second;
     rest = λ k l d e h. elim (lt_or_le k n) [
       | inl a ↦ t.rest k a d e h
-      | inr a ↦ before-left (omega (arith, t.kept.r_inside)) (omega (zarith, t.bound, above k l a))
+      | inr a ↦ before_left (omega (arith, t.kept.r_inside)) (omega (zarith, t.bound, above k l a))
     ];
     bound = t.bound;
   }
@@ -116,7 +116,7 @@ module _ {f : ℕ → ℤ} {n p q r : ℕ} {w : ℤ} (t : FirstThree f n p q r w
     };
     first = t.first;
     second = t.second;
-    rest = below_suc (λ k. k ≢ p → k ≢ q → k ≢ r → Before f r k) t.rest (λ a b c. before-left t.kept.r_inside h);
+    rest = below_suc (λ k. k ≢ p → k ≢ q → k ≢ r → Before f r k) t.rest (λ a b c. before_left t.kept.r_inside h);
     bound = h;
   }
 
@@ -150,16 +150,16 @@ module _ {f : ℕ → ℤ} {n p q r : ℕ} {w : ℤ} (t : FirstThree f n p q r w
     three_third h = record {
       kept = taken;
       first = t.first;
-      second = before-left t.kept.q_inside h;
-      rest = below_suc (λ k. k ≢ p → k ≢ q → k ≢ n → Before f n k) (λ k l d e z. left_out n (before-below low-enough) k l d e) (λ d e z. absurd (z refl));
+      second = before_left t.kept.q_inside h;
+      rest = below_suc (λ k. k ≢ p → k ≢ q → k ≢ n → Before f n k) (λ k l d e z. left_out n (before_below low-enough) k l d e) (λ d e z. absurd (z refl));
       bound = omega zarith;
     }
 
-    three-second : f p ≤ℤ f n → f n <ℤ f q → FirstThree f (suc n) p n q (f r)
-    three-second h l = record {
+    three_second : f p ≤ℤ f n → f n <ℤ f q → FirstThree f (suc n) p n q (f r)
+    three_second h l = record {
       kept = candidates_prq taken;
-      first = before-left t.kept.p_inside h;
-      second = before-below l;
+      first = before_left t.kept.p_inside h;
+      second = before_below l;
       rest = below_suc (λ k. k ≢ p → k ≢ n → k ≢ q → Before f q k) (λ k i d z e. left_out q t.second k i d e) (λ d z e. absurd (z refl));
       bound = t.second.no_more;
     }
@@ -167,7 +167,7 @@ module _ {f : ℕ → ℤ} {n p q r : ℕ} {w : ℤ} (t : FirstThree f n p q r w
     three-first : f n <ℤ f p → FirstThree f (suc n) n p q (f r)
     three-first l = record {
       kept = candidates_qpr (candidates_prq taken);
-      first = before-below l;
+      first = before_below l;
       second = t.first;
       rest = below_suc (λ k. k ≢ n → k ≢ p → k ≢ q → Before f q k) (λ k i z d e. left_out q t.second k i d e) (λ z d e. absurd (z refl));
       bound = t.second.no_more;
@@ -183,7 +183,7 @@ module _ (f : ℕ → ℤ) where
       let o = r.ordered in
       let e : x.value ≡ f x.place = ap (λ (l : Low). l.value) r.first_is in
       let d : y.value ≡ f y.place = ap (λ (l : Low). l.value) r.second_is in
-      let far-y : f y.place ≤ℤ far = most y.place (omega (arith, o.second-inside)) in
+      let far-y : f y.place ≤ℤ far = most y.place (omega (arith, o.second_inside)) in
       cond_cases (lt_z (f 2) y.value) (FoundThree f 3) (cond (lt_z (f 2) x.value) (three z x y far) (three x z y far)) (three x y z far)
       (λ t. cond_cases (lt_z (f 2) x.value) (FoundThree f 3) (three z x y far) (three x z y far)
       (λ u. record { first_is = refl; second_is = e; third_is = d; places = start_first o (omega (zarith, e)) far-y })
@@ -198,8 +198,8 @@ module _ (f : ℕ → ℤ) where
         ∙ sym (first_three_two r.places)
 
     -- Past columns that are not below the limit.
-    pub pass-found : (m : ℕ) → n ≤ m → ((k : ℕ) → k < m → n ≤ k → lt_z (f k) t.limit ≡ false) → FoundThree f m t
-    pass-found m l passed = record { first_is = r.first_is; second_is = r.second_is; third_is = r.third_is; places = three-pass r.places m l passed }
+    pub pass_found : (m : ℕ) → n ≤ m → ((k : ℕ) → k < m → n ≤ k → lt_z (f k) t.limit ≡ false) → FoundThree f m t
+    pass_found m l passed = record { first_is = r.first_is; second_is = r.second_is; third_is = r.third_is; places = three_pass r.places m l passed }
 
     fourth_found : lt_z (f n) t.third.value ≡ false → lt_z (f n) t.limit ≡ true → FoundThree f (suc n) (three t.first t.second t.third (f n))
     fourth_found h l = record {
@@ -219,14 +219,14 @@ module _ (f : ℕ → ℤ) where
           (three_third r.places (omega (zarith, r.third_is)) (omega (zarith, r.second_is)));
     }
 
-    second-found : lt_z (f n) t.second.value ≡ true → lt_z (f n) t.first.value ≡ false
+    second_found : lt_z (f n) t.second.value ≡ true → lt_z (f n) t.first.value ≡ false
         → FoundThree f (suc n) (three t.first (low (f n) n) t.second t.third.value)
-    second-found h l = record {
+    second_found h l = record {
       first_is = r.first_is;
       second_is = refl;
       third_is = r.second_is;
       places = subst (FirstThree f (suc n) t.first.place n t.second.place) (sym r.third_is)
-          (three-second r.places (omega (zarith, r.second_is, r.places.second.no_more)) (omega (zarith, r.first_is)) (omega (zarith, r.second_is)));
+          (three_second r.places (omega (zarith, r.second_is, r.places.second.no_more)) (omega (zarith, r.first_is)) (omega (zarith, r.second_is)));
     }
 
     first_found : lt_z (f n) t.first.value ≡ true → FoundThree f (suc n) (three (low (f n) n) t.first t.second t.third.value)
@@ -247,16 +247,16 @@ module _ (f : ℕ → ℤ) where
         let w = t.third.value in
         cond_cases (lt_z (f n) w) (FoundThree f (suc n)) (cond (lt_z (f n) b.value) (cond (lt_z (f n) a.value) (three h a b w) (three a h b w)) (three a b h w)) (three a b t.third (f n))
         (λ x. cond_cases (lt_z (f n) b.value) (FoundThree f (suc n)) (cond (lt_z (f n) a.value) (three h a b w) (three a h b w)) (three a b h w)
-        (λ y. cond_cases (lt_z (f n) a.value) (FoundThree f (suc n)) (three h a b w) (three a h b w) first_found (second-found y))
+        (λ y. cond_cases (lt_z (f n) a.value) (FoundThree f (suc n)) (three h a b w) (three a h b w) first_found (second_found y))
         (third_found x))
         (λ x. fourth_found x below)
 
 -- ---- the first three columns, as code reads them
 
 -- No number of 64 bits is above `far`.
-far-most : (z : ℤ) → SFits w64 z → z ≤ℤ far
-far-most (pos n) h = omega (zarith, h.sfits)
-far-most (negsuc n) h = omega zarith
+far_most : (z : ℤ) → SFits w64 z → z ≤ℤ far
+far_most (pos n) h = omega (zarith, h.sfits)
+far_most (negsuc n) h = omega zarith
 
 -- Columns 0, 1 and 2 were read as a, b and c; x and y are the first two of a and b.
 pub started : (f : ℕ → ℤ) (t : Three) (x y a b c : Low) → a ≡ low (f 0) 0 → b ≡ low (f 1) 1 → c ≡ low (f 2) 2 → SFits w64 a.value → SFits w64 b.value
@@ -267,9 +267,9 @@ started f t x y a b c p q r fits-a fits-b fits-c e s =
   where
     most : (k : ℕ) → k < 3 → f k ≤ℤ far
     most k l = elim (ℕ_discrete k 0) [
-      | yes h ↦ subst (λ (m : ℕ). f m ≤ℤ far) (sym h) (subst (λ (z : Low). z.value ≤ℤ far) p (far-most a.value fits-a))
+      | yes h ↦ subst (λ (m : ℕ). f m ≤ℤ far) (sym h) (subst (λ (z : Low). z.value ≤ℤ far) p (far_most a.value fits-a))
       | no h ↦ elim (ℕ_discrete k 1) [
-        | yes i ↦ subst (λ (m : ℕ). f m ≤ℤ far) (sym i) (subst (λ (z : Low). z.value ≤ℤ far) q (far-most b.value fits-b))
-        | no i ↦ let j : 2 ≡ k = omega arith in subst (λ (m : ℕ). f m ≤ℤ far) j (subst (λ (z : Low). z.value ≤ℤ far) r (far-most c.value fits-c))
+        | yes i ↦ subst (λ (m : ℕ). f m ≤ℤ far) (sym i) (subst (λ (z : Low). z.value ≤ℤ far) q (far_most b.value fits-b))
+        | no i ↦ let j : 2 ≡ k = omega arith in subst (λ (m : ℕ). f m ≤ℤ far) j (subst (λ (z : Low). z.value ≤ℤ far) r (far_most c.value fits-c))
       ]
     ]

@@ -19,8 +19,8 @@ use Rattle.rules.specs.Lowest.{reduced, two_lowest}
 use Rattle.rules.specs.Rows.{Passing, look}
 use Rattle.reduction.specs.Candidates.{Candidates, seen, unseen, Roomy, Keeps, Told, AllKept, Fell}
 use Rattle.reduction.specs.Rows.{Keeping}
-use Rattle.reduction.proofs.RoomParts.{back-lent, back-length, front_returned, front_size, back-left}
-use Rattle.reduction.proofs.RowParts.{row-length, row_at, row-two_lowest}
+use Rattle.reduction.proofs.RoomParts.{back_lent, back_length, front_returned, front_size, back_left}
+use Rattle.reduction.proofs.RowParts.{row_length, row_at, row_two_lowest}
 use Rattle.reduction.proofs.Recalled.{candidates_rise}
 use Rattle.reduction.proofs.Falling.{look_falls, candidates_last}
 
@@ -50,7 +50,7 @@ module _ (n i : ℕ) (costs row v : List ℤ) (inside : i < n) (size : length co
   here_is k h = ap (λ (x : ℤ). x -ℤ signed_at v k) (row_at n i costs row inside size is k h)
 
   long : length row ≡ n
-  long = row-length n i costs row inside size is
+  long = row_length n i costs row inside size is
 
   -- A room whose back is lent.
   module _ (room : List ℕ) (limits : List ℤ) (keeping : Keeping n costs v room limits) where
@@ -58,12 +58,12 @@ module _ (n i : ℕ) (costs row v : List ℤ) (inside : i < n) (size : length co
     lent = take (4 * n - n) (drop n room)
 
     lent_is : lent ≡ part n (n + n + n) room
-    lent_is = back-lent n room keeping.room-size
+    lent_is = back_lent n room keeping.room_size
 
-    pub lent-roomy : Roomy (length row) lent limits
-    lent-roomy = record {
-      kept-size = omega (arith, long, ap length lent_is, back-length n room keeping.room-size);
-      limits-size = keeping.limits-size ∙ sym long;
+    pub lent_roomy : Roomy (length row) lent limits
+    lent_roomy = record {
+      kept_size = omega (arith, long, ap length lent_is, back_length n room keeping.room_size);
+      limits_size = keeping.limits_size ∙ sym long;
     }
 
     lent-kept : AllKept n cost v lent limits
@@ -76,10 +76,10 @@ module _ (n i : ℕ) (costs row v : List ℤ) (inside : i < n) (size : length co
 
     module _ {kept : List ℕ} {limits' : List ℤ} {two : TwoLowest} (told : Told here (length row) i lent limits kept limits' two) where
       pub two_told : two ≡ two_lowest n (reduced cost (signed_at v) i)
-      two_told = told.two_are ∙ row-two_lowest n i costs row inside size is v
+      two_told = told.two_are ∙ row_two_lowest n i costs row inside size is v
 
-      own-told : Keeps (reduced cost (signed_at v) i) n i kept limits'
-      own-told h =
+      own_told : Keeps (reduced cost (signed_at v) i) n i kept limits'
+      own_told h =
           candidates_rise
           (subst (λ (m : ℕ). Candidates here m (at kept (3 * i)) (at kept (3 * i + 1)) (at kept (3 * i + 2)) (signed_at limits' i)) long (told.own h))
           (λ k l. subst (λ (z : ℤ). here k ≤ℤ z) (here_is k l) (≤ℤ_refl (here k)))
@@ -90,20 +90,20 @@ module _ (n i : ℕ) (costs row v : List ℤ) (inside : i < n) (size : length co
           (told.others (reduced cost (signed_at v) k) k d
           (subst (λ (m : ℕ). Keeps (reduced cost (signed_at v) k) m k lent limits) (sym long) (lent-kept.rows k l)))
 
-      pub kept-told : AllKept n cost v kept limits'
-      kept-told = record {
+      pub kept_told : AllKept n cost v kept limits'
+      kept_told = record {
         rows = λ k l. elim (ℕ_discrete k i) [
-          | yes e ↦ subst (λ (m : ℕ). Keeps (reduced cost (signed_at v) m) n m kept limits') (sym e) own-told
+          | yes e ↦ subst (λ (m : ℕ). Keeps (reduced cost (signed_at v) m) n m kept limits') (sym e) own_told
           | no d ↦ other_told k l d
         ];
       }
 
       -- After the look: the room in which the back came back as `kept`, then the front as `frees`.
-      pub keeping_look : (x y : Passing) → x.prices ≡ v → y ≡ look n cost x → (kept-size : length kept ≡ n + n + n) (frees : List ℕ) (frees-size : length frees ≡ n)
-          → length limits' ≡ n → Keeping n costs y.prices (front_returned n room keeping.room-size kept kept-size frees frees-size) limits'
-      keeping_look x y at-v e kept-size frees frees-size limits-size = record {
-        room-size = front_size n room keeping.room-size kept kept-size frees frees-size;
-        limits-size = limits-size;
-        kept = subst (λ (k : List ℕ). AllKept n cost y.prices k limits') (sym (back-left n room keeping.room-size kept kept-size frees frees-size))
-            (kept-look n cost x y kept limits' e (subst (λ (u : List ℤ). AllKept n cost u kept limits') (sym at-v) kept-told));
+      pub keeping_look : (x y : Passing) → x.prices ≡ v → y ≡ look n cost x → (kept_size : length kept ≡ n + n + n) (frees : List ℕ) (frees_size : length frees ≡ n)
+          → length limits' ≡ n → Keeping n costs y.prices (front_returned n room keeping.room_size kept kept_size frees frees_size) limits'
+      keeping_look x y at-v e kept_size frees frees_size limits_size = record {
+        room_size = front_size n room keeping.room_size kept kept_size frees frees_size;
+        limits_size = limits_size;
+        kept = subst (λ (k : List ℕ). AllKept n cost y.prices k limits') (sym (back_left n room keeping.room_size kept kept_size frees frees_size))
+            (kept-look n cost x y kept limits' e (subst (λ (u : List ℤ). AllKept n cost u kept limits') (sym at-v) kept_told));
       }

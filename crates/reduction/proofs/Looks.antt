@@ -19,8 +19,8 @@ use Rattle.rules.specs.declared.Pass.{Pass}
 use Rattle.rules.specs.Lowest.{reduced, two_lowest}
 use Rattle.rules.specs.Columns.{Stage}
 use Rattle.rules.specs.Rows.{Passing, Placed, choose, pass_at, displace, settle, is_early, look, looks, pass_start, row_reduction}
-use Rattle.rules.proofs.Passes.{looks_none, looks_more, looks-rest}
-use Rattle.matrix.proofs.SmallLimits.{side-small}
+use Rattle.rules.proofs.Passes.{looks_none, looks_more, looks_rest}
+use Rattle.matrix.proofs.SmallLimits.{side_small}
 use Rattle.reduction.specs.Ranges.{Near, Square}
 use Rattle.reduction.specs.Columns.{stage_at}
 use Rattle.reduction.specs.Rows.{placed_at, passing_at, Ready, Passable}
@@ -42,49 +42,49 @@ module _ (n : ℕ) (cost : ℕ → ℕ → ℤ) (x : Passing) where
 
 -- Lists of n entries, and a next list that ends at `current` at most.
 pub record Sized (n : ℕ) (x : Passing) : Type 0 where
-  pub cols-size : length x.pairs.cols ≡ n
-  pub rows-size : length x.pairs.rows ≡ n
-  pub prices-size : length x.prices ≡ n
-  pub frees-size : length x.frees ≡ n
-  pub left-most : x.pass.left ≤ x.pass.current
+  pub cols_size : length x.pairs.cols ≡ n
+  pub rows_size : length x.pairs.rows ≡ n
+  pub prices_size : length x.prices ≡ n
+  pub frees_size : length x.frees ≡ n
+  pub left_most : x.pass.left ≤ x.pass.current
 
 -- A free list of n entries, and a pass that has made one look more.
 record Moved (n looks : ℕ) (y : Placed) : Type 0 where
-  frees-size : length y.frees ≡ n
-  left-most : y.pass.left ≤ y.pass.current
+  frees_size : length y.frees ≡ n
+  left_most : y.pass.left ≤ y.pass.current
   one_more : y.pass.looks ≡ looks + 1
 
-displace-moved : (n m : ℕ) (frees : List ℕ) (p : Pass) (back : Bool) (h : ℕ) → length frees ≡ m → p.left ≤ p.current → Moved m p.looks (displace n frees p back h)
-displace-moved n m frees p back h size most =
+displace_moved : (n m : ℕ) (frees : List ℕ) (p : Pass) (back : Bool) (h : ℕ) → length frees ≡ m → p.left ≤ p.current → Moved m p.looks (displace n frees p back h)
+displace_moved n m frees p back h size most =
     let again = placed_at (set frees p.current h) (pass_at p.current p.left (p.looks + 1)) in
     let next = placed_at (set frees p.left h) (pass_at (p.current + 1) (p.left + 1) (p.looks + 1)) in
     let none = placed_at frees (pass_at (p.current + 1) p.left (p.looks + 1)) in
     cond_cases (ltb h n) (Moved m p.looks) (cond back again next) none
     (λ t. cond_cases back (Moved m p.looks) again next
-    (λ r. record { frees-size = length-set frees p.current h ∙ size; left-most = most; one_more = refl })
-    (λ r. record { frees-size = length-set frees p.left h ∙ size; left-most = omega arith; one_more = refl }))
-    (λ t. record { frees-size = size; left-most = omega arith; one_more = refl })
+    (λ r. record { frees_size = length-set frees p.current h ∙ size; left_most = most; one_more = refl })
+    (λ r. record { frees_size = length-set frees p.left h ∙ size; left_most = omega arith; one_more = refl }))
+    (λ t. record { frees_size = size; left_most = omega arith; one_more = refl })
 
 module _ (n : ℕ) (cost : ℕ → ℕ → ℤ) (x : Passing) (s : Sized n x) where
-  look-moved : Moved n x.pass.looks (placed_at (look n cost x).frees (look n cost x).pass)
-  look-moved =
+  look_moved : Moved n x.pass.looks (placed_at (look n cost x).frees (look n cost x).pass)
+  look_moved =
       let w = choice_of n cost x in
-      displace-moved n n x.frees x.pass w.back (at x.pairs.rows w.column) s.frees-size s.left-most
+      displace_moved n n x.frees x.pass w.back (at x.pairs.rows w.column) s.frees_size s.left_most
 
   look_sized : Sized n (look n cost x)
   look_sized =
       let i = at x.frees x.pass.current in
       let w = choice_of n cost x in
       record {
-        cols-size = length-set x.pairs.cols i w.column ∙ s.cols-size;
-        rows-size = length-set x.pairs.rows w.column i ∙ s.rows-size;
-        prices-size = length-set x.prices w.column w.price ∙ s.prices-size;
-        frees-size = look-moved.frees-size;
-        left-most = look-moved.left-most;
+        cols_size = length-set x.pairs.cols i w.column ∙ s.cols_size;
+        rows_size = length-set x.pairs.rows w.column i ∙ s.rows_size;
+        prices_size = length-set x.prices w.column w.price ∙ s.prices_size;
+        frees_size = look_moved.frees_size;
+        left_most = look_moved.left_most;
       }
 
-  look-counts : (look n cost x).pass.looks ≡ x.pass.looks + 1
-  look-counts = look-moved.one_more
+  look_counts : (look n cost x).pass.looks ≡ x.pass.looks + 1
+  look_counts = look_moved.one_more
 
 looks_sized : (n : ℕ) (cost : ℕ → ℕ → ℤ) (count : ℕ) (x : Passing) → Sized n x → (m : ℕ) → Sized n (looks n cost count m x)
 unfolding looks
@@ -102,14 +102,14 @@ pub passable_none : (n : ℕ) (costs : List ℤ) (s : Stage) → Square n costs 
     → Passable n costs s.pairs.cols s.pairs.rows s.prices s.frees 0
 passable_none n costs s squared z = record {
   squared = squared;
-  cols-size = z.cols-size;
-  rows-size = z.rows-size;
-  prices-size = z.prices-size;
-  frees-size = z.frees-size;
+  cols_size = z.cols_size;
+  rows_size = z.rows_size;
+  prices_size = z.prices_size;
+  frees_size = z.frees_size;
   count_most = omega arith;
   ends = omega arith;
   row_below = λ m l. absurd (omega (arith, zero-mul n));
-  near-prices = λ m l. absurd (omega (arith, zero-mul n));
+  near_prices = λ m l. absurd (omega (arith, zero-mul n));
 }
 
 -- ---- the loop of a pass, at its head: it stands where its counter says
@@ -137,7 +137,7 @@ module _ {n : ℕ} {costs : List ℤ} {cols rows : List ℕ} {v : List ℤ} {fre
     sized =
         subst (Sized n) (sym h.stands)
         (looks_sized n cost count begin
-        (record { cols-size = p.cols-size; rows-size = p.rows-size; prices-size = p.prices-size; frees-size = p.frees-size; left-most = omega arith })
+        (record { cols_size = p.cols_size; rows_size = p.rows_size; prices_size = p.prices_size; frees_size = p.frees_size; left_most = omega arith })
         y.pass.looks)
 
     -- A row is left: the counter is below count * n.
@@ -154,28 +154,28 @@ module _ {n : ℕ} {costs : List ℤ} {cols rows : List ℕ} {v : List ℤ} {fre
           by (no l) =
               let m = y.pass.looks in
               let e : count * n + (m - count * n) ≡ m = omega arith in
-              let q : after m ≡ after (count * n) = ap after (sym e) ∙ looks-rest n cost count begin (count * n) p.ends (m - count * n) in
+              let q : after m ≡ after (count * n) = ap after (sym e) ∙ looks_rest n cost count begin (count * n) p.ends (m - count * n) in
               absurd (omega (arith, here, p.ends, ap (λ (z : Passing). z.pass.current) q))
 
       pub ready : Ready n costs y
       ready =
-          let side-fits : n ≤ 2 ^ 16 = omega (arith, side-small, p.squared.small) in
+          let side-fits : n ≤ 2 ^ 16 = omega (arith, side_small, p.squared.small) in
           let count_fits : count ≤ 2 ^ 16 = omega (arith, p.count_most) in
           record {
             squared = p.squared;
-            cols-size = sized.cols-size;
-            rows-size = sized.rows-size;
-            prices-size = sized.prices-size;
-            frees-size = sized.frees-size;
+            cols_size = sized.cols_size;
+            rows_size = sized.rows_size;
+            prices_size = sized.prices_size;
+            frees_size = sized.frees_size;
             current_below = omega (arith, p.count_most);
-            left-most = sized.left-most;
+            left_most = sized.left_most;
             looks_fit = omega (arith, below, mul-le-mul count_fits side-fits);
             row_below = subst (λ (z : Passing). at z.frees z.pass.current < n) (sym h.stands) (p.row_below y.pass.looks below here);
-            near-prices = subst (λ (z : Passing). Near n z.prices) (sym h.stands) (p.near-prices y.pass.looks below here);
+            near_prices = subst (λ (z : Passing). Near n z.prices) (sym h.stands) (p.near_prices y.pass.looks below here);
           }
 
       counted : (z : Passing) → z ≡ look n cost y → z.pass.looks ≡ suc y.pass.looks
-      counted z e = ap (λ (q : Passing). q.pass.looks) e ∙ look-counts n cost y sized ∙ add-one y.pass.looks
+      counted z e = ap (λ (q : Passing). q.pass.looks) e ∙ look_counts n cost y sized ∙ add-one y.pass.looks
 
       pub head_next : (z : Passing) → z ≡ look n cost y → Head n cost count begin z
       head_next z e = record {
@@ -191,4 +191,4 @@ module _ {n : ℕ} {costs : List ℤ} {cols rows : List ℕ} {v : List ℤ} {fre
     head_ends l =
         let m = y.pass.looks in
         let e : m + (count * n - m) ≡ count * n = omega (arith, h.most) in
-        h.stands ∙ sym (looks-rest n cost count begin m (subst (λ (z : Passing). count ≤ z.pass.current) h.stands l) (count * n - m)) ∙ ap after e
+        h.stands ∙ sym (looks_rest n cost count begin m (subst (λ (z : Passing). count ≤ z.pass.current) h.stands l) (count * n - m)) ∙ ap after e

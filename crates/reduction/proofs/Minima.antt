@@ -12,7 +12,7 @@ use Rattle.rules.specs.declared.Low.{Low}
 use Rattle.rules.specs.Lowest.{lowest}
 use Rattle.reduction.specs.Columns.{low_at}
 use Rattle.reduction.proofs.Turns.{lower_cong, lowest_one, lowest_more}
-use Rattle.reduction.proofs.RowParts.{row-length, row_at}
+use Rattle.reduction.proofs.RowParts.{row_length, row_at}
 
 module _ (n : ℕ) (costs : List ℤ) where
   -- The lowest of the first i rows in column j.
@@ -38,13 +38,13 @@ module _ (n i : ℕ) (costs row : List ℤ) (inside : i < n) (size : length cost
   module _ (one : 1 ≤ i) (rows : List ℕ) (v : List ℤ) (e : rows ≡ places n costs i) (f : v ≡ values n costs i) where
     pub places_more : table (length row) (λ j. (low_at i row v rows j).place) ≡ places n costs (i + 1)
     places_more =
-        ap (λ (m : ℕ). table m (λ j. (low_at i row v rows j).place)) (row-length n i costs row inside size is)
+        ap (λ (m : ℕ). table m (λ j. (low_at i row v rows j).place)) (row_length n i costs row inside size is)
         ∙ table_cong n (λ j. (low_at i row v rows j).place) (λ j. (lowest_of n costs (i + 1) j).place)
         (λ j h. ap (λ (x : Low). x.place) (low_at_is one rows v e f j h))
 
     pub values_more : table (length row) (λ j. (low_at i row v rows j).value) ≡ values n costs (i + 1)
     values_more =
-        ap (λ (m : ℕ). table m (λ j. (low_at i row v rows j).value)) (row-length n i costs row inside size is)
+        ap (λ (m : ℕ). table m (λ j. (low_at i row v rows j).value)) (row_length n i costs row inside size is)
         ∙ table_cong n (λ j. (low_at i row v rows j).value) (λ j. (lowest_of n costs (i + 1) j).value)
         (λ j h. ap (λ (x : Low). x.value) (low_at_is one rows v e f j h))
 
@@ -55,6 +55,6 @@ module _ (n : ℕ) (costs row : List ℤ) (inside : 0 < n) (size : length costs 
 
   pub values_one : row ≡ values n costs 1
   values_one =
-      sym (table_get_d row (pos 0)) ∙ ap (λ (m : ℕ). table m (signed_at row)) (row-length n 0 costs row inside size is)
+      sym (table_get_d row (pos 0)) ∙ ap (λ (m : ℕ). table m (signed_at row)) (row_length n 0 costs row inside size is)
       ∙ table_cong n (signed_at row) (λ j. (lowest_of n costs 1 j).value)
       (λ j h. row_at n 0 costs row inside size is j h ∙ sym (ap (λ (x : Low). x.value) (lowest_one (λ k. (square n costs).cost k j))))

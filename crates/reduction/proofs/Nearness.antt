@@ -32,7 +32,7 @@ module _ (n : ℕ) (costs v : List ℤ) (s : Square n costs) (prices : Near n v)
     two_near : (two : TwoLowest) → 1 ≤ n → RightTwo (reduced (square n costs).cost (signed_at v) i) n two → Inside n two
     two_near (One a) one r = omega (arith, ap (λ (x : Low). x.place) r.1)
     two_near (Two a b) one r =
-        (r.first-inside, r.second-inside, reduced-near i a.place a.value li r.first-inside r.first_is, reduced-near i b.place b.value li r.second-inside r.second_is)
+        (r.first_inside, r.second_inside, reduced-near i a.place a.value li r.first_inside r.first_is, reduced-near i b.place b.value li r.second_inside r.second_is)
 
     pub two_lowest-near : Inside n (two_lowest n (reduced (square n costs).cost (signed_at v) i))
     two_lowest-near =

@@ -19,11 +19,11 @@ use Rattle.reduction.specs.Candidates.{Before, FirstTwo}
 -- ---- the order
 
 module _ {f : ℕ → ℤ} where
-  pub before-below : {a b : ℕ} → f a <ℤ f b → Before f a b
-  before-below h = record { no_more = omega zarith; tie = λ l. absurd (omega zarith) }
+  pub before_below : {a b : ℕ} → f a <ℤ f b → Before f a b
+  before_below h = record { no_more = omega zarith; tie = λ l. absurd (omega zarith) }
 
-  pub before-left : {a b : ℕ} → a < b → f a ≤ℤ f b → Before f a b
-  before-left l h = record { no_more = h; tie = λ z. l }
+  pub before_left : {a b : ℕ} → a < b → f a ≤ℤ f b → Before f a b
+  before_left l h = record { no_more = h; tie = λ z. l }
 
   pub before_trans : {a b c : ℕ} → Before f a b → Before f b c → Before f a c
   before_trans r s = record {
@@ -38,7 +38,7 @@ module _ {f : ℕ → ℤ} where
 
 module _ {f : ℕ → ℤ} {n a b : ℕ} (r : FirstTwo f n a b) where
   pub in_order : Before f a b
-  in_order = r.first b r.second-inside (λ e. r.apart (sym e))
+  in_order = r.first b r.second_inside (λ e. r.apart (sym e))
 
   first_no_lower : (k : ℕ) → k < n → f a ≤ℤ f k
   first_no_lower = here_or_elsewhere (λ k. k < n → f a ≤ℤ f k) a (λ l. ≤ℤ_refl (f a)) (λ k d l. (r.first k l d).no_more)
@@ -49,13 +49,13 @@ module _ {f : ℕ → ℤ} {n a b : ℕ} (r : FirstTwo f n a b) where
   first_unique : {c d : ℕ} → FirstTwo f n c d → a ≡ c
   first_unique {c} s = elim (ℕ_discrete a c) [
     | yes e ↦ e
-    | no e ↦ absurd (before_not_after (r.first c s.first-inside (λ z. e (sym z))) (s.first a r.first-inside e))
+    | no e ↦ absurd (before_not_after (r.first c s.first_inside (λ z. e (sym z))) (s.first a r.first_inside e))
   ]
 
   second_unique : {d : ℕ} → FirstTwo f n a d → b ≡ d
   second_unique {d} s = elim (ℕ_discrete b d) [
     | yes e ↦ e
-    | no e ↦ absurd (before_not_after (r.second d s.second-inside (λ z. s.apart (sym z)) (λ z. e (sym z))) (s.second b r.second-inside (λ z. r.apart (sym z)) e))
+    | no e ↦ absurd (before_not_after (r.second d s.second_inside (λ z. s.apart (sym z)) (λ z. e (sym z))) (s.second b r.second_inside (λ z. r.apart (sym z)) e))
   ]
 
 -- ---- what rule 1 finds
@@ -86,11 +86,11 @@ module _ (f : ℕ → ℤ) (k : ℕ) (x : Low) (is : x ≡ low (f x.place) x.pla
     first_is = is;
     second_is = refl;
     ordered = record {
-      first-inside = omega arith;
-      second-inside = omega arith;
+      first_inside = omega arith;
+      second_inside = omega arith;
       apart = λ e. omega arith;
-      first = below_suc (λ j. j ≢ here → Before f here j) first (λ d. before-left inside (omega (zarith, value_is)));
-      second = below_suc (λ j. j ≢ here → j ≢ k → Before f k j) (λ j l d e. before-below (o j l d)) (λ d e. absurd (e refl));
+      first = below_suc (λ j. j ≢ here → Before f here j) first (λ d. before_left inside (omega (zarith, value_is)));
+      second = below_suc (λ j. j ≢ here → j ≢ k → Before f k j) (λ j l d e. before_below (o j l d)) (λ d e. absurd (e refl));
     };
   }
 
@@ -99,10 +99,10 @@ module _ (f : ℕ → ℤ) (k : ℕ) (x : Low) (is : x ≡ low (f x.place) x.pla
     first_is = refl;
     second_is = is;
     ordered = record {
-      first-inside = omega arith;
-      second-inside = omega arith;
+      first_inside = omega arith;
+      second_inside = omega arith;
       apart = λ e. omega arith;
-      first = below_suc (λ j. j ≢ k → Before f k j) (λ j l d. before-below (omega (zarith, value_is, no_lower j l))) (λ d. absurd (d refl));
+      first = below_suc (λ j. j ≢ k → Before f k j) (λ j l d. before_below (omega (zarith, value_is, no_lower j l))) (λ d. absurd (d refl));
       second = below_suc (λ j. j ≢ k → j ≢ here → Before f here j) (λ j l d e. first j l e) (λ d e. absurd (d refl));
     };
   }
@@ -121,11 +121,11 @@ still_first f k x y r t =
       first_is = r.first_is;
       second_is = r.second_is;
       ordered = record {
-        first-inside = omega (arith, o.first-inside);
-        second-inside = omega (arith, o.second-inside);
+        first_inside = omega (arith, o.first_inside);
+        second_inside = omega (arith, o.second_inside);
         apart = o.apart;
-        first = below_suc (λ j. j ≢ a → Before f a j) o.first (λ d. before-left o.first-inside (omega (zarith, first_no_lower o b o.second-inside)));
-        second = below_suc (λ j. j ≢ a → j ≢ b → Before f b j) o.second (λ d h. before-left o.second-inside l);
+        first = below_suc (λ j. j ≢ a → Before f a j) o.first (λ d. before_left o.first_inside (omega (zarith, first_no_lower o b o.second_inside)));
+        second = below_suc (λ j. j ≢ a → j ≢ b → Before f b j) o.second (λ d h. before_left o.second_inside l);
       };
     }
 
@@ -138,7 +138,7 @@ step_first f k (Two x y) r =
     let o = r.ordered in
     let e : y.value ≡ f y.place = ap (λ (z : Low). z.value) r.second_is in
     cond_cases (lt_z (f k) y.value) (Right f (suc k)) (beside x (low (f k) k)) (Two x y)
-    (λ t. beside_first f k x r.first_is o.first-inside o.first (λ j l d. omega (zarith, e, second_no_lower o j l d)))
+    (λ t. beside_first f k x r.first_is o.first_inside o.first (λ j l d. omega (zarith, e, second_no_lower o j l d)))
     (λ t. still_first f k x y r t)
 
 found_first : (n : ℕ) (f : ℕ → ℤ) → 1 ≤ n → Right f n (two_lowest n f)
@@ -148,10 +148,10 @@ found_first n f one =
 
 -- The first two by value, then place, are the two lowest that rule 1 finds.
 pub first_two_found : {n : ℕ} {f : ℕ → ℤ} {a b : ℕ} → FirstTwo f n a b → two_lowest n f ≡ Two (low (f a) a) (low (f b) b)
-first_two_found {n} {f} {a} {b} r = by (two_lowest n f) (found_first n f (omega (arith, r.first-inside)))
+first_two_found {n} {f} {a} {b} r = by (two_lowest n f) (found_first n f (omega (arith, r.first_inside)))
   where
     by : (t : TwoLowest) → Right f n t → t ≡ Two (low (f a) a) (low (f b) b)
-    by (One x) s = absurd (r.apart (omega (arith, s.0, r.first-inside, r.second-inside)))
+    by (One x) s = absurd (r.apart (omega (arith, s.0, r.first_inside, r.second_inside)))
     by (Two x y) s =
         let d : a ≡ x.place = first_unique r s.ordered in
         let o : FirstTwo f n a y.place = subst (λ (m : ℕ). FirstTwo f n m y.place) (sym d) s.ordered in

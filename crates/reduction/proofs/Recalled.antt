@@ -15,7 +15,7 @@ use Rattle.rules.specs.declared.TwoLowest.{TwoLowest}
 use Rattle.rules.specs.declared.TwoLowest.TheVariants.{Two}
 use Rattle.rules.specs.Lowest.{low, two_lowest}
 use Rattle.reduction.specs.Candidates.{Before, FirstTwo, Candidates, stands_before, comes_before, beside_two, first_two, settled}
-use Rattle.reduction.proofs.Order.{before-below, before-left, before_trans, first_two_found}
+use Rattle.reduction.proofs.Order.{before_below, before_left, before_trans, first_two_found}
 
 -- ---- the order by its test
 
@@ -28,15 +28,15 @@ stands_after x y d e = omega (arith, ltb-false x.place y.place e, d)
 module _ (f : ℕ → ℤ) (a b : ℕ) where
   comes_before_lem : comes_before (low (f a) a) (low (f b) b) ≡ true → Before f a b
   comes_before_lem =
-      cond_cases (lt_z (f a) (f b)) (λ (t : Bool). t ≡ true → Before f a b) true _ (λ h e. before-below (omega zarith))
+      cond_cases (lt_z (f a) (f b)) (λ (t : Bool). t ≡ true → Before f a b) true _ (λ h e. before_below (omega zarith))
       (λ h. cond_cases (lt_z (f b) (f a)) (λ (t : Bool). t ≡ true → Before f a b) false _ (λ k e. absurd (true≢false (sym e)))
-      (λ k e. before-left (stands_before_lem (low (f a) a) (low (f b) b) e) (omega zarith)))
+      (λ k e. before_left (stands_before_lem (low (f a) a) (low (f b) b) e) (omega zarith)))
 
   comes_after : a ≢ b → comes_before (low (f a) a) (low (f b) b) ≡ false → Before f b a
   comes_after d =
       cond_cases (lt_z (f a) (f b)) (λ (t : Bool). t ≡ false → Before f b a) true _ (λ h e. absurd (true≢false e))
-      (λ h. cond_cases (lt_z (f b) (f a)) (λ (t : Bool). t ≡ false → Before f b a) false _ (λ k e. before-below (omega zarith))
-      (λ k e. before-left (stands_after (low (f a) a) (low (f b) b) d e) (omega zarith)))
+      (λ h. cond_cases (lt_z (f b) (f a)) (λ (t : Bool). t ≡ false → Before f b a) false _ (λ k e. before_below (omega zarith))
+      (λ k e. before_left (stands_after (low (f a) a) (low (f b) b) d e) (omega zarith)))
 
 -- ---- the candidates
 
@@ -79,8 +79,8 @@ module _ {n p q r : ℕ} {w : ℤ} where
   -- The second of them is below all others: the first two of them are the first two of all.
   candidates_first : {f : ℕ → ℤ} → Candidates f n p q r w → Before f p q → Before f q r → f q <ℤ w → FirstTwo f n p q
   candidates_first {f} c pq qr low-enough = record {
-    first-inside = c.p_inside;
-    second-inside = c.q_inside;
+    first_inside = c.p_inside;
+    second_inside = c.q_inside;
     apart = c.p_q;
     first = λ k l d. elim (ℕ_discrete k q) [
       | yes e ↦ subst (Before f p) (sym e) pq
@@ -92,7 +92,7 @@ module _ {n p q r : ℕ} {w : ℤ} where
       second : (k : ℕ) → k < n → k ≢ p → k ≢ q → Before f q k
       second k l d e = elim (ℕ_discrete k r) [
         | yes h ↦ subst (Before f q) (sym h) qr
-        | no h ↦ before-below (omega (zarith, c.others k l d e h))
+        | no h ↦ before_below (omega (zarith, c.others k l d e h))
       ]
 
 -- ---- the first two of the candidates

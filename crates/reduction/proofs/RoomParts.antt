@@ -12,33 +12,33 @@ module _ (n : ℕ) (room : List ℕ) (size : length room ≡ n + n + n + n) wher
   rest = omega arith
 
   -- The back, as it is lent.
-  pub back-lent : take (4 * n - n) (drop n room) ≡ part n (n + n + n) room
-  back-lent = ap (λ (k : ℕ). take k (drop n room)) rest
+  pub back_lent : take (4 * n - n) (drop n room) ≡ part n (n + n + n) room
+  back_lent = ap (λ (k : ℕ). take k (drop n room)) rest
 
-  pub back-length : length (part n (n + n + n) room) ≡ n + n + n
-  back-length = part_length n (n + n + n) room (omega arith)
+  pub back_length : length (part n (n + n + n) room) ≡ n + n + n
+  back_length = part_length n (n + n + n) room (omega arith)
 
-  module _ (kept : List ℕ) (kept-size : length kept ≡ n + n + n) where
+  module _ (kept : List ℕ) (kept_size : length kept ≡ n + n + n) where
     -- The room in which the back came back as `kept`.
     abbrev pub back_returned : List ℕ
     back_returned = take n room ++ (kept ++ drop (4 * n - n) (drop n room))
 
     back_is : back_returned ≡ replaced n kept room
-    back_is = lent_back n (4 * n) kept room (kept-size ∙ sym rest)
+    back_is = lent_back n (4 * n) kept room (kept_size ∙ sym rest)
 
-    back-size : length back_returned ≡ n + n + n + n
-    back-size = ap length back_is ∙ replaced-length n kept room (omega arith) ∙ size
+    back_size : length back_returned ≡ n + n + n + n
+    back_size = ap length back_is ∙ replaced-length n kept room (omega arith) ∙ size
 
     -- Its front, as it is lent, is the front that it was.
     pub front_left : take (n - 0) (drop 0 back_returned) ≡ part 0 n room
     front_left = front_lent_lem n back_returned ∙ ap (part 0 n) back_is ∙ replaced_part_before n kept room (omega arith) 0 n (omega arith)
 
-    back-part : part n (n + n + n) back_returned ≡ kept
-    back-part =
-        ap (part n (n + n + n)) back_is ∙ ap (λ (k : ℕ). part n k (replaced n kept room)) (sym kept-size)
+    back_part : part n (n + n + n) back_returned ≡ kept
+    back_part =
+        ap (part n (n + n + n)) back_is ∙ ap (λ (k : ℕ). part n k (replaced n kept room)) (sym kept_size)
         ∙ replaced-part n kept room (omega arith)
 
-    module _ (frees : List ℕ) (frees-size : length frees ≡ n) where
+    module _ (frees : List ℕ) (frees_size : length frees ≡ n) where
       -- The room in which the front came back too.
       abbrev pub front_returned : List ℕ
       front_returned = take 0 back_returned ++ (frees ++ drop (n - 0) (drop 0 back_returned))
@@ -47,14 +47,14 @@ module _ (n : ℕ) (room : List ℕ) (size : length room ≡ n + n + n + n) wher
       front_is = lent_back 0 n frees back_returned (omega arith)
 
       pub front_size : length front_returned ≡ n + n + n + n
-      front_size = ap length front_is ∙ replaced-length 0 frees back_returned (omega (arith, back-size)) ∙ back-size
+      front_size = ap length front_is ∙ replaced-length 0 frees back_returned (omega (arith, back_size)) ∙ back_size
 
       pub front_part : part 0 n front_returned ≡ frees
       front_part =
-          ap (part 0 n) front_is ∙ ap (λ (k : ℕ). part 0 k (replaced 0 frees back_returned)) (sym frees-size)
-          ∙ replaced-part 0 frees back_returned (omega (arith, back-size))
+          ap (part 0 n) front_is ∙ ap (λ (k : ℕ). part 0 k (replaced 0 frees back_returned)) (sym frees_size)
+          ∙ replaced-part 0 frees back_returned (omega (arith, back_size))
 
-      pub back-left : part n (n + n + n) front_returned ≡ kept
-      back-left =
+      pub back_left : part n (n + n + n) front_returned ≡ kept
+      back_left =
           ap (part n (n + n + n)) front_is
-          ∙ replaced_part_after 0 frees back_returned (omega (arith, back-size)) n (n + n + n) (omega arith) ∙ back-part
+          ∙ replaced_part_after 0 frees back_returned (omega (arith, back_size)) n (n + n + n) (omega arith) ∙ back_part

@@ -27,21 +27,21 @@ keeps_same g n k kept kept' limits limits' p q r w keeps = rw (p, q, r, w) keeps
 -- ---- nothing is stored
 
 module _ {f : ℕ → ℤ} {n i : ℕ} {kept : List ℕ} {limits : List ℤ} {two : TwoLowest} where
-  pub told-left : two ≡ two_lowest n f → Keeps f n i kept limits → Told f n i kept limits kept limits two
-  told-left e keeps = record { two_are = e; own = keeps; others = λ g k d h. h }
+  pub told_left : two ≡ two_lowest n f → Keeps f n i kept limits → Told f n i kept limits kept limits two
+  told_left e keeps = record { two_are = e; own = keeps; others = λ g k d h. h }
 
   -- The three columns settle it.
-  pub told-settled : Keeps f n i kept limits → lt_z (signed_at limits i) seen ≡ true → two ≡ recalled f i kept → settled two (signed_at limits i) ≡ true
+  pub told_settled : Keeps f n i kept limits → lt_z (signed_at limits i) seen ≡ true → two ≡ recalled f i kept → settled two (signed_at limits i) ≡ true
       → Told f n i kept limits kept limits two
-  told-settled keeps is-limit e below =
-      told-left
+  told_settled keeps is-limit e below =
+      told_left
       (e ∙ first_two_settles n f (signed_at limits i) (at kept (3 * i)) (at kept (3 * i + 1)) (at kept (3 * i + 2)) (keeps is-limit)
       (ap (λ (t : TwoLowest). settled t (signed_at limits i)) (sym e) ∙ below))
       keeps
 
   -- A first look leaves a mark.
-  pub told-seen : two ≡ two_lowest n f → i < length limits → Told f n i kept limits kept (set limits i seen) two
-  told-seen e l = record {
+  pub told_seen : two ≡ two_lowest n f → i < length limits → Told f n i kept limits kept (set limits i seen) two
+  told_seen e l = record {
     two_are = e;
     own = λ h. absurd (true≢false (sym h ∙ ap (λ (w : ℤ). lt_z w seen) (get_or-set_same limits i seen (pos 0) l)));
     others = λ g k d h. keeps_same g n k kept kept limits (set limits i seen) refl refl refl (get_or-set_other limits i k seen (pos 0) d) h;
@@ -51,7 +51,7 @@ pub recallable : {f : ℕ → ℤ} {n i : ℕ} {kept : List ℕ} {limits : List 
     → Recallable n i kept
 recallable r l keeps is-limit =
     let c = keeps is-limit in
-    record { fits = omega (arith, r.kept-size); p_inside = c.p_inside; q_inside = c.q_inside; r_inside = c.r_inside }
+    record { fits = omega (arith, r.kept_size); p_inside = c.p_inside; q_inside = c.q_inside; r_inside = c.r_inside }
 
 -- ---- a row is read
 
@@ -66,14 +66,14 @@ module _ (kept : List ℕ) (i p q r : ℕ) where
       ∙ get_or-set_other kept (3 * i) k p 0 d
 
   module _ (fits : 3 * i + 2 < length kept) where
-    first-stored : at stored (3 * i) ≡ p
-    first-stored =
+    first_stored : at stored (3 * i) ≡ p
+    first_stored =
         get_or-set_other (set (set kept (3 * i) p) (3 * i + 1) q) (3 * i + 2) (3 * i) r 0 (λ e. omega arith)
         ∙ get_or-set_other (set kept (3 * i) p) (3 * i + 1) (3 * i) q 0 (λ e. omega arith)
         ∙ get_or-set_same kept (3 * i) p 0 (omega arith)
 
-    second-stored : at stored (3 * i + 1) ≡ q
-    second-stored =
+    second_stored : at stored (3 * i + 1) ≡ q
+    second_stored =
         get_or-set_other (set (set kept (3 * i) p) (3 * i + 1) q) (3 * i + 2) (3 * i + 1) r 0 (λ e. omega arith)
         ∙ get_or-set_same (set kept (3 * i) p) (3 * i + 1) q 0 (omega (arith, length-set kept (3 * i) p))
 
@@ -82,17 +82,17 @@ module _ (kept : List ℕ) (i p q r : ℕ) where
         get_or-set_same (set (set kept (3 * i) p) (3 * i + 1) q) (3 * i + 2) r 0
         (omega (arith, length-set (set kept (3 * i) p) (3 * i + 1) q, length-set kept (3 * i) p))
 
-pub told-read : (f : ℕ → ℤ) (n i : ℕ) (kept : List ℕ) (limits : List ℤ) (t : Three) (w : ℤ) → Roomy n kept limits → i < n → FoundThree f n t → w ≡ t.limit
+pub told_read : (f : ℕ → ℤ) (n i : ℕ) (kept : List ℕ) (limits : List ℤ) (t : Three) (w : ℤ) → Roomy n kept limits → i < n → FoundThree f n t → w ≡ t.limit
     → Told f n i kept limits (stored kept i t.first.place t.second.place t.third.place) (set limits i w) (Two t.first t.second)
-told-read f n i kept limits t w room l found e =
+told_read f n i kept limits t w room l found e =
     let p = t.first.place in
     let q = t.second.place in
     let r = t.third.place in
-    let fits : 3 * i + 2 < length kept = omega (arith, room.kept-size) in
-    let limit_is : signed_at (set limits i w) i ≡ t.limit = get_or-set_same limits i w (pos 0) (omega (arith, room.limits-size)) ∙ e in
+    let fits : 3 * i + 2 < length kept = omega (arith, room.kept_size) in
+    let limit_is : signed_at (set limits i w) i ≡ t.limit = get_or-set_same limits i w (pos 0) (omega (arith, room.limits_size)) ∙ e in
     record {
       two_are = three_two f n t found;
-      own = λ h. rw (first-stored kept i p q r fits, second-stored kept i p q r fits, third_stored kept i p q r fits, limit_is) found.places.kept;
+      own = λ h. rw (first_stored kept i p q r fits, second_stored kept i p q r fits, third_stored kept i p q r fits, limit_is) found.places.kept;
       others = λ g k d. keeps_same g n k kept (stored kept i p q r) limits (set limits i w)
           (elsewhere kept i p q r (3 * k) (λ z. omega arith) (λ z. omega arith) (λ z. omega arith))
           (elsewhere kept i p q r (3 * k + 1) (λ z. omega arith) (λ z. omega arith) (λ z. omega arith))

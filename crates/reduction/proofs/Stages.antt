@@ -43,9 +43,9 @@ stage_at_cong a b c d e = cc
 module _ (n : ℕ) (cost : ℕ → ℕ → ℤ) where
   unclaimed_claimable : Claimable n n (unclaimed n cost)
   unclaimed_claimable = record {
-    cols-size = length-table n (λ i. 0);
-    rows-size = length-table n (λ j. (minimum n cost j).place);
-    marks-size = length-table n (λ i. 0);
+    cols_size = length-table n (λ i. 0);
+    rows_size = length-table n (λ j. (minimum n cost j).place);
+    marks_size = length-table n (λ i. 0);
     row_below = λ j l. omega (arith, get_d_table n (λ k. (minimum n cost k).place) 0 j l, (lowest_is n (λ i. cost i j) (omega arith)).inside);
     col_below = λ i l. omega (arith, get_d_table {A = ℕ} n (λ k. 0) 0 i l);
   }
@@ -56,15 +56,15 @@ module _ (n : ℕ) (cost : ℕ → ℕ → ℤ) where
 
 module _ (n : ℕ) (cost : ℕ → ℕ → ℤ) (cols rows marks : List ℕ) (c : cols ≡ table n (λ i. 0)) (r : rows ≡ table n (λ j. (minimum n cost j).place))
     (m : marks ≡ table n (λ i. 0)) where
-  before-claims : claims_of cols rows marks ≡ unclaimed n cost
-  before-claims = cc
+  before_claims : claims_of cols rows marks ≡ unclaimed n cost
+  before_claims = cc
 
   ready_to_claim : Claimable n n (claims_of cols rows marks)
-  ready_to_claim = subst (Claimable n n) (sym before-claims) (unclaimed_claimable n cost)
+  ready_to_claim = subst (Claimable n n) (sym before_claims) (unclaimed_claimable n cost)
 
   claimed_is : downward n claim (claims_of cols rows marks) ≡ claims n cost
   unfolding claims
-  claimed_is = ap (downward n claim) before-claims
+  claimed_is = ap (downward n claim) before_claims
 
 -- ---- the transfer, from a room that holds the marks and a free list of zeros
 
@@ -84,28 +84,28 @@ module _ {n : ℕ} {costs : List ℤ} {cols₀ rows₀ : List ℕ} {v₀ : List 
   zeros = table n (λ i. 0)
 
   marks_fit : n + n + n + length marks ≤ length room₀
-  marks_fit = omega (arith, (claims_claimable n cost).marks-size, h.room-size)
+  marks_fit = omega (arith, (claims_claimable n cost).marks_size, h.room_size)
 
   marked-length : length (replaced (n + n + n) marks room₀) ≡ n + n + n + n
-  marked-length = replaced-length (n + n + n) marks room₀ marks_fit ∙ h.room-size
+  marked-length = replaced-length (n + n + n) marks room₀ marks_fit ∙ h.room_size
 
-  zeros-length : length zeros ≡ n
-  zeros-length = length-table n (λ i. 0)
+  zeros_length : length zeros ≡ n
+  zeros_length = length-table n (λ i. 0)
 
   zeros_fit : 0 + length zeros ≤ length (replaced (n + n + n) marks room₀)
-  zeros_fit = omega (arith, zeros-length, marked-length)
+  zeros_fit = omega (arith, zeros_length, marked-length)
 
   module _ {cols : List ℕ} {v : List ℤ} {room : List ℕ} (c : Cleared n cost room₀ cols v room) where
     frees_are : part 0 n room ≡ zeros
     frees_are =
-        ap (λ (r : List ℕ). part 0 n r) c.room_is ∙ ap (λ (k : ℕ). part 0 k (replaced 0 zeros (replaced (n + n + n) marks room₀))) (sym zeros-length)
+        ap (λ (r : List ℕ). part 0 n r) c.room_is ∙ ap (λ (k : ℕ). part 0 k (replaced 0 zeros (replaced (n + n + n) marks room₀))) (sym zeros_length)
         ∙ replaced-part 0 zeros (replaced (n + n + n) marks room₀) zeros_fit
 
     marks_are : part (n + n + n) n room ≡ marks
     marks_are =
         ap (λ (r : List ℕ). part (n + n + n) n r) c.room_is
-        ∙ replaced_part_after 0 zeros (replaced (n + n + n) marks room₀) zeros_fit (n + n + n) n (omega (arith, zeros-length))
-        ∙ ap (λ (k : ℕ). part (n + n + n) k (replaced (n + n + n) marks room₀)) (sym (claims_claimable n cost).marks-size)
+        ∙ replaced_part_after 0 zeros (replaced (n + n + n) marks room₀) zeros_fit (n + n + n) n (omega (arith, zeros_length))
+        ∙ ap (λ (k : ℕ). part (n + n + n) k (replaced (n + n + n) marks room₀)) (sym (claims_claimable n cost).marks_size)
         ∙ replaced-part (n + n + n) marks room₀ marks_fit
 
     -- The run from the room is the run of the rule.
@@ -115,17 +115,17 @@ module _ {n : ℕ} {costs : List ℤ} {cols₀ rows₀ : List ℕ} {v₀ : List 
         ∙ ap (λ (l : List ℕ). upward 0 m (transfer n cost (claims_of l [] (part (n + n + n) n room))) (untransferred n cost)) c.cols_are
         ∙ ap (λ (l : List ℕ). upward 0 m (transfer n cost (claims_of (claims n cost).cols [] l)) (untransferred n cost)) marks_are
 
-    room-length : length room ≡ n + n + n + n
-    room-length = ap length c.room_is ∙ replaced-length 0 zeros (replaced (n + n + n) marks room₀) zeros_fit ∙ marked-length
+    room_length : length room ≡ n + n + n + n
+    room_length = ap length c.room_is ∙ replaced-length 0 zeros (replaced (n + n + n) marks room₀) zeros_fit ∙ marked-length
 
     pub ready_to_transfer : Transferable n costs cols v room
     ready_to_transfer = record {
       squared = h.squared;
-      cols-size = ap length c.cols_are ∙ (claims_claimable n cost).cols-size;
-      prices-size = ap length c.prices_are ∙ length-table n (λ j. (minimum n cost j).value);
-      room-size = room-length;
+      cols_size = ap length c.cols_are ∙ (claims_claimable n cost).cols_size;
+      prices_size = ap length c.prices_are ∙ length-table n (λ j. (minimum n cost j).value);
+      room_size = room_length;
       col_below = λ i l. omega (arith, ap (λ (k : List ℕ). at k i) c.cols_are, (claims_claimable n cost).col_below i l);
-      near-prices = λ m l. subst (λ (x : Transfer). Near n x.prices) (sym (run_is m)) (h.near-prices m l);
+      near_prices = λ m l. subst (λ (x : Transfer). Near n x.prices) (sym (run_is m)) (h.near_prices m l);
     }
 
     -- What the transfer leaves is the stage of the rule.
@@ -134,32 +134,32 @@ module _ {n : ℕ} {costs : List ℤ} {cols₀ rows₀ : List ℕ} {v₀ : List 
       abbrev frees : List ℕ
       frees = (column_reduction n cost).frees
 
-      frees-from : (transferring n costs cols v room n).frees ≡ frees
+      frees_from : (transferring n costs cols v room n).frees ≡ frees
       unfolding column_reduction transfers
-      frees-from = ap (λ (x : Transfer). x.frees) (run_is n)
+      frees_from = ap (λ (x : Transfer). x.frees) (run_is n)
 
-      frees-length : length frees ≡ n
-      frees-length = ap length (sym frees-from) ∙ (run_sized ready_to_transfer n).frees-size
+      frees_length : length frees ≡ n
+      frees_length = ap length (sym frees_from) ∙ (run_sized ready_to_transfer n).frees_size
 
-      pub room-ends : after ≡ replaced 0 (column_reduction n cost).frees (replaced (n + n + n) marks room₀)
-      room-ends =
-          t.room_is ∙ ap (λ (l : List ℕ). replaced 0 l room) frees-from ∙ ap (replaced 0 frees) c.room_is
-          ∙ replaced-replaced 0 zeros frees (replaced (n + n + n) marks room₀) (zeros-length ∙ sym frees-length) zeros_fit
+      pub room_ends : after ≡ replaced 0 (column_reduction n cost).frees (replaced (n + n + n) marks room₀)
+      room_ends =
+          t.room_is ∙ ap (λ (l : List ℕ). replaced 0 l room) frees_from ∙ ap (replaced 0 frees) c.room_is
+          ∙ replaced-replaced 0 zeros frees (replaced (n + n + n) marks room₀) (zeros_length ∙ sym frees_length) zeros_fit
 
-      after-frees : part 0 n after ≡ frees
-      after-frees =
-          let fits : 0 + length frees ≤ length (replaced (n + n + n) marks room₀) = omega (arith, frees-length, marked-length) in
-          ap (λ (l : List ℕ). part 0 n l) room-ends ∙ ap (λ (k : ℕ). part 0 k (replaced 0 frees (replaced (n + n + n) marks room₀))) (sym frees-length)
+      after_frees : part 0 n after ≡ frees
+      after_frees =
+          let fits : 0 + length frees ≤ length (replaced (n + n + n) marks room₀) = omega (arith, frees_length, marked-length) in
+          ap (λ (l : List ℕ). part 0 n l) room_ends ∙ ap (λ (k : ℕ). part 0 k (replaced 0 frees (replaced (n + n + n) marks room₀))) (sym frees_length)
           ∙ replaced-part 0 frees (replaced (n + n + n) marks room₀) fits
 
-      pub stage-ends : stage_at cols rows w (part 0 n after) count ≡ column_reduction n cost
+      pub stage_ends : stage_at cols rows w (part 0 n after) count ≡ column_reduction n cost
       unfolding column_reduction transfers
-      stage-ends =
-          stage_at_cong c.cols_are r (t.prices_are ∙ ap (λ (x : Transfer). x.prices) (run_is n)) after-frees (t.count_is ∙ ap (λ (x : Transfer). x.count) (run_is n))
+      stage_ends =
+          stage_at_cong c.cols_are r (t.prices_are ∙ ap (λ (x : Transfer). x.prices) (run_is n)) after_frees (t.count_is ∙ ap (λ (x : Transfer). x.count) (run_is n))
 
-      pub after-length : length after ≡ n + n + n + n
-      after-length =
-          ap length room-ends ∙ replaced-length 0 frees (replaced (n + n + n) marks room₀) (omega (arith, frees-length, marked-length)) ∙ marked-length
+      pub after_length : length after ≡ n + n + n + n
+      after_length =
+          ap length room_ends ∙ replaced-length 0 frees (replaced (n + n + n) marks room₀) (omega (arith, frees_length, marked-length)) ∙ marked-length
 
   -- ---- the way to the transfer: z are the marks, cleared
 
@@ -169,17 +169,17 @@ module _ {n : ℕ} {costs : List ℤ} {cols₀ rows₀ : List ℕ} {v₀ : List 
   module _ {cols rows : List ℕ} {v : List ℤ} {z : List ℕ} (ec : cols ≡ table (length cols₀) (λ i. 0)) (er : rows ≡ table n (λ j. (minimum n cost j).place))
       (ev : v ≡ table n (λ j. (minimum n cost j).value)) (ez : z ≡ table (length (marks_lent n room₀)) (λ i. 0)) where
     cols_zero : cols ≡ zeros
-    cols_zero = ec ∙ ap (λ (k : ℕ). table k (λ i. 0)) h.cols-size
+    cols_zero = ec ∙ ap (λ (k : ℕ). table k (λ i. 0)) h.cols_size
 
     z_zero : z ≡ zeros
-    z_zero = ez ∙ ap (λ (k : ℕ). table k (λ i. 0)) (lent_length n (n + n + n) (n + n + n + n) room₀ last-part (omega (arith, h.room-size)))
+    z_zero = ez ∙ ap (λ (k : ℕ). table k (λ i. 0)) (lent_length n (n + n + n) (n + n + n + n) room₀ last-part (omega (arith, h.room_size)))
 
     z_length : length z ≡ n
-    z_length = ap length z_zero ∙ zeros-length
+    z_length = ap length z_zero ∙ zeros_length
 
     marks_zero : marks_lent n (room_lent n z room₀) ≡ zeros
     marks_zero =
-        let fits : n + n + n + n ≤ length room₀ = omega (arith, h.room-size) in
+        let fits : n + n + n + n ≤ length room₀ = omega (arith, h.room_size) in
         lent_again n (n + n + n) (n + n + n + n) room₀ last-part fits z z_length (room_lent n z room₀) (lent_is n (n + n + n) (n + n + n + n) room₀ last-part z z_length) ∙ z_zero
 
     pub ready : Claimable n n (claims_of cols rows (marks_lent n (room_lent n z room₀)))
@@ -187,8 +187,8 @@ module _ {n : ℕ} {costs : List ℤ} {cols₀ rows₀ : List ℕ} {v₀ : List 
 
     zeroed_length : length (room_lent n z room₀) ≡ n + n + n + n
     zeroed_length =
-        let fits : n + n + n + n ≤ length room₀ = omega (arith, h.room-size) in
-        ap length (lent_is n (n + n + n) (n + n + n + n) room₀ last-part z z_length) ∙ replaced-length (n + n + n) z room₀ (omega (arith, z_length)) ∙ h.room-size
+        let fits : n + n + n + n ≤ length room₀ = omega (arith, h.room_size) in
+        ap length (lent_is n (n + n + n) (n + n + n + n) room₀ last-part z z_length) ∙ replaced-length (n + n + n) z room₀ (omega (arith, z_length)) ∙ h.room_size
 
     -- The columns have claimed.
     module _ {cols' rows' marks' : List ℕ} (e : claims_of cols' rows' marks' ≡ downward n claim (claims_of cols rows (marks_lent n (room_lent n z room₀)))) where
@@ -197,9 +197,9 @@ module _ {n : ℕ} {costs : List ℤ} {cols₀ rows₀ : List ℕ} {v₀ : List 
 
       marked : room_lent n marks' (room_lent n z room₀) ≡ replaced (n + n + n) marks room₀
       marked =
-          let fits : n + n + n + n ≤ length room₀ = omega (arith, h.room-size) in
+          let fits : n + n + n + n ≤ length room₀ = omega (arith, h.room_size) in
           let m : marks' ≡ marks = ap (λ (s : Claims). s.marks) claims_are in
-          let size : length marks' ≡ n = ap length m ∙ (claims_claimable n cost).marks-size in
+          let size : length marks' ≡ n = ap length m ∙ (claims_claimable n cost).marks_size in
           lent_is n (n + n + n) (n + n + n + n) (room_lent n z room₀) last-part marks' size
           ∙ ap (replaced (n + n + n) marks') (lent_is n (n + n + n) (n + n + n + n) room₀ last-part z z_length)
           ∙ replaced-replaced (n + n + n) z marks' room₀ (z_length ∙ sym size) (omega (arith, z_length))
@@ -218,6 +218,6 @@ module _ {n : ℕ} {costs : List ℤ} {cols₀ rows₀ : List ℕ} {v₀ : List 
           record {
             cols_are = ap (λ (s : Claims). s.cols) claims_are;
             prices_are = ev;
-            room_is = lent_is n 0 n (room_lent n marks' (room_lent n z room₀)) front y (ap length zero ∙ zeros-length)
+            room_is = lent_is n 0 n (room_lent n marks' (room_lent n z room₀)) front y (ap length zero ∙ zeros_length)
                 ∙ ap (λ (l : List ℕ). replaced 0 l (room_lent n marks' (room_lent n z room₀))) zero ∙ ap (replaced 0 zeros) marked;
           }

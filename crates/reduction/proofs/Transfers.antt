@@ -46,23 +46,23 @@ module _ (n : ℕ) (cost : ℕ → ℕ → ℤ) (s : Claims) (i : ℕ) (x : Tran
 
 -- Lists of n entries, and no more free rows than m.
 pub record Sized (n m : ℕ) (x : Transfer) : Type 0 where
-  pub prices-size : length x.prices ≡ n
-  pub frees-size : length x.frees ≡ n
+  pub prices_size : length x.prices ≡ n
+  pub frees_size : length x.frees ≡ n
   pub count_most : x.count ≤ m
 
 transfer_sized : (n : ℕ) (cost : ℕ → ℕ → ℤ) (s : Claims) (i m : ℕ) (x : Transfer) → Sized n m x → Sized n (suc m) (transfer n cost s i x)
 transfer_sized n cost s i m x h =
-    let same : Sized n (suc m) x = record { prices-size = h.prices-size; frees-size = h.frees-size; count_most = omega (arith, h.count_most) } in
+    let same : Sized n (suc m) x = record { prices_size = h.prices_size; frees_size = h.frees_size; count_most = omega (arith, h.count_most) } in
     cond_cases (eqb (at s.marks i) 0) (Sized n (suc m)) (joins n cost s i x) (cond (eqb (at s.marks i) 1) (lowers n cost s i x) x)
     (λ t. record {
-      prices-size = h.prices-size;
-      frees-size = length-set x.frees x.count i ∙ h.frees-size;
+      prices_size = h.prices_size;
+      frees_size = length-set x.frees x.count i ∙ h.frees_size;
       count_most = omega (arith, h.count_most);
     })
     (λ t. cond_cases (eqb (at s.marks i) 1) (Sized n (suc m)) (lowers n cost s i x) x
     (λ r. record {
-      prices-size = length-set x.prices (at s.cols i) _ ∙ h.prices-size;
-      frees-size = h.frees-size;
+      prices_size = length-set x.prices (at s.cols i) _ ∙ h.prices_size;
+      frees_size = h.frees_size;
       count_most = omega (arith, h.count_most);
     })
     (λ r. same))
@@ -82,7 +82,7 @@ module _ {n : ℕ} {costs : List ℤ} {cols : List ℕ} {v₀ : List ℤ} {room�
   pub run_sized : (m : ℕ) → Sized n m (run m)
   run_sized m =
       upward_keeps (Sized n) 0 m (transfer n (square n costs).cost claimed) (transfer_of v₀ (part 0 n room₀) 0) (omega arith)
-      (record { prices-size = t.prices-size; frees-size = part_length 0 n room₀ (omega (arith, t.room-size)); count_most = omega arith })
+      (record { prices_size = t.prices_size; frees_size = part_length 0 n room₀ (omega (arith, t.room_size)); count_most = omega arith })
       (λ k x l h z. transfer_sized n (square n costs).cost claimed k k x z)
 
   pub run_none : Transferred room₀ (run 0) v₀ room₀ 0
@@ -90,19 +90,19 @@ module _ {n : ℕ} {costs : List ℤ} {cols : List ℕ} {v₀ : List ℤ} {room�
       let e : run 0 ≡ transfer_of v₀ (part 0 n room₀) 0 = upward_none 0 0 (transfer n (square n costs).cost claimed) (transfer_of v₀ (part 0 n room₀) 0) (omega arith) in
       record {
         prices_are = sym (ap (λ (x : Transfer). x.prices) e);
-        room_is = sym (ap (λ (x : Transfer). replaced 0 x.frees room₀) e ∙ replaced_self 0 n room₀ (omega (arith, t.room-size)));
+        room_is = sym (ap (λ (x : Transfer). replaced 0 x.frees room₀) e ∙ replaced_self 0 n room₀ (omega (arith, t.room_size)));
         count_is = sym (ap (λ (x : Transfer). x.count) e);
       }
 
   module _ (i : ℕ) {v : List ℤ} {room : List ℕ} {count : ℕ} (h : Transferred room₀ (run i) v room count) where
     fits : 0 + length (run i).frees ≤ length room₀
-    fits = omega (arith, (run_sized i).frees-size, t.room-size)
+    fits = omega (arith, (run_sized i).frees_size, t.room_size)
 
     pub room_sized : length room ≡ n + n + n + n
-    room_sized = ap length h.room_is ∙ replaced-length 0 (run i).frees room₀ fits ∙ t.room-size
+    room_sized = ap length h.room_is ∙ replaced-length 0 (run i).frees room₀ fits ∙ t.room_size
 
     pub prices_sized : length v ≡ n
-    prices_sized = ap length h.prices_are ∙ (run_sized i).prices-size
+    prices_sized = ap length h.prices_are ∙ (run_sized i).prices_size
 
     pub count_at_most : count ≤ i
     count_at_most = omega (arith, h.count_is, (run_sized i).count_most)
@@ -110,21 +110,21 @@ module _ {n : ℕ} {costs : List ℤ} {cols : List ℕ} {v₀ : List ℤ} {room�
     -- The part that is lent as `&mut room[0..n]`.
     frees_are : part 0 (n - 0) room ≡ (run i).frees
     frees_are =
-        let e : n - 0 ≡ length (run i).frees = omega (arith, (run_sized i).frees-size) in
+        let e : n - 0 ≡ length (run i).frees = omega (arith, (run_sized i).frees_size) in
         ap (λ (r : List ℕ). part 0 (n - 0) r) h.room_is ∙ ap (λ (k : ℕ). part 0 k (replaced 0 (run i).frees room₀)) e
         ∙ replaced-part 0 (run i).frees room₀ fits
 
     pub frees_sized : length (part 0 (n - 0) room) ≡ n
-    frees_sized = ap length frees_are ∙ (run_sized i).frees-size
+    frees_sized = ap length frees_are ∙ (run_sized i).frees_size
 
     pub mark_is : i < n → at (part (n + n + n) n room₀) i ≡ at room (n + n + n + i)
     mark_is l =
         ap (λ (r : List ℕ). at r i) (sym (ap (λ (r : List ℕ). part (n + n + n) n r) h.room_is
-        ∙ replaced_part_after 0 (run i).frees room₀ fits (n + n + n) n (omega (arith, (run_sized i).frees-size))))
+        ∙ replaced_part_after 0 (run i).frees room₀ fits (n + n + n) n (omega (arith, (run_sized i).frees_size))))
         ∙ part_at (n + n + n) n room i 0 l
 
-    pub prices-near : i < n → Near n v
-    prices-near l = subst (Near n) (sym h.prices_are) (t.near-prices i l)
+    pub prices_near_lem : i < n → Near n v
+    prices_near_lem l = subst (Near n) (sym h.prices_are) (t.near_prices i l)
 
     -- One row more, whose free list came back as p.
     pub run_next : (w : List ℤ) (p : List ℕ) (c : ℕ) → length p ≡ length (part 0 (n - 0) room)
@@ -138,7 +138,7 @@ module _ {n : ℕ} {costs : List ℤ} {cols : List ℕ} {v₀ : List ℤ} {room�
         record {
           prices_are = ap (λ (x : Transfer). x.prices) next;
           room_is = lent_back 0 n p room size ∙ ap (replaced 0 p) h.room_is
-              ∙ replaced-replaced 0 (run i).frees p room₀ (omega (arith, (run_sized i).frees-size)) fits
+              ∙ replaced-replaced 0 (run i).frees p room₀ (omega (arith, (run_sized i).frees_size)) fits
               ∙ ap (λ (x : Transfer). replaced 0 x.frees room₀) next;
           count_is = ap (λ (x : Transfer). x.count) next;
         }

@@ -34,10 +34,10 @@ module _ (f : ℕ → ℤ) where
   two_lowest_two = two_lowest_more 1 (omega arith) ∙ ap (λ (t : TwoLowest). two_step t (low (f 1) 1)) two_lowest_one
 
   -- A pair of columns stays the two lowest past columns that do not count.
-  pub two_lowest-pass : (a b : Low) (j r : ℕ) → 1 ≤ j → j ≤ r → Two a b ≡ two_lowest j f → ((k : ℕ) → k < r → j ≤ k → lt_z (f k) b.value ≡ false)
+  pub two_lowest_pass : (a b : Low) (j r : ℕ) → 1 ≤ j → j ≤ r → Two a b ≡ two_lowest j f → ((k : ℕ) → k < r → j ≤ k → lt_z (f k) b.value ≡ false)
       → Two a b ≡ two_lowest r f
   unfolding two_lowest
-  two_lowest-pass a b j r h l e passed =
+  two_lowest_pass a b j r h l e passed =
       upward_stays 1 j r (λ k found. two_step found (low (f k) k)) (One (low (f 0) 0)) (Two a b) h l e
       (λ k m n. ap (λ (t : Bool). cond t (beside a (low (f k) k)) (Two a b)) (passed k n m))
 
@@ -70,9 +70,9 @@ module _ (f : ℕ → ℤ) where
   least_but_other j k d = least_but_more j k ∙ ap (λ (t : Bool). cond t (least_but k f j) (least (least_but k f j) (f k))) (ne_eqb k j d)
 
   -- What was found stays the least past values that leave it.
-  pub least_but-pass : (found : LeastSoFar) (j k r : ℕ) → k ≤ r → found ≡ least_but k f j → ((i : ℕ) → i < r → k ≤ i → least found (f i) ≡ found)
+  pub least_but_pass : (found : LeastSoFar) (j k r : ℕ) → k ≤ r → found ≡ least_but k f j → ((i : ℕ) → i < r → k ≤ i → least found (f i) ≡ found)
       → found ≡ least_but r f j
   unfolding least_but
-  least_but-pass found j k r l e passed =
+  least_but_pass found j k r l e passed =
       upward_stays 0 k r (λ i x. cond (eqb i j) x (least x (f i))) NoneYet found (omega arith) l e
       (λ i m n. cond_cases (eqb i j) (λ x. x ≡ found) found (least found (f i)) (λ t. refl) (λ t. passed i n m))

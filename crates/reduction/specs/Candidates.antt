@@ -18,8 +18,8 @@ pub record Before (f : ℕ → ℤ) (a b : ℕ) : Type 0 where
 
 -- Of the places below n, a is the first and b the second.
 pub record FirstTwo (f : ℕ → ℤ) (n a b : ℕ) : Type 0 where
-  pub first-inside : a < n
-  pub second-inside : b < n
+  pub first_inside : a < n
+  pub second_inside : b < n
   pub apart : a ≢ b
   pub first : (k : ℕ) → k < n → k ≢ a → Before f a k
   pub second : (k : ℕ) → k < n → k ≢ a → k ≢ b → Before f b k
@@ -121,8 +121,8 @@ unseen = pos 4611686018427387905
 
 -- A room of three columns and a limit for each of n rows.
 pub record Roomy (n : ℕ) (kept : List ℕ) (limits : List ℤ) : Type 0 where
-  pub kept-size : length kept ≡ n + n + n
-  pub limits-size : length limits ≡ n
+  pub kept_size : length kept ≡ n + n + n
+  pub limits_size : length limits ≡ n
 
 -- Where the limit of row i is no mark, its candidates stand at 3i.
 abbrev pub Keeps : (ℕ → ℤ) → ℕ → ℕ → List ℕ → List ℤ → Type 0

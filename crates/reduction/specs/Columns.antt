@@ -23,9 +23,9 @@ claims_of cols rows marks = record { cols = cols; rows = rows; marks = marks }
 
 -- What the claims of the columns below k ask: lists of n entries, a row for each of those columns, and columns in range.
 pub record Claimable (n k : ℕ) (s : Claims) : Type 0 where
-  pub cols-size : length s.cols ≡ n
-  pub rows-size : length s.rows ≡ n
-  pub marks-size : length s.marks ≡ n
+  pub cols_size : length s.cols ≡ n
+  pub rows_size : length s.rows ≡ n
+  pub marks_size : length s.marks ≡ n
   pub row_below : (j : ℕ) → j < k → at s.rows j < n
   pub col_below : (i : ℕ) → i < n → at s.cols i < n
 
@@ -52,11 +52,11 @@ transferring n costs cols v room m =
 -- What the transfer asks: sizes, columns in range, and near prices before every row.
 pub record Transferable (n : ℕ) (costs : List ℤ) (cols : List ℕ) (v : List ℤ) (room : List ℕ) : Type 0 where
   pub squared : Square n costs
-  pub cols-size : length cols ≡ n
-  pub prices-size : length v ≡ n
-  pub room-size : length room ≡ n + n + n + n
+  pub cols_size : length cols ≡ n
+  pub prices_size : length v ≡ n
+  pub room_size : length room ≡ n + n + n + n
   pub col_below : (i : ℕ) → i < n → at cols i < n
-  pub near-prices : (m : ℕ) → m < n → Near n (transferring n costs cols v room m).prices
+  pub near_prices : (m : ℕ) → m < n → Near n (transferring n costs cols v room m).prices
 
 -- A transfer as it stands in the lent lists: its free list is written over the front of the room.
 pub record Transferred (before : List ℕ) (x : Transfer) (v : List ℤ) (room : List ℕ) (count : ℕ) : Type 0 where
@@ -76,8 +76,8 @@ transfers_to n cost m = upward 0 m (transfer n cost (claims n cost)) (untransfer
 pub record Reducible (n : ℕ) (costs : List ℤ) (cols rows : List ℕ) (v : List ℤ) (room : List ℕ) : Type 0 where
   pub some : 1 ≤ n
   pub squared : Square n costs
-  pub cols-size : length cols ≡ n
-  pub rows-size : length rows ≡ n
-  pub prices-size : length v ≡ n
-  pub room-size : length room ≡ n + n + n + n
-  pub near-prices : (m : ℕ) → m < n → Near n (transfers_to n (square n costs).cost m).prices
+  pub cols_size : length cols ≡ n
+  pub rows_size : length rows ≡ n
+  pub prices_size : length v ≡ n
+  pub room_size : length room ≡ n + n + n + n
+  pub near_prices : (m : ℕ) → m < n → Near n (transfers_to n (square n costs).cost m).prices

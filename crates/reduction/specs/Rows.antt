@@ -33,20 +33,20 @@ looks_most = 2 ^ 40
 -- What a look asks: lists of n entries, a place and a row in range, and near prices.
 pub record Ready (n : ℕ) (costs : List ℤ) (x : Passing) : Type 0 where
   pub squared : Square n costs
-  pub cols-size : length x.pairs.cols ≡ n
-  pub rows-size : length x.pairs.rows ≡ n
-  pub prices-size : length x.prices ≡ n
-  pub frees-size : length x.frees ≡ n
+  pub cols_size : length x.pairs.cols ≡ n
+  pub rows_size : length x.pairs.rows ≡ n
+  pub prices_size : length x.prices ≡ n
+  pub frees_size : length x.frees ≡ n
   pub current_below : x.pass.current < n
-  pub left-most : x.pass.left ≤ x.pass.current
+  pub left_most : x.pass.left ≤ x.pass.current
   pub looks_fit : x.pass.looks < looks_most
   pub row_below : at x.frees x.pass.current < n
-  pub near-prices : Near n x.prices
+  pub near_prices : Near n x.prices
 
 -- The room of a pass: the free list stands at 0, what is kept of the rows at n, and is true at prices v.
 pub record Keeping (n : ℕ) (costs v : List ℤ) (room : List ℕ) (limits : List ℤ) : Type 0 where
-  pub room-size : length room ≡ n + n + n + n
-  pub limits-size : length limits ≡ n
+  pub room_size : length room ≡ n + n + n + n
+  pub limits_size : length limits ≡ n
   pub kept : AllKept n (square n costs).cost v (part n (n + n + n) room) limits
 
 -- The first m looks of a pass over `count` free rows.
@@ -56,13 +56,13 @@ looks_to n costs cols rows v frees count m = looks n (square n costs).cost count
 -- What a pass asks: lists of n entries; that its turns are enough for all of its rows; and before every look a row in range and near prices.
 pub record Passable (n : ℕ) (costs : List ℤ) (cols rows : List ℕ) (v : List ℤ) (frees : List ℕ) (count : ℕ) : Type 0 where
   pub squared : Square n costs
-  pub cols-size : length cols ≡ n
-  pub rows-size : length rows ≡ n
-  pub prices-size : length v ≡ n
-  pub frees-size : length frees ≡ n
+  pub cols_size : length cols ≡ n
+  pub rows_size : length rows ≡ n
+  pub prices_size : length v ≡ n
+  pub frees_size : length frees ≡ n
   pub count_most : count ≤ n
   pub ends : count ≤ (row_reduction n (square n costs).cost (stage_at cols rows v frees count)).pass.current
   pub row_below : (m : ℕ) → m < count * n → (looks_to n costs cols rows v frees count m).pass.current < count
       → at (looks_to n costs cols rows v frees count m).frees (looks_to n costs cols rows v frees count m).pass.current < n
-  pub near-prices : (m : ℕ) → m < count * n → (looks_to n costs cols rows v frees count m).pass.current < count
+  pub near_prices : (m : ℕ) → m < count * n → (looks_to n costs cols rows v frees count m).pass.current < count
       → Near n (looks_to n costs cols rows v frees count m).prices

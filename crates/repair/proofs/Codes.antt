@@ -23,20 +23,20 @@ use Rattle.matrix.specs.declared.Refusal.{Refusal}
 use Rattle.matrix.specs.declared.Verdict.{Verdict}
 use Rattle.matrix.specs.declared.Verdict.TheVariants.{Passed, Fails}
 use Rattle.matrix.specs.declared.Answer.TheVariants.{Refused}
-use Rattle.matrix.proofs.SmallLimits.{side-small}
-use Rattle.matrix.proofs.Codes.{square-small}
+use Rattle.matrix.proofs.SmallLimits.{side_small}
+use Rattle.matrix.proofs.Codes.{square_small}
 use Rattle.matrix.proofs.Places.{place-below}
-use Rattle.matrix.proofs.Passed.{columns-inside}
-use Rattle.matrix.proofs.Verdicts.{then_iff, Every, then_every, fails_at_by_every, Small, then_small, fails_if-small, fails_at_by-small, fails_at-small}
-use Rattle.checker.specs.Tests.{rows_named, over, over_in, but, under_costs_but, loose, tight_on_but}
+use Rattle.matrix.proofs.Passed.{columns_inside_lem}
+use Rattle.matrix.proofs.Verdicts.{then_iff, Every, then_every, fails_at_by_every, Small, then_small, fails_if_small, fails_at_by_small, fails_at_small}
+use Rattle.checker.specs.Tests.{rows_named_lem, over, over_in, but, under_costs_but, loose, tight_on_but}
 use Rattle.checker.specs.Slacks.{SlackRight}
-use Rattle.checker.proofs.But.{but_self, but-holds}
+use Rattle.checker.proofs.But.{but_self, but_holds}
 use Rattle.checker.proofs.Tests.{under_costs_but_lem}
 use Rattle.checker.proofs.Slacks.{none_if, none_at, neither_right, over_slacks, loose_slacks}
 use Rattle.lapjv.specs.Solve.{Lent, tested}
-use Rattle.lapjv.proofs.Codes.{tested-small}
+use Rattle.lapjv.proofs.Codes.{tested_small}
 use Rattle.lapjv.proofs.Tests.{tested_iff}
-use Rattle.repair.specs.Tests.{row_inside, prices_near, repair_tests}
+use Rattle.repair.specs.Tests.{row_inside_lem, prices_near, repair_tests}
 use Rattle.repair.specs.Repair.{outcome, repair}
 
 module _ (n : ℕ) (costs : List ℤ) (row : ℕ) (lent : Lent) where
@@ -47,9 +47,9 @@ module _ (n : ℕ) (costs : List ℤ) (row : ℕ) (lent : Lent) where
   vs = lent.prices_of_columns
 
   -- What holds of every refusal of each test, once those before it have passed, holds of every refusal.
-  every : (P : Refusal → Type 0) → Every P (tested n costs lent) → (Passes (tested n costs lent) → Every P (row_inside n row))
+  every : (P : Refusal → Type 0) → Every P (tested n costs lent) → (Passes (tested n costs lent) → Every P (row_inside_lem n row))
       → (Passes (tested n costs lent) → Every P (columns_inside n n lent.cols))
-      → (Passes (tested n costs lent) → Every P (rows_named n lent.cols lent.rows))
+      → (Passes (tested n costs lent) → Every P (rows_named_lem n lent.cols lent.rows))
       → (Passes (tested n costs lent) → Every P (prices_within n n us vs))
       → (Passes (tested n costs lent) → Every P (prices_near n us vs))
       → (Passes (tested n costs lent) → Passes (prices_within n n us vs) → Every P (under_costs_but row (square n costs) us vs))
@@ -67,37 +67,37 @@ module _ (n : ℕ) (costs : List ℤ) (row : ℕ) (lent : Lent) where
       (λ e. let p = priced ((then_iff _ _).0 e).0 in g p.0 p.2))
       (λ e. let t = (then_iff _ _).0 e in let p = priced ((then_iff _ _).0 t.0).0 in h p.0 p.1 p.2 t.1)
     where
-      listed : Passes (tested n costs lent then row_inside n row then columns_inside n n lent.cols) → Passes (tested n costs lent) × Passes (columns_inside n n lent.cols)
+      listed : Passes (tested n costs lent then row_inside_lem n row then columns_inside n n lent.cols) → Passes (tested n costs lent) × Passes (columns_inside n n lent.cols)
       listed e = let t = (then_iff _ _).0 e in (((then_iff _ _).0 t.0).0, t.1)
 
-      priced : Passes (tested n costs lent then row_inside n row then columns_inside n n lent.cols then rows_named n lent.cols lent.rows then prices_within n n us vs)
+      priced : Passes (tested n costs lent then row_inside_lem n row then columns_inside n n lent.cols then rows_named_lem n lent.cols lent.rows then prices_within n n us vs)
           → Passes (tested n costs lent) × Passes (columns_inside n n lent.cols) × Passes (prices_within n n us vs)
       priced e = let t = (then_iff _ _).0 e in let l = listed ((then_iff _ _).0 t.0).0 in (l.0, l.1, t.1)
 
   few : Passes (tested n costs lent) → (n < 2 ^ 16) × (n * n ≤ 2 ^ 32)
   few e =
       let h = (tested_iff n costs lent).0 e in
-      (omega (arith, side-small, h.small), omega (arith, square-small n (length costs) h.small h.squared, h.squared))
+      (omega (arith, side_small, h.small), omega (arith, square_small n (length costs) h.small h.squared, h.squared))
 
   -- Row prices and column prices, by any number below 256.
-  prices-small : (number : ℕ) (limit : ℤ) → number < 256 → Passes (tested n costs lent) → Small (prices_in number limit n n us vs)
-  prices-small number limit s e =
-      then_small _ _ (fails_at-small _ _ _ _ s (λ i l. omega (arith, few e))) (λ t. fails_at-small _ _ _ _ s (λ j l. omega (arith, few e)))
+  prices_small : (number : ℕ) (limit : ℤ) → number < 256 → Passes (tested n costs lent) → Small (prices_in number limit n n us vs)
+  prices_small number limit s e =
+      then_small _ _ (fails_at_small _ _ _ _ s (λ i l. omega (arith, few e))) (λ t. fails_at_small _ _ _ _ s (λ j l. omega (arith, few e)))
 
   tests_small : Small (repair_tests n costs row lent)
   tests_small =
-      every Tellable (tested-small n costs lent)
-      (λ e. fails_if-small _ _ _ (lit< tt) (λ t. omega (arith, few e)))
-      (λ e. fails_at-small _ _ _ _ (lit< tt) (λ i l. omega (arith, few e)))
-      (λ e. fails_at-small _ _ _ _ (lit< tt) (λ i l. omega (arith, few e)))
-      (prices-small PriceOutside (pos (10 * K)) (lit< tt))
-      (prices-small PriceFar (pos (7 * K)) (lit< tt))
-      (λ e f. fails_at_by-small _ _ _ _ _ (lit< tt) (λ i l. omega (arith, few e, mul-le-mul_right n (le_of_lt l), first_le (over (square n costs) us vs i) n)))
-      (λ e f g h. fails_at_by-small _ _ _ _ _ (lit< tt) (λ i l. omega (arith, few e)))
+      every Tellable (tested_small n costs lent)
+      (λ e. fails_if_small _ _ _ (lit< tt) (λ t. omega (arith, few e)))
+      (λ e. fails_at_small _ _ _ _ (lit< tt) (λ i l. omega (arith, few e)))
+      (λ e. fails_at_small _ _ _ _ (lit< tt) (λ i l. omega (arith, few e)))
+      (prices_small PriceOutside (pos (10 * K)) (lit< tt))
+      (prices_small PriceFar (pos (7 * K)) (lit< tt))
+      (λ e f. fails_at_by_small _ _ _ _ _ (lit< tt) (λ i l. omega (arith, few e, mul-le-mul_right n (le_of_lt l), first_le (over (square n costs) us vs i) n)))
+      (λ e f g h. fails_at_by_small _ _ _ _ _ (lit< tt) (λ i l. omega (arith, few e)))
 
-  pub repair-places : TellableIn (repair n costs row lent).answer
+  pub repair_places : TellableIn (repair n costs row lent).answer
   unfolding repair outcome
-  repair-places = by (repair_tests n costs row lent) tests_small
+  repair_places = by (repair_tests n costs row lent) tests_small
     where
       by : (verdict : Verdict) → Small verdict → TellableIn (outcome n costs row lent verdict).answer
       by Passed h = tt
@@ -121,13 +121,13 @@ module _ (n : ℕ) (costs : List ℤ) (row : ℕ) (lent : Lent) where
       (λ e. none_at _ _ _ _ (lit< tt))
       (λ e. then_every SlackRight _ _ (none_at _ _ _ _ (lit< tt)) (λ f. none_at _ _ _ _ (lit< tt)))
       (λ e. then_every SlackRight _ _ (far (λ i. i) _ _) (λ f. far (λ j. n + j) _ _))
-      (λ e f. over_slacks (square n costs) us vs (costs-near e) (but row (over_in (square n costs) us vs)) (but-holds row (over_in (square n costs) us vs)) f)
-      (λ e i f u. loose_slacks (square n costs) us vs (costs-near e) lent.cols (λ k l. ((columns-inside n n lent.cols).0 i k l, refl))
-      (but row (loose (square n costs) lent.cols us vs)) (but-holds row (loose (square n costs) lent.cols us vs))
-      (λ k l t. ((under_costs_but_lem (square n costs) us vs row).0 u).under k (at lent.cols k) l (named_other (loose (square n costs) lent.cols us vs) k t) ((columns-inside n n lent.cols).0 i k l) refl) f)
+      (λ e f. over_slacks (square n costs) us vs (costs-near e) (but row (over_in (square n costs) us vs)) (but_holds row (over_in (square n costs) us vs)) f)
+      (λ e i f u. loose_slacks (square n costs) us vs (costs-near e) lent.cols (λ k l. ((columns_inside_lem n n lent.cols).0 i k l, refl))
+      (but row (loose (square n costs) lent.cols us vs)) (but_holds row (loose (square n costs) lent.cols us vs))
+      (λ k l t. ((under_costs_but_lem (square n costs) us vs row).0 u).under k (at lent.cols k) l (named_other (loose (square n costs) lent.cols us vs) k t) ((columns_inside_lem n n lent.cols).0 i k l) refl) f)
     where
       costs-near : Passes (tested n costs lent) → (i j : ℕ) → i < n → j < n → Within K ((square n costs).cost i j)
-      costs-near e i j l m = let h = (tested_iff n costs lent).0 e in h.costs-within _ (omega (arith, place-below n i j l m, h.squared))
+      costs-near e i j l m = let h = (tested_iff n costs lent).0 e in h.costs_within_lem _ (omega (arith, place-below n i j l m, h.squared))
 
       far : (place : ℕ → ℕ) (count : ℕ) (test : ℕ → Bool) → Every SlackRight (fails_at PriceFar place count test)
       far place count test =

@@ -24,7 +24,7 @@ use Rattle.rules.specs.Augmentation.{Progress, augment}
 use Rattle.rules.specs.Run.{prices_of_rows}
 use Rattle.rules.specs.Right.{Between}
 use Rattle.rules.specs.Asked.{AtMinimum, Fair, Paired, Agree, Can}
-use Rattle.rules.proofs.Prices.{NotBelow, fair-near, minimum_pays}
+use Rattle.rules.proofs.Prices.{NotBelow, fair_near, minimum_pays}
 use Rattle.rules.proofs.Augment.{Gain, augment_gain}
 use Rattle.rules.proofs.Run.{paired-minimum, all_named, all_feasible, all_tight}
 use Rattle.repair.specs.Repair.{unpaired}
@@ -51,7 +51,7 @@ module _ (n : ℕ) (costs : List ℤ) (s : ℕ) (p : Pairs) (us vs : List ℤ) (
   back = square_named_back n costs p.cols p.rows H.named
 
   row_here : rows given ≡ free
-  row_here = get_or-set_same p.rows given free 0 (omega (arith, given_below, H.rows-size))
+  row_here = get_or-set_same p.rows given free 0 (omega (arith, given_below, H.rows_size))
 
   row_other : (k : ℕ) → k ≢ given → rows k ≡ at p.rows k
   row_other k d = get_or-set_other p.rows given k free 0 d
@@ -66,9 +66,9 @@ module _ (n : ℕ) (costs : List ℤ) (s : ℕ) (p : Pairs) (us vs : List ℤ) (
 
   agree : Agree n x.pairs
   agree = record {
-    cols-size = H.cols-size;
-    rows-size = length-set p.rows given free ∙ H.rows-size;
-    cols-below = H.named.inside;
+    cols_size = H.cols_size;
+    rows_size = length-set p.rows given free ∙ H.rows_size;
+    cols_below = H.named.inside;
     named_back = λ k l h. elim (ℕ_discrete k given) [
       | yes e ↦ absurd (omega (arith, ap rows e, row_here))
       | no d ↦ ap (at p.cols) (row_other k d) ∙ back.back k l
@@ -94,7 +94,7 @@ module _ (n : ℕ) (costs : List ℤ) (s : ℕ) (p : Pairs) (us vs : List ℤ) (
   pub mend_can : Can n cost x s
   mend_can = record {
     agree = agree;
-    prices-size = H.prices-size;
+    prices_size = H.prices_size;
     fair = fair;
     start_below = H.row_below;
     start_unpaired = λ k l e. elim (ℕ_discrete k given) [
@@ -143,26 +143,26 @@ module _ (n : ℕ) (costs : List ℤ) (s : ℕ) (p : Pairs) (us vs : List ℤ) (
   -- ---- bounds, for costs within K and column prices within B
 
   module _ (K B : ℕ) (small : (k : ℕ) → Within K (signed_at costs k)) (near : (k : ℕ) → k < n → Within B (signed_at vs k)) where
-    cost-small : (i j : ℕ) → Within K (cost i j)
-    cost-small i j = small (i * n + j)
+    cost_small : (i j : ℕ) → Within K (cost i j)
+    cost_small i j = small (i * n + j)
 
     given_low : NotBelow B (signed_at y.prices given)
     given_low = record { low = omega (zlin, given_price, (near given given_below).low) }
 
     pub mend_column_between : (k : ℕ) → k < n → Between (B + 2 * K) B (signed_at y.prices k)
     mend_column_between k l = record {
-      low = (fair-near n cost K cost-small (signed_at y.prices) (at y.pairs.rows) given B given_below given_low mend_gain.fair k l (mend_rows k l)).low;
+      low = (fair_near n cost K cost_small (signed_at y.prices) (at y.pairs.rows) given B given_below given_low mend_gain.fair k l (mend_rows k l)).low;
       high = omega (zlin, mend_gain.not_risen k l, (near k l).high);
     }
 
     pub mend_row_within : (i : ℕ) → i < n → Within (K + B) (signed_at new_row_prices i)
     mend_row_within i l =
         let j = at y.pairs.cols i in
-        let lj = mend_gain.agree.cols-below i l in
+        let lj = mend_gain.agree.cols_below i l in
         let M = paired-minimum n costs y.pairs y.prices mend_gain.agree mend_gain.fair mend_paired i l in
-        let pays = minimum_pays n cost K cost-small (signed_at y.prices) i j given B given_below given_low M in
+        let pays = minimum_pays n cost K cost_small (signed_at y.prices) i j given B given_below given_low M in
         subst (Within (K + B)) (sym (get_d_table n (λ i. reduced cost (signed_at y.prices) i (at y.pairs.cols i)) (pos 0) i l))
-        (within (cost i j) (signed_at y.prices j) (signed_at vs j) pays (cost-small i j) (near j lj) (mend_gain.not_risen j lj))
+        (within (cost i j) (signed_at y.prices j) (signed_at vs j) pays (cost_small i j) (near j lj) (mend_gain.not_risen j lj))
       where
         within : (c v w : ℤ) → (c -ℤ v) ≤ℤ pos (K + B) → Within K c → Within B w → v ≤ℤ w → Within (K + B) (c -ℤ v)
         within c v w h g f e = omega (zlin, dif c v, h)

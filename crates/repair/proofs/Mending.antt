@@ -15,7 +15,7 @@ use Rattle.lists.proofs.Parts.{part_at}
 use Rattle.assignment.specs.Pairings.{signed_at, square, total}
 use Rattle.matrix.specs.Limits.{K, near}
 use Rattle.matrix.specs.Asked.{Listed}
-use Rattle.matrix.proofs.SmallLimits.{K-small}
+use Rattle.matrix.proofs.SmallLimits.{K_small}
 use Rattle.rules.specs.Columns.{free}
 use Rattle.rules.specs.Augmentation.{Progress, augment, augments, augmentation}
 use Rattle.rules.specs.Run.{prices_of_rows}
@@ -51,31 +51,31 @@ module _ (n : ℕ) (costs : List ℤ) (row : ℕ) (cols rows : List ℕ) (v : Li
   under = omega (arith, side-free, C.small)
 
   first-free : at (frees_in n started) 0 ≡ row
-  first-free = part_at 0 n started 0 0 some ∙ get_or-set_same room 0 row 0 (omega (arith, C.room-size, some))
+  first-free = part_at 0 n started 0 0 some ∙ get_or-set_same room 0 row 0 (omega (arith, C.room_size, some))
 
-  prices-near : (k : ℕ) → Within near (signed_at v k)
-  prices-near =
-      within_everywhere near v (λ k l. within_mono (omega (arith, K-small)) (C.prices-near k (omega (arith, C.fair.prices-size))))
+  prices_near_lem : (k : ℕ) → Within near (signed_at v k)
+  prices_near_lem =
+      within_everywhere near v (λ k l. within_mono (omega (arith, K_small)) (C.prices_near_lem k (omega (arith, C.fair.prices_size))))
 
-  pub can-augment : CanAugment n costs 1 cols freed_rows v d started
+  pub can_augment : CanAugment n costs 1 cols freed_rows v d started
   unfolding augments
-  can-augment = record {
+  can_augment = record {
     small = C.small;
     few = some;
-    costs-size = C.squared;
-    costs-near = λ k. within_mono (omega (arith, K-small)) (C.costs-within k);
-    cols-size = C.fair.cols-size;
-    rows-size = length-set rows (at cols row) free ∙ C.fair.rows-size;
-    prices-size = C.fair.prices-size;
-    distances-size = C.distances-size;
-    room-size = length-set room 0 row ∙ C.room-size;
+    costs_size = C.squared;
+    costs-near = λ k. within_mono (omega (arith, K_small)) (C.costs_within_lem k);
+    cols_size = C.fair.cols_size;
+    rows_size = length-set rows (at cols row) free ∙ C.fair.rows_size;
+    prices_size = C.fair.prices_size;
+    distances_size = C.distances_size;
+    room_size = length-set room 0 row ∙ C.room_size;
     turn = λ m l.
         let e : m ≡ 0 = omega arith in
         subst (λ (k : ℕ). CanTurn n costs (augments n cost (frees_in n started) k x) (at (frees_in n started) k)) (sym e)
         (subst (λ (y : Progress). CanTurn n costs y (at (frees_in n started) 0))
         (sym (upward_none 0 0 (λ k y. augment n cost y (at (frees_in n started) k)) x (omega arith)))
         (subst (λ (i : ℕ). CanTurn n costs x i) (sym first-free)
-        (record { can = mend_can n costs row (pairs_of cols rows) C.us v under C.fair; prices-near = prices-near })));
+        (record { can = mend_can n costs row (pairs_of cols rows) C.us v under C.fair; prices_near_lem = prices_near_lem })));
   }
 
   pub mended_by : (cols' rows' : List ℕ) (v' : List ℤ) (room' : List ℕ) (scanned : ℕ) → Augmented n costs 1 cols freed_rows v started cols' rows' v' room' scanned
@@ -93,28 +93,28 @@ module _ (n : ℕ) (costs : List ℤ) (row : ℕ) (cols rows : List ℕ) (v : Li
     gain = subst (Gain n cost (unpaired (pairs_of cols rows) v row) row) (sym e) (mend_gain n costs row (pairs_of cols rows) C.us v under C.fair)
 
     pub sizes : (length cols' ≡ n) × (length rows' ≡ n) × (length v' ≡ n)
-    sizes = (gain.agree.cols-size, gain.agree.rows-size, gain.prices-size)
+    sizes = (gain.agree.cols_size, gain.agree.rows_size, gain.prices_size)
 
     prices_close : (j : ℕ) → j < n → Within near (signed_at v' j)
     unfolding mended
     prices_close j l =
-        let b = mend_column_between n costs row (pairs_of cols rows) C.us v under C.fair K (7 * K) C.costs-within C.prices-near j l in
+        let b = mend_column_between n costs row (pairs_of cols rows) C.us v under C.fair K (7 * K) C.costs_within_lem C.prices_near_lem j l in
         let s = ap (λ (y : Progress). signed_at y.prices j) e in
-        rw s (record { low = omega (arith, K-small, b); high = omega (arith, K-small, b) })
+        rw s (record { low = omega (arith, K_small, b); high = omega (arith, K_small, b) })
 
     pub can_price : (us : List ℤ) → length us ≡ n → CanPrice n costs cols' v' us
     can_price us f = record {
       small = C.small;
       squared = C.squared;
-      cols-size = sizes.0;
-      v-size = sizes.2;
-      us-size = f;
-      inside = gain.agree.cols-below;
-      prices-near = prices_close;
+      cols_size = sizes.0;
+      v_size = sizes.2;
+      us_size = f;
+      inside = gain.agree.cols_below;
+      prices_near_lem = prices_close;
     }
 
-    pub can-total : Listed n costs n cols'
-    can-total = record { small = C.small; squared = C.squared; rows = omega arith; listed = omega (arith, sizes.0); inside = gain.agree.cols-below }
+    pub can_total : Listed n costs n cols'
+    can_total = record { small = C.small; squared = C.squared; rows = omega arith; listed = omega (arith, sizes.0); inside = gain.agree.cols_below }
 
     pub repaired_by_lem : (us : List ℤ) (room' room'' : List ℕ) (d' d'' : List ℤ) (t : ℤ) → us ≡ prices_of_rows n cost cols' v' → t ≡ total (square n costs) cols'
         → room'' ≡ replicate (length room') 0 → length room' ≡ n + n + n + n → d'' ≡ replicate (length d') (pos 0) → length d' ≡ n

@@ -38,9 +38,9 @@ module _ (n : ℕ) (costs : List ℤ) (row : ℕ) (cols rows : List ℕ) (us vs 
   pub fair : FairBut n costs row (pairs_of (take n cols) (take n rows)) us (take n vs)
   fair = record {
     row_below = r.row_below;
-    cols-size = length-take-le n cols r.limits.cols-enough;
-    rows-size = length-take-le n rows r.limits.rows-enough;
-    prices-size = length-take-le n vs r.limits.column_prices_enough;
+    cols_size = length-take-le n cols r.limits.cols_enough;
+    rows_size = length-take-le n rows r.limits.rows_enough;
+    prices_size = length-take-le n vs r.limits.column_prices_enough;
     named = record {
       inside = λ i l. rw (column i l) (r.named.inside i l);
       back = λ i l. ap (at (take n rows)) (column i l) ∙ row_of (at cols i) (r.named.inside i l) ∙ r.named.back i l;
@@ -58,10 +58,10 @@ module _ (n : ℕ) (costs : List ℤ) (row : ℕ) (cols rows : List ℕ) (us vs 
   can_mend = record {
     small = r.limits.small;
     squared = r.limits.squared;
-    costs-within = within_everywhere K costs r.limits.costs-within;
-    prices-near = λ j l. rw (front_lent_lem n vs, price j l) (r.column_prices_near j l);
-    room-size = omega (arith, front_length (4 * n) indices r.limits.indices-enough);
-    distances-size = front_length n numbers r.limits.numbers-enough;
+    costs_within_lem = within_everywhere K costs r.limits.costs_within_lem;
+    prices_near_lem = λ j l. rw (front_lent_lem n vs, price j l) (r.column_prices_near j l);
+    room_size = omega (arith, front_length (4 * n) indices r.limits.indices_enough);
+    distances_size = front_length n numbers r.limits.numbers_enough;
     us = us;
     fair = rw (front_lent_lem n cols, front_lent_lem n rows, front_lent_lem n vs) fair;
   }

@@ -15,15 +15,15 @@ use Rattle.matrix.specs.Verdicts.{Passes}
 use Rattle.matrix.specs.declared.Refusal.{Refusal}
 use Rattle.matrix.specs.declared.Verdict.TheVariants.{Fails}
 use Rattle.matrix.proofs.Verdicts.{then_iff, fails_if_iff}
-use Rattle.matrix.proofs.Passed.{columns-inside, prices_in_lem, prices-within}
+use Rattle.matrix.proofs.Passed.{columns_inside_lem, prices_in_lem, prices_within_lem}
 use Rattle.checker.proofs.Tests.{rows_named_lem, under_costs_but_lem, tight_on_but_lem}
 use Rattle.lapjv.specs.Solve.{Lent}
 use Rattle.lapjv.proofs.Tests.{tested_iff}
-use Rattle.repair.specs.Tests.{row_inside, repair_tests}
+use Rattle.repair.specs.Tests.{row_inside_lem, repair_tests}
 use Rattle.repair.specs.Repair.{repaired_by, mended_in, refused, settled, outcome, repair}
 use Rattle.repair.specs.Repairable.{Repairable}
 
-pub row_inside_lem : (n row : ℕ) → Passes (row_inside n row) ↔ (row < n)
+pub row_inside_lem : (n row : ℕ) → Passes (row_inside_lem n row) ↔ (row < n)
 row_inside_lem n row = let t = fails_if_iff _ _ _ in (λ e. leb-false n row (t.0 e), λ h. t.1 (lt-leb n row h))
 
 module _ (n : ℕ) (costs : List ℤ) (row : ℕ) (lent : Lent) where
@@ -45,7 +45,7 @@ module _ (n : ℕ) (costs : List ℤ) (row : ℕ) (lent : Lent) where
             record {
               limits = (tested_iff n costs lent).0 t.0;
               row_below = (row_inside_lem n row).0 t.1;
-              named = record { inside = (columns-inside n n lent.cols).0 t6.1; back = (rows_named_lem n lent.cols lent.rows).0 t7.1 };
+              named = record { inside = (columns_inside_lem n n lent.cols).0 t6.1; back = (rows_named_lem n lent.cols lent.rows).0 t7.1 };
               row_prices_near = w.0;
               column_prices_near = w.1;
               feasible = (under_costs_but_lem night us vs row).0 t9.1;
@@ -53,9 +53,9 @@ module _ (n : ℕ) (costs : List ℤ) (row : ℕ) (lent : Lent) where
             },
         λ r.
             let t = (then_iff _ _).1 ((tested_iff n costs lent).1 r.limits, (row_inside_lem n row).1 r.row_below) in
-            let t6 = (then_iff _ _).1 (t, (columns-inside n n lent.cols).1 r.named.inside) in
+            let t6 = (then_iff _ _).1 (t, (columns_inside_lem n n lent.cols).1 r.named.inside) in
             let t7 = (then_iff _ _).1 (t6, (rows_named_lem n lent.cols lent.rows).1 r.named.back) in
-            let t8 = (then_iff _ _).1 (t7, (prices-within n n us vs).1 (λ i l. within_mono (omega arith) (r.row_prices_near i l), λ j l. within_mono (omega arith) (r.column_prices_near j l))) in
+            let t8 = (then_iff _ _).1 (t7, (prices_within_lem n n us vs).1 (λ i l. within_mono (omega arith) (r.row_prices_near i l), λ j l. within_mono (omega arith) (r.column_prices_near j l))) in
             let t24 = (then_iff _ _).1 (t8, (prices_in_lem PriceFar (7 * K) n n us vs).1 (r.row_prices_near, r.column_prices_near)) in
             let t9 = (then_iff _ _).1 (t24, (under_costs_but_lem night us vs row).1 r.feasible) in
             (then_iff _ _).1 (t9, (tight_on_but_lem night us vs row lent.cols).1 r.tight),

@@ -10,9 +10,9 @@ use Rattle.repair.specs.Repair.{Repaired, repaired_by, mended}
 -- Lists of n entries: a pairing whose prices are fair but for one row.
 pub record FairBut (n : ℕ) (costs : List ℤ) (row : ℕ) (p : Pairs) (us vs : List ℤ) : Type 0 where
   pub row_below : row < n
-  pub cols-size : length p.cols ≡ n
-  pub rows-size : length p.rows ≡ n
-  pub prices-size : length vs ≡ n
+  pub cols_size : length p.cols ≡ n
+  pub rows_size : length p.rows ≡ n
+  pub prices_size : length vs ≡ n
   pub named : Named (square n costs) p.cols p.rows
   pub feasible : FeasibleBut row (square n costs) us vs
   pub tight : TightBut row (square n costs) us vs p.cols
@@ -21,10 +21,10 @@ pub record FairBut (n : ℕ) (costs : List ℤ) (row : ℕ) (p : Pairs) (us vs :
 pub record CanMend (n : ℕ) (costs : List ℤ) (row : ℕ) (p : Pairs) (v : List ℤ) (room : List ℕ) (d : List ℤ) : Type 0 where
   pub small : n ≤ side
   pub squared : length costs ≡ n * n
-  pub costs-within : (k : ℕ) → Within K (signed_at costs k)
-  pub prices-near : (j : ℕ) → j < n → Within (7 * K) (signed_at v j)
-  pub room-size : length room ≡ n + n + n + n
-  pub distances-size : length d ≡ n
+  pub costs_within_lem : (k : ℕ) → Within K (signed_at costs k)
+  pub prices_near_lem : (j : ℕ) → j < n → Within (7 * K) (signed_at v j)
+  pub room_size : length room ≡ n + n + n + n
+  pub distances_size : length d ≡ n
   pub us : List ℤ
   pub fair : FairBut n costs row p us v
 

@@ -21,16 +21,16 @@ module _ (n : ℕ) (cost : ℕ → ℕ → ℤ) (frees : List ℕ) (count : ℕ)
   -- The first m rows of the list have their columns.
   pub record Augmented (x₀ : Progress) (m : ℕ) (x : Progress) : Type 0 where
     pub agree : Agree n x.pairs
-    pub prices-size : length x.prices ≡ n
+    pub prices_size : length x.prices ≡ n
     pub fair : Fair n cost (signed_at x.prices) (at x.pairs.rows)
     pub listed : Listed n x.pairs frees (λ t. (m ≤ t) × (t < count))
-    pub scanned-few : x.scanned ≤ x₀.scanned + m * (n - 1)
+    pub scanned_few : x.scanned ≤ x₀.scanned + m * (n - 1)
 
   -- The row at place m can get its column.
   pub augmented_can : (x₀ : Progress) (m : ℕ) (x : Progress) → m < count → Augmented x₀ m x → Can n cost x (at frees m)
   augmented_can x₀ m x l A = record {
     agree = A.agree;
-    prices-size = A.prices-size;
+    prices_size = A.prices_size;
     fair = A.fair;
     start_below = A.listed.row_below m (omega arith, l);
     start_unpaired = A.listed.unpaired m (omega arith, l);
@@ -43,7 +43,7 @@ module _ (n : ℕ) (cost : ℕ → ℕ → ℤ) (frees : List ℕ) (count : ℕ)
       let g = augment_gain n cost x s (augmented_can x₀ m x l A) in
       record {
         agree = g.agree;
-        prices-size = g.prices-size;
+        prices_size = g.prices_size;
         fair = g.fair;
         listed = record {
           row_below = λ t a. A.listed.row_below t (omega (arith, a.0), a.1);
@@ -57,7 +57,7 @@ module _ (n : ℕ) (cost : ℕ → ℕ → ℤ) (frees : List ℕ) (count : ℕ)
               ])
               (A.listed.paired_or_listed i h);
         };
-        scanned-few = omega (arith, g.scanned-few, A.scanned-few, suc-mul m (n - 1));
+        scanned_few = omega (arith, g.scanned_few, A.scanned_few, suc-mul m (n - 1));
       }
 
   -- Q is what one search keeps.

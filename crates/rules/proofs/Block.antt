@@ -12,7 +12,7 @@ use lib.ListN.{length}
 use Rattle.ints.proofs.Ranges.{zarith}
 use Rattle.lists.specs.Permutations.{at, Permutation, exchange}
 use Rattle.lists.proofs.Runs.{upward_keeps}
-use Rattle.lists.proofs.Permutations.{exchange-second, exchange-first, exchange_other, exchange_permutation}
+use Rattle.lists.proofs.Permutations.{exchange_second, exchange-first, exchange_other, exchange_permutation}
 use Rattle.lists.proofs.Cases.{cond_cases, lt_or_le, here_or_elsewhere}
 use Rattle.assignment.specs.Pairings.{signed_at}
 use Rattle.rules.specs.Block.{Block, block_with, block_step, block_start, block}
@@ -22,8 +22,8 @@ module _ (n : ℕ) (d : List ℤ) (lo : ℕ) (list : List ℕ) where
   pub record IsBlock (k : ℕ) (b : Block) : Type 0 where
     pub permutation : Permutation n b.list
     pub order : (lo < b.hi) × (b.hi ≤ k) × (k ≤ n)
-    pub before-kept : (t : ℕ) → t < lo → at b.list t ≡ at list t
-    pub from-after : (t : ℕ) → lo ≤ t → t < n → (u : ℕ) × (lo ≤ u) × (u < n) × (at b.list t ≡ at list u)
+    pub before_kept : (t : ℕ) → t < lo → at b.list t ≡ at list t
+    pub from_after : (t : ℕ) → lo ≤ t → t < n → (u : ℕ) × (lo ≤ u) × (u < n) × (at b.list t ≡ at list u)
     pub at_least : (t : ℕ) → lo ≤ t → t < b.hi → signed_at d (at b.list t) ≡ b.minimum
     pub not_less : (t : ℕ) → b.hi ≤ t → t < k → b.minimum ≤ℤ signed_at d (at b.list t)
 
@@ -35,7 +35,7 @@ module _ (n : ℕ) (d : List ℤ) (lo : ℕ) (list : List ℕ) where
       let ys = exchange xs k p in
       let lp : p < n = omega (arith, B.order) in
       let size : length xs ≡ n = B.permutation.size in
-      let sb : at ys p ≡ at xs k = exchange-second xs k p (omega arith) in
+      let sb : at ys p ≡ at xs k = exchange_second xs k p (omega arith) in
       let sa : at ys k ≡ at xs p = exchange-first xs k p (omega arith) (omega arith) in
       let so : (t : ℕ) → t ≢ k → t ≢ p → at ys t ≡ at xs t = exchange_other xs k p in
       -- at or above the old minimum
@@ -43,17 +43,17 @@ module _ (n : ℕ) (d : List ℤ) (lo : ℕ) (list : List ℕ) where
         | inl z ↦ omega (zarith, B.at_least t a z)
         | inr z ↦ B.not_less t z m
       ] in
-      let from-k = B.from-after k (omega (arith, B.order)) l in
-      let from-p = B.from-after p h lp in
+      let from-k = B.from_after k (omega (arith, B.order)) l in
+      let from-p = B.from_after p h lp in
       record {
         permutation = exchange_permutation B.permutation k p l lp;
         order = omega (arith, B.order);
-        before-kept = λ t m. so t (λ z. omega (arith, B.order)) (λ z. omega arith) ∙ B.before-kept t m;
-        from-after = here_or_elsewhere (λ t. lo ≤ t → t < n → (u : ℕ) × (lo ≤ u) × (u < n) × (at ys t ≡ at list u)) p
+        before_kept = λ t m. so t (λ z. omega (arith, B.order)) (λ z. omega arith) ∙ B.before_kept t m;
+        from_after = here_or_elsewhere (λ t. lo ≤ t → t < n → (u : ℕ) × (lo ≤ u) × (u < n) × (at ys t ≡ at list u)) p
             (λ a m. (from-k.0, from-k.1, from-k.2, sb ∙ from-k.3))
             (λ t y. here_or_elsewhere (λ t. t ≢ p → lo ≤ t → t < n → (u : ℕ) × (lo ≤ u) × (u < n) × (at ys t ≡ at list u)) k
             (λ y a m. (from-p.0, from-p.1, from-p.2, sa ∙ from-p.3))
-            (λ t z y a m. let F = B.from-after t a m in (F.0, F.1, F.2, so t z y ∙ F.3)) t y);
+            (λ t z y a m. let F = B.from_after t a m in (F.0, F.1, F.2, so t z y ∙ F.3)) t y);
         at_least = λ t a m. elim (ℕ_discrete t p) [
           | yes z ↦ ap (λ (y : ℕ). signed_at d (at ys y)) z ∙ ap (signed_at d) sb
           | no y ↦ omega (zarith, ap (signed_at d) (so t (λ z. omega (arith, B.order)) y), B.at_least t a (omega arith), e, f t a (omega arith))
@@ -73,8 +73,8 @@ module _ (n : ℕ) (d : List ℤ) (lo : ℕ) (list : List ℕ) where
       (λ e. record {
         permutation = B.permutation;
         order = omega (arith, B.order);
-        before-kept = B.before-kept;
-        from-after = B.from-after;
+        before_kept = B.before_kept;
+        from_after = B.from_after;
         at_least = B.at_least;
         not_less = λ t g m. elim (ℕ_discrete t k) [
           | yes z ↦ omega (zarith, ap (λ (y : ℕ). signed_at d (at b.list y)) z)
@@ -89,8 +89,8 @@ module _ (n : ℕ) (d : List ℤ) (lo : ℕ) (list : List ℕ) where
   block-first p l = record {
     permutation = p;
     order = omega arith;
-    before-kept = λ t m. refl;
-    from-after = λ t a m. (t, a, m, refl);
+    before_kept = λ t m. refl;
+    from_after = λ t a m. (t, a, m, refl);
     at_least = λ t a m. let e : t ≡ lo = omega arith in ap (λ (y : ℕ). signed_at d (at list y)) e;
     not_less = λ t a m. absurd (omega arith);
   }

@@ -40,11 +40,11 @@ module _ (n : ℕ) (cost : ℕ → ℕ → ℤ) (one : 1 ≤ n) where
   pub first-least : (i j : ℕ) → i < n → first j ≤ℤ cost i j
   first-least i j l = (is j).no_lower i l
 
-  pub first-within : (K : ℕ) → ((i j : ℕ) → Within K (cost i j)) → (j : ℕ) → Within K (first j)
-  first-within K costs j = let i = best j in omega (zlin, first-cost j, costs i j)
+  pub first_within : (K : ℕ) → ((i j : ℕ) → Within K (cost i j)) → (j : ℕ) → Within K (first j)
+  first_within K costs j = let i = best j in omega (zlin, first-cost j, costs i j)
 
   pub first-low : (K : ℕ) → ((i j : ℕ) → Within K (cost i j)) → (j : ℕ) → NotBelow K (first j)
-  first-low K costs j = record { low = (first-within K costs j).low }
+  first-low K costs j = record { low = (first_within K costs j).low }
 
   -- Column k holds a row.
   pub record Holds (s : Claims) (k : ℕ) : Type 0 where
@@ -54,10 +54,10 @@ module _ (n : ℕ) (cost : ℕ → ℕ → ℤ) (one : 1 ≤ n) where
 
   -- The columns from d on have claimed.
   pub record Claimed (d : ℕ) (s : Claims) : Type 0 where
-    pub cols-size : length s.cols ≡ n
-    pub rows-size : length s.rows ≡ n
-    pub marks-size : length s.marks ≡ n
-    pub cols-below : (i : ℕ) → i < n → at s.cols i < n
+    pub cols_size : length s.cols ≡ n
+    pub rows_size : length s.rows ≡ n
+    pub marks_size : length s.marks ≡ n
+    pub cols_below : (i : ℕ) → i < n → at s.cols i < n
     pub waiting : (k : ℕ) → k < d → at s.rows k ≡ best k
     pub holding : (k : ℕ) → d ≤ k → k < n → at s.rows k < n → Holds s k
     pub marked-held : (i : ℕ) → i < n → 1 ≤ at s.marks i → (d ≤ at s.cols i) × (at s.rows (at s.cols i) ≡ i)
@@ -73,15 +73,15 @@ module _ (n : ℕ) (cost : ℕ → ℕ → ℤ) (one : 1 ≤ n) where
     wins : at s.marks i ≡ 0 → Claimed j (record { cols = set s.cols i j; rows = s.rows; marks = set s.marks i 1 })
     wins z =
         let q : Claims = record { cols = set s.cols i j; rows = s.rows; marks = set s.marks i 1 } in
-        let tc : at q.cols i ≡ j = get_or-set_same s.cols i j 0 (omega (arith, li, h.cols-size)) in
-        let tm : at q.marks i ≡ 1 = get_or-set_same s.marks i 1 0 (omega (arith, li, h.marks-size)) in
+        let tc : at q.cols i ≡ j = get_or-set_same s.cols i j 0 (omega (arith, li, h.cols_size)) in
+        let tm : at q.marks i ≡ 1 = get_or-set_same s.marks i 1 0 (omega (arith, li, h.marks_size)) in
         let kc : (x : ℕ) → x ≢ i → at q.cols x ≡ at s.cols x = λ x d. get_or-set_other s.cols i x j 0 d in
         let km : (x : ℕ) → x ≢ i → at q.marks x ≡ at s.marks x = λ x d. get_or-set_other s.marks i x 1 0 d in
         record {
-          cols-size = length-set s.cols i j ∙ h.cols-size;
-          rows-size = h.rows-size;
-          marks-size = length-set s.marks i 1 ∙ h.marks-size;
-          cols-below = here_or_elsewhere (λ x. x < n → at q.cols x < n) i (λ m. omega (arith, tc)) (λ x d m. omega (arith, kc x d, h.cols-below x m));
+          cols_size = length-set s.cols i j ∙ h.cols_size;
+          rows_size = h.rows_size;
+          marks_size = length-set s.marks i 1 ∙ h.marks_size;
+          cols_below = here_or_elsewhere (λ x. x < n → at q.cols x < n) i (λ m. omega (arith, tc)) (λ x d m. omega (arith, kc x d, h.cols_below x m));
           waiting = λ k m. h.waiting k (omega arith);
           holding = here_or_elsewhere (λ k. j ≤ k → k < n → at s.rows k < n → Holds q k) j
               (λ a b m. record { is_best = h.waiting j (omega arith); named_back = tc; marked = omega (arith, tm) })
@@ -102,8 +102,8 @@ module _ (n : ℕ) (cost : ℕ → ℕ → ℤ) (one : 1 ≤ n) where
     loses : 1 ≤ at s.marks i → Claimed j (record { cols = s.cols; rows = set s.rows j free; marks = set s.marks i 2 })
     loses z =
         let q : Claims = record { cols = s.cols; rows = set s.rows j free; marks = set s.marks i 2 } in
-        let tr : at q.rows j ≡ free = get_or-set_same s.rows j free 0 (omega (arith, h.rows-size)) in
-        let tm : at q.marks i ≡ 2 = get_or-set_same s.marks i 2 0 (omega (arith, li, h.marks-size)) in
+        let tr : at q.rows j ≡ free = get_or-set_same s.rows j free 0 (omega (arith, h.rows_size)) in
+        let tm : at q.marks i ≡ 2 = get_or-set_same s.marks i 2 0 (omega (arith, li, h.marks_size)) in
         let kr : (x : ℕ) → x ≢ j → at q.rows x ≡ at s.rows x = λ x d. get_or-set_other s.rows j x free 0 d in
         let km : (x : ℕ) → x ≢ i → at q.marks x ≡ at s.marks x = λ x d. get_or-set_other s.marks i x 2 0 d in
         let still : (x : ℕ) → 1 ≤ at s.marks x → 1 ≤ at q.marks x =
@@ -111,10 +111,10 @@ module _ (n : ℕ) (cost : ℕ → ℕ → ℤ) (one : 1 ≤ n) where
         let before : (x : ℕ) → 1 ≤ at q.marks x → 1 ≤ at s.marks x =
         here_or_elsewhere (λ x. 1 ≤ at q.marks x → 1 ≤ at s.marks x) i (λ a. z) (λ x d a. omega (arith, km x d)) in
         record {
-          cols-size = h.cols-size;
-          rows-size = length-set s.rows j free ∙ h.rows-size;
-          marks-size = length-set s.marks i 2 ∙ h.marks-size;
-          cols-below = h.cols-below;
+          cols_size = h.cols_size;
+          rows_size = length-set s.rows j free ∙ h.rows_size;
+          marks_size = length-set s.marks i 2 ∙ h.marks_size;
+          cols_below = h.cols_below;
           waiting = λ k m. kr k (λ e. omega arith) ∙ h.waiting k (omega arith);
           holding = λ k a b m.
               let d : k ≢ j = λ e. omega (arith, tr, ap (at q.rows) e) in
@@ -137,10 +137,10 @@ module _ (n : ℕ) (cost : ℕ → ℕ → ℤ) (one : 1 ≤ n) where
 
   pub claimed_none : Claimed n (unclaimed n cost)
   claimed_none = record {
-    cols-size = length-table {A = ℕ} n (λ i. 0);
-    rows-size = length-table n best;
-    marks-size = length-table {A = ℕ} n (λ i. 0);
-    cols-below = λ i h. omega (arith, get_d_table {A = ℕ} n (λ i. 0) 0 i h);
+    cols_size = length-table {A = ℕ} n (λ i. 0);
+    rows_size = length-table n best;
+    marks_size = length-table {A = ℕ} n (λ i. 0);
+    cols_below = λ i h. omega (arith, get_d_table {A = ℕ} n (λ i. 0) 0 i h);
     waiting = λ k h. get_d_table n best 0 k h;
     holding = λ k a b m. absurd (omega arith);
     marked-held = λ i h m. absurd (omega (arith, get_d_table {A = ℕ} n (λ i. 0) 0 i h));

@@ -18,7 +18,7 @@ use Rattle.lists.specs.Runs.{Turn, left, and_then, upward, until}
 use Rattle.lists.specs.Permutations.{at, table, exchange}
 use Rattle.lists.proofs.Runs.{upward_none, upward-last, upward_keeps, upward_stays, until-first}
 use Rattle.lists.proofs.Tables.{length-table, get_d_table}
-use Rattle.lists.proofs.Permutations.{length-exchange, exchange-second, exchange_other}
+use Rattle.lists.proofs.Permutations.{length-exchange, exchange_second, exchange_other}
 use Rattle.lists.proofs.Cases.{cond_cases, below_suc, lt_or_le}
 use Rattle.assignment.specs.Pairings.{signed_at}
 use Rattle.rules.specs.declared.LastFree.{LastFree}
@@ -51,7 +51,7 @@ module _ (n : ℕ) (d : List ℤ) where
   rising_joined k p b R l g e same were =
       let xs = b.list in
       let ys = exchange xs k p in
-      let here : at ys p ≡ k = exchange-second xs k p (omega (arith, R.size, R.order)) ∙ R.ahead k (omega arith) l in
+      let here : at ys p ≡ k = exchange_second xs k p (omega (arith, R.size, R.order)) ∙ R.ahead k (omega arith) l in
       let other : (t : ℕ) → t ≢ k → t ≢ p → at ys t ≡ at xs t = exchange_other xs k p in
       let front : (t : ℕ) → t < p → at ys t ≡ at xs t = λ t m. other t (λ z. omega (arith, R.order)) (λ z. omega arith) in
       record {
@@ -161,8 +161,8 @@ module _ (n : ℕ) (cost : ℕ → ℕ → ℤ) (v : ℕ → ℤ) (row : ℕ →
     place = R.listed j H.below minimum_is
 
     -- No column of the block after column j is free.
-    rest-taken : (t : ℕ) → place.0 < t → t < b.hi → row (at b.list t) < n
-    rest-taken t a m = elim (lt_or_le (row k) n) [
+    rest_taken : (t : ℕ) → place.0 < t → t < b.hi → row (at b.list t) < n
+    rest_taken t a m = elim (lt_or_le (row k) n) [
       | inl l ↦ l
       | inr l ↦ absurd (omega (zarith, H.last k later lk l, far k lk, far j H.below, R.level t m, minimum_is))
     ]
@@ -185,7 +185,7 @@ module _ (n : ℕ) (cost : ℕ → ℕ → ℤ) (v : ℕ → ℤ) (row : ℕ →
         upward-last 0 t f NoneYet (omega arith)
         ∙ ap (λ (y : ℕ). cond (ltb (row y) n) (upward 0 t f NoneYet) (At y)) place.2 ∙ rw (le-ltb (row j) n H.free) in
         sym (upward_stays 0 (suc t) b.hi f NoneYet (At j) (omega arith) (omega (arith, place.1)) (sym e)
-        (λ k a m. rw (lt-ltb (row (at b.list k)) n (rest-taken k (omega arith) m))))
+        (λ k a m. rw (lt-ltb (row (at b.list k)) n (rest_taken k (omega arith) m))))
 
     -- THE SEARCH ends in its first block, at column j.
     pub search_hits : search n cost v row s ≡ found 0 (record { lo = 0; hi = b.hi }) j (fresh_block n 0 w)
@@ -199,16 +199,16 @@ module _ (n : ℕ) (cost : ℕ → ℕ → ℤ) (v : ℕ → ℤ) (row : ℕ →
 -- ---- the row
 
 -- The one flip: the row of a predecessor list that is s everywhere takes the open column.
-flips-once : (n s j : ℕ) (p : Pairs) → j < n → flips n s (table n (λ k. s)) (record { column = j; pairs = p }) ≡ left (take_column p s j)
+flips_once : (n s j : ℕ) (p : Pairs) → j < n → flips n s (table n (λ k. s)) (record { column = j; pairs = p }) ≡ left (take_column p s j)
 unfolding flips
-flips-once n s j p l =
+flips_once n s j p l =
     until-first 0 n (λ k. flip s (table n (λ k. s))) (record { column = j; pairs = p }) (omega arith)
     ∙ rw (get_d_table n (λ k. s) 0 j l, eq-eqb s s refl)
 
 -- Where no column is ready the prices stay.
-prices-kept : (f : Found) (v : List ℤ) → f.ready ≡ 0 → new_prices f v ≡ v
+prices_kept : (f : Found) (v : List ℤ) → f.ready ≡ 0 → new_prices f v ≡ v
 unfolding new_prices
-prices-kept f v e =
+prices_kept f v e =
     let w = f.work in
     upward_none 0 f.ready (λ k. add_distance w.distances (signed_at w.distances (at w.list f.cursor.lo)) (at w.list k)) v (omega arith)
 
@@ -223,4 +223,4 @@ module _ (n : ℕ) (cost : ℕ → ℕ → ℤ) (x : Progress) (s j : ℕ) (H : 
   pub augment_hits : augment n cost x s ≡ record { pairs = take_column x.pairs s j; prices = x.prices; scanned = x.scanned }
   augment_hits =
       ap (augment_by n x s) (search_hits n cost (signed_at x.prices) (at x.pairs.rows) s j H)
-      ∙ rw (flips-once n s j x.pairs H.below, prices-kept f x.prices refl, add-zero x.scanned)
+      ∙ rw (flips_once n s j x.pairs H.below, prices_kept f x.prices refl, add-zero x.scanned)

@@ -22,7 +22,7 @@ module _ (n s : ℕ) (ls : s < n) (predecessors : List ℕ) (p₀ : Pairs) (Tree
   -- The predecessor of column j is the row of column k, which comes before it.
   pub record Before (j k : ℕ) : Type 0 where
     pub in_tree : Tree k
-    pub column-below : k < n
+    pub column_below : k < n
     pub ranked : rank k < rank j
     pub row_below : at p₀.rows k < n
     pub leads : at predecessors j ≡ at p₀.rows k
@@ -37,11 +37,11 @@ module _ (n s : ℕ) (ls : s < n) (predecessors : List ℕ) (p₀ : Pairs) (Tree
 
   -- The pairs while column j stands open.
   pub record Holed (p : Pairs) (j : ℕ) : Type 0 where
-    pub cols-size : length p.cols ≡ n
-    pub rows-size : length p.rows ≡ n
+    pub cols_size : length p.cols ≡ n
+    pub rows_size : length p.rows ≡ n
     pub open_below : j < n
     pub open_in_tree : Tree j
-    pub cols-below : (i : ℕ) → i < n → at p.cols i < n
+    pub cols_below : (i : ℕ) → i < n → at p.cols i < n
     pub named_back : (k : ℕ) → k < n → k ≢ j → at p.rows k < n → at p.cols (at p.rows k) ≡ k
     pub still_paired : (i : ℕ) → i < n → Paired p₀ i → (at p.cols i ≢ j) × Paired p i
     pub start_unpaired : (k : ℕ) → k < n → k ≢ j → at p.rows k ≢ s
@@ -57,16 +57,16 @@ module _ (n s : ℕ) (ls : s < n) (predecessors : List ℕ) (p₀ : Pairs) (Tree
 
   last-flip : (p : Pairs) (j : ℕ) → Holed p j → at predecessors j ≡ s → Whole (take_column p s j)
   last-flip p j H e =
-      let tc = took_col n p H.cols-size H.rows-size s j ls H.open_below in
-      let kc = kept_col n p H.cols-size H.rows-size s j ls H.open_below in
-      let tr = took_row n p H.cols-size H.rows-size s j ls H.open_below in
-      let kr = kept_row n p H.cols-size H.rows-size s j ls H.open_below in
+      let tc = took_col n p H.cols_size H.rows_size s j ls H.open_below in
+      let kc = kept_col n p H.cols_size H.rows_size s j ls H.open_below in
+      let tr = took_row n p H.cols_size H.rows_size s j ls H.open_below in
+      let kr = kept_row n p H.cols_size H.rows_size s j ls H.open_below in
       let q = take_column p s j in
       record {
         agree = record {
-          cols-size = length-set p.cols s j ∙ H.cols-size;
-          rows-size = length-set p.rows j s ∙ H.rows-size;
-          cols-below = taken-below n p H.cols-size H.rows-size s j ls H.open_below H.cols-below;
+          cols_size = length-set p.cols s j ∙ H.cols_size;
+          rows_size = length-set p.rows j s ∙ H.rows_size;
+          cols_below = taken-below n p H.cols_size H.rows_size s j ls H.open_below H.cols_below;
           named_back = here_or_elsewhere (λ k. k < n → at q.rows k < n → at q.cols (at q.rows k) ≡ k) j
               (λ l h. ap (at q.cols) tr ∙ tc)
               (λ k d l h. ap (at q.cols) (kr k d) ∙ kc (at p.rows k) (H.start_unpaired k l d) ∙ H.named_back k l d (omega (arith, kr k d)));
@@ -85,21 +85,21 @@ module _ (n s : ℕ) (ls : s < n) (predecessors : List ℕ) (p₀ : Pairs) (Tree
   next_flip p j H ds k₀ b =
       let i = at predecessors j in
       let li : i < n = omega (arith, b.leads, b.row_below) in
-      let ri : at p.rows k₀ ≡ i = H.untouched k₀ b.column-below b.in_tree b.ranked ∙ sym b.leads in
+      let ri : at p.rows k₀ ≡ i = H.untouched k₀ b.column_below b.in_tree b.ranked ∙ sym b.leads in
       let dk : k₀ ≢ j = λ e. omega (arith, b.ranked, ap rank e) in
-      let ci : at p.cols i ≡ k₀ = ap (at p.cols) (sym ri) ∙ H.named_back k₀ b.column-below dk (omega arith) in
-      let tc = took_col n p H.cols-size H.rows-size i j li H.open_below in
-      let kc = kept_col n p H.cols-size H.rows-size i j li H.open_below in
-      let tr = took_row n p H.cols-size H.rows-size i j li H.open_below in
-      let kr = kept_row n p H.cols-size H.rows-size i j li H.open_below in
+      let ci : at p.cols i ≡ k₀ = ap (at p.cols) (sym ri) ∙ H.named_back k₀ b.column_below dk (omega arith) in
+      let tc = took_col n p H.cols_size H.rows_size i j li H.open_below in
+      let kc = kept_col n p H.cols_size H.rows_size i j li H.open_below in
+      let tr = took_row n p H.cols_size H.rows_size i j li H.open_below in
+      let kr = kept_row n p H.cols_size H.rows_size i j li H.open_below in
       let q = take_column p i j in (
         ci,
         record {
-          cols-size = length-set p.cols i j ∙ H.cols-size;
-          rows-size = length-set p.rows j i ∙ H.rows-size;
-          open_below = b.column-below;
+          cols_size = length-set p.cols i j ∙ H.cols_size;
+          rows_size = length-set p.rows j i ∙ H.rows_size;
+          open_below = b.column_below;
           open_in_tree = b.in_tree;
-          cols-below = taken-below n p H.cols-size H.rows-size i j li H.open_below H.cols-below;
+          cols_below = taken-below n p H.cols_size H.rows_size i j li H.open_below H.cols_below;
           named_back = here_or_elsewhere (λ k. k < n → k ≢ k₀ → at q.rows k < n → at q.cols (at q.rows k) ≡ k) j
               (λ l d h. ap (at q.cols) tr ∙ tc)
               (λ k c l d h. let b' = H.named_back k l c (omega (arith, kr k c)) in
@@ -158,25 +158,25 @@ module _ (n s : ℕ) (ls : s < n) (predecessors : List ℕ) (p₀ : Pairs) (Tree
           by (on x) (goes_on X) = absurd (omega (arith, X.rank_falls))
           by (left p) (is_left_lem W) = (p, refl, W)
 
-      pub flips-left : flips n s predecessors o ≡ left (flipped (flips n s predecessors o))
-      flips-left = let r = ended in r.1 ∙ ap (λ (t : Turn Open Pairs). left (flipped t)) (sym r.1)
+      pub flips_left : flips n s predecessors o ≡ left (flipped (flips n s predecessors o))
+      flips_left = let r = ended in r.1 ∙ ap (λ (t : Turn Open Pairs). left (flipped t)) (sym r.1)
 
       pub flips-whole : Whole (flipped (flips n s predecessors o))
       flips-whole = let r = ended in subst (λ (t : Turn Open Pairs). Whole (flipped t)) (sym r.1) r.2
 
       -- With more flips allowed the pairs are the same.
-      pub flips-enough : (m : ℕ) → n ≤ m → flips m s predecessors o ≡ left (flipped (flips n s predecessors o))
+      pub flips_enough : (m : ℕ) → n ≤ m → flips m s predecessors o ≡ left (flipped (flips n s predecessors o))
       unfolding flips
-      flips-enough m h = until-longer 0 n (λ k. flip s predecessors) o (flipped (flips n s predecessors o)) (omega arith) flips-left m h
+      flips_enough m h = until-longer 0 n (λ k. flip s predecessors) o (flipped (flips n s predecessors o)) (omega arith) flips_left m h
 
   -- A free column stands open.
   pub free_open : Agree n p₀ → Unpaired n p₀ s → (j : ℕ) → j < n → Tree j → n ≤ at p₀.rows j → Holed p₀ j
   free_open A alone j l t f = record {
-    cols-size = A.cols-size;
-    rows-size = A.rows-size;
+    cols_size = A.cols_size;
+    rows_size = A.rows_size;
     open_below = l;
     open_in_tree = t;
-    cols-below = A.cols-below;
+    cols_below = A.cols_below;
     named_back = λ k m d h. A.named_back k m h;
     still_paired = λ i m e. (λ z. omega (arith, sym e ∙ ap (at p₀.rows) z), e);
     start_unpaired = λ k m d. alone k m;

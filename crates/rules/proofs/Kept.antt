@@ -31,7 +31,7 @@ pub record Listed (n : ℕ) (p : Pairs) (frees : List ℕ) (In : ℕ → Type 0)
 module _ (n : ℕ) (cost : ℕ → ℕ → ℤ) (K : ℕ) (costs : (i j : ℕ) → Within K (cost i j)) (first : ℕ → ℤ) where
   pub record Kept (p : Pairs) (v : List ℤ) : Type 0 where
     pub agree : Agree n p
-    pub prices-size : length v ≡ n
+    pub prices_size : length v ≡ n
     pub fair : Fair n cost (signed_at v) (at p.rows)
     pub free_untouched : (k : ℕ) → k < n → n ≤ at p.rows k → signed_at v k ≡ first k
     pub not_risen : (k : ℕ) → k < n → signed_at v k ≤ℤ first k
@@ -45,7 +45,7 @@ module _ (n : ℕ) (cost : ℕ → ℕ → ℤ) (K : ℕ) (costs : (i j : ℕ) �
 
     -- No sum on the way leaves 64 bits. Past the end of the list the price is 0.
     pub within_five : ((k : ℕ) → Within K (first k)) → (k : ℕ) → Within (5 * K) (signed_at v k)
-    within_five w = within_everywhere (5 * K) v (λ k b. let l : k < n = omega (arith, h.prices-size) in
+    within_five w = within_everywhere (5 * K) v (λ k b. let l : k < n = omega (arith, h.prices_size) in
         record { low = (bounds_low n cost K costs (signed_at v) h.bounds k l).low; high = omega (zlin, h.not_risen k l, (w k).high) })
 
     -- Where a column is at -K or more, all are at -3K or more.
@@ -54,14 +54,14 @@ module _ (n : ℕ) (cost : ℕ → ℕ → ℤ) (K : ℕ) (costs : (i j : ℕ) �
 
     module _ (j : ℕ) (q : ℤ) (lj : j < n) where
       put : Put n cost (signed_at v) (signed_at (set v j q)) j q
-      put = record { here = get_or-set_same v j q (pos 0) (omega (arith, h.prices-size)); elsewhere = λ k d. get_or-set_other v j k q (pos 0) d }
+      put = record { here = get_or-set_same v j q (pos 0) (omega (arith, h.prices_size)); elsewhere = λ k d. get_or-set_other v j k q (pos 0) d }
 
       -- Row i has column j, at price q from then on; before, some column f is at -K or more.
       pub step : (f : ℕ) → f < n → NotBelow K (signed_at v f) → (i : ℕ) → Lowers n cost (signed_at v) i j q → (p' : Pairs) → Agree n p'
           → at p'.rows j ≡ i → i < n → ((k : ℕ) → k ≢ j → at p'.rows k ≡ at p.rows k) → Kept p' (set v j q)
       step f lf g i w p' A e li keep = record {
         agree = A;
-        prices-size = length-set v j q ∙ h.prices-size;
+        prices_size = length-set v j q ∙ h.prices_size;
         fair = lowers_fair n cost (signed_at v) (signed_at (set v j q)) i j q w put (at p.rows) (at p'.rows) e keep h.fair;
         free_untouched = λ k l m.
             let d : k ≢ j = λ z. omega (arith, ap (at p'.rows) z) in

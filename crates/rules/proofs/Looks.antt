@@ -46,12 +46,12 @@ module _ (n : ℕ) (cost : ℕ → ℕ → ℤ) (one : 1 ≤ n) (v : List ℤ) (
         let j = a.place in
         let x = signed_at v j in
         record {
-          column-below = r.first-inside;
+          column_below = r.first_inside;
           not_raised = omega (zlin, r.order, dif b.value a.value);
           at-minimum = λ k l d. omega (zlin, r.no_lower_but k l d, r.first_is, dif b.value a.value, dif x (b.value -ℤ a.value));
           source = inr (
             b.place,
-            r.second-inside,
+            r.second_inside,
             (λ e. r.apart (sym e)),
             omega (zlin, r.second_is, r.first_is, dif b.value a.value, dif x (b.value -ℤ a.value)),
           );
@@ -59,39 +59,39 @@ module _ (n : ℕ) (cost : ℕ → ℕ → ℤ) (one : 1 ≤ n) (v : List ℤ) (
 
     lowest-kept : Lowers n cost (signed_at v) i a.place (signed_at v a.place)
     lowest-kept = record {
-      column-below = r.first-inside;
+      column_below = r.first_inside;
       not_raised = ≤ℤ_refl (signed_at v a.place);
       at-minimum = λ k l d. omega (zlin, r.no_lower k l, r.first_is);
       source = inl refl;
     }
 
-    second-kept : lt_z a.value b.value ≡ false → Lowers n cost (signed_at v) i b.place (signed_at v b.place)
-    second-kept t = record {
-      column-below = r.second-inside;
+    second_kept : lt_z a.value b.value ≡ false → Lowers n cost (signed_at v) i b.place (signed_at v b.place)
+    second_kept t = record {
+      column_below = r.second_inside;
       not_raised = ≤ℤ_refl (signed_at v b.place);
       at-minimum = λ k l d. omega (zlin, r.no_lower k l, r.second_is);
       source = inl refl;
     }
 
-  pub choose-fits : (early : Bool) (t : TwoLowest) → RightTwo (reduced cost (signed_at v) i) n t → Fits early (choose n early v rows t)
-  choose-fits early (One a) r =
+  pub choose_fits : (early : Bool) (t : TwoLowest) → RightTwo (reduced cost (signed_at v) i) n t → Fits early (choose n early v rows t)
+  choose_fits early (One a) r =
       let z : a.place ≡ 0 = ap (λ (x : Low). x.place) r.1 in
       record {
         lowers = record {
-          column-below = omega arith;
+          column_below = omega arith;
           not_raised = ≤ℤ_refl (signed_at v a.place);
           at-minimum = λ k l d. absurd (d (omega (arith, r.0)));
           source = inl refl;
         };
         back_early = not_back;
       }
-  choose-fits early (Two a b) r =
+  choose_fits early (Two a b) r =
       let j = cond (ltb (at rows a.place) n) b.place a.place in
       cond_cases early (Fits early) (cond (lt_z a.value b.value) (lower_price v a.place a.value b.value) (keep_price v j)) (keep_price v a.place)
       (λ e. cond_cases (lt_z a.value b.value) (Fits early) (lower_price v a.place a.value b.value) (keep_price v j)
       (λ t. record { lowers = lowered a b r; back_early = λ z. e })
       (λ t. cond_cases (ltb (at rows a.place) n) (λ k. Fits early (keep_price v k)) b.place a.place
-      (λ u. record { lowers = second-kept a b r t; back_early = not_back })
+      (λ u. record { lowers = second_kept a b r t; back_early = not_back })
       (λ u. record { lowers = lowest-kept a b r; back_early = not_back })))
       (λ e. record { lowers = lowest-kept a b r; back_early = not_back })
 
@@ -108,16 +108,16 @@ module _ (n : ℕ) (p : Pairs) (A : Agree n p) (frees : List ℕ) (In : ℕ → 
   li = L.row_below s is
 
   kc : (x : ℕ) → x ≢ i → at q.cols x ≡ at p.cols x
-  kc = kept_col n p A.cols-size A.rows-size i j li lj
+  kc = kept_col n p A.cols_size A.rows_size i j li lj
 
   tr : at q.rows j ≡ i
-  tr = took_row n p A.cols-size A.rows-size i j li lj
+  tr = took_row n p A.cols_size A.rows_size i j li lj
 
   kr : (k : ℕ) → k ≢ j → at q.rows k ≡ at p.rows k
-  kr = kept_row n p A.cols-size A.rows-size i j li lj
+  kr = kept_row n p A.cols_size A.rows_size i j li lj
 
   taker : Paired q i
-  taker = taken-paired n p A.cols-size A.rows-size i j li lj
+  taker = taken-paired n p A.cols_size A.rows_size i j li lj
 
   -- A row that had a column has it still, or had j.
   others : (x : ℕ) → x ≢ i → Paired p x → Paired q x ⊎ (x ≡ at p.rows j)

@@ -16,7 +16,7 @@ use Rattle.rules.proofs.Prices.{NotBelow}
 module _ (n : ℕ) (cost : ℕ → ℕ → ℤ) where
   -- At price p row i sits at its minimum on column j; p is the old price, or makes j as dear as another column.
   pub record Lowers (v : ℕ → ℤ) (i j : ℕ) (p : ℤ) : Type 0 where
-    pub column-below : j < n
+    pub column_below : j < n
     pub not_raised : p ≤ℤ v j
     pub at-minimum : (k : ℕ) → k < n → k ≢ j → (cost i j -ℤ p) ≤ℤ reduced cost v i k
     pub source : (p ≡ v j) ⊎ ((k : ℕ) × (k < n) × (k ≢ j) × (cost i j -ℤ p ≡ reduced cost v i k))
@@ -31,8 +31,8 @@ module _ (n : ℕ) (cost : ℕ → ℕ → ℤ) where
     never_rises =
         here_or_elsewhere (λ k. v' k ≤ℤ v k) j (omega (zlin, q.here, w.not_raised)) (λ k d. omega (zlin, q.elsewhere k d))
 
-    lowered-minimum : AtMinimum n cost v' i j
-    lowered-minimum = record {
+    lowered_minimum : AtMinimum n cost v' i j
+    lowered_minimum = record {
       no_less = here_or_elsewhere (λ k. k < n → reduced cost v' i j ≤ℤ reduced cost v' i k) j (λ l. omega zlin)
           (λ k d l. omega (zlin, w.at-minimum k l d, q.here, q.elsewhere k d));
     }
@@ -41,7 +41,7 @@ module _ (n : ℕ) (cost : ℕ → ℕ → ℤ) where
     pub lowers_fair : (row row' : ℕ → ℕ) → row' j ≡ i → ((k : ℕ) → k ≢ j → row' k ≡ row k) → Fair n cost v row → Fair n cost v' row'
     lowers_fair row row' e keep F = record {
       paired_at_minimum = here_or_elsewhere (λ k. k < n → row' k < n → AtMinimum n cost v' (row' k) k) j
-          (λ l h. subst (λ (x : ℕ). AtMinimum n cost v' x j) (sym e) lowered-minimum)
+          (λ l h. subst (λ (x : ℕ). AtMinimum n cost v' x j) (sym e) lowered_minimum)
           (λ k d l h. subst (λ (x : ℕ). AtMinimum n cost v' x k) (sym (keep k d)) (still k d l (omega (arith, keep k d))));
     }
       where
@@ -57,21 +57,21 @@ module _ (n : ℕ) (cost : ℕ → ℕ → ℤ) where
     pub record Bounds (v : ℕ → ℤ) : Type 0 where
       pub one : ℕ
       pub one_low : NotBelow (5 * K) (v one)
-      pub others-low : (k : ℕ) → k < n → k ≢ one → NotBelow (3 * K) (v k)
+      pub others_low : (k : ℕ) → k < n → k ≢ one → NotBelow (3 * K) (v k)
 
     -- One step from prices at -3K or more.
     pub lowers_bounds : (v v' : ℕ → ℤ) (i j : ℕ) (p : ℤ) → ((k : ℕ) → k < n → NotBelow (3 * K) (v k)) → Lowers v i j p → Put v v' j p → Bounds v'
     lowers_bounds v v' i j p all w q = record {
       one = j;
       one_low = record {
-        low = ⊎_elim (λ e. omega (zlin, q.here, (all j w.column-below).low))
+        low = ⊎_elim (λ e. omega (zlin, q.here, (all j w.column_below).low))
             (λ (s : (k : ℕ) × (k < n) × (k ≢ j) × (cost i j -ℤ p ≡ reduced cost v i k)).
             let k = s.0 in omega (zlin, q.here, s.3, (all k s.1).low, costs i j, costs i k)) w.source;
       };
-      others-low = λ k l d. record { low = omega (zlin, q.elsewhere k d, (all k l).low) };
+      others_low = λ k l d. record { low = omega (zlin, q.elsewhere k d, (all k l).low) };
     }
 
     pub bounds_low : (v : ℕ → ℤ) → Bounds v → (k : ℕ) → k < n → NotBelow (5 * K) (v k)
     bounds_low v b =
         here_or_elsewhere (λ k. k < n → NotBelow (5 * K) (v k)) b.one (λ l. b.one_low)
-        (λ k d l. record { low = omega (arith, (b.others-low k l d).low) })
+        (λ k d l. record { low = omega (arith, (b.others_low k l d).low) })

@@ -96,9 +96,9 @@ least_but_is n f j =
 
 -- a is the lowest value below k, and b the lowest at the other places.
 pub record AreLowest (f : ℕ → ℤ) (k : ℕ) (a b : Low) : Type 0 where
-  pub first-inside : a.place < k
+  pub first_inside : a.place < k
   pub first_is : a.value ≡ f a.place
-  pub second-inside : b.place < k
+  pub second_inside : b.place < k
   pub second_is : b.value ≡ f b.place
   pub apart : a.place ≢ b.place
   pub order : a.value ≤ℤ b.value
@@ -113,9 +113,9 @@ RightTwo f k (Two a b) = AreLowest f k a b
 module _ (f : ℕ → ℤ) (k : ℕ) (a : Low) (r : IsLowest f k a) where
   as_second : le_z a.value (f k) ≡ true → ((j : ℕ) → j < k → j ≢ a.place → f k ≤ℤ f j) → AreLowest f (suc k) a (low (f k) k)
   as_second t o = record {
-    first-inside = omega (arith, r.inside);
+    first_inside = omega (arith, r.inside);
     first_is = r.value_is;
-    second-inside = omega arith;
+    second_inside = omega arith;
     second_is = refl;
     apart = λ e. omega (arith, r.inside);
     order = omega zlin;
@@ -125,9 +125,9 @@ module _ (f : ℕ → ℤ) (k : ℕ) (a : Low) (r : IsLowest f k a) where
 
   as_lowest : le_z a.value (f k) ≡ false → AreLowest f (suc k) (low (f k) k) a
   as_lowest t = record {
-    first-inside = omega arith;
+    first_inside = omega arith;
     first_is = refl;
-    second-inside = omega (arith, r.inside);
+    second_inside = omega (arith, r.inside);
     second_is = r.value_is;
     apart = λ e. omega (arith, r.inside);
     order = omega zlin;
@@ -141,9 +141,9 @@ module _ (f : ℕ → ℤ) (k : ℕ) (a : Low) (r : IsLowest f k a) where
 
 still_two : (f : ℕ → ℤ) (k : ℕ) (a b : Low) → AreLowest f k a b → lt_z (f k) b.value ≡ false → AreLowest f (suc k) a b
 still_two f k a b r t = record {
-  first-inside = omega (arith, r.first-inside);
+  first_inside = omega (arith, r.first_inside);
   first_is = r.first_is;
-  second-inside = omega (arith, r.second-inside);
+  second_inside = omega (arith, r.second_inside);
   second_is = r.second_is;
   apart = r.apart;
   order = r.order;
@@ -162,7 +162,7 @@ two_step_right f k (One a) r =
     (λ j l d. absurd (d (let z : a.place ≡ 0 = ap (λ (x : Low). x.place) r.1 in omega (arith, r.0))))
 two_step_right f k (Two a b) r =
     cond_cases (lt_z (f k) b.value) (RightTwo f (suc k)) (beside a (low (f k) k)) (Two a b)
-    (λ t. beside_right f k a (record { inside = r.first-inside; value_is = r.first_is; no_lower = r.no_lower }) (λ j l d. omega (zlin, r.no_lower_but j l d)))
+    (λ t. beside_right f k a (record { inside = r.first_inside; value_is = r.first_is; no_lower = r.no_lower }) (λ j l d. omega (zlin, r.no_lower_but j l d)))
     (λ t. still_two f k a b r t)
 
 pub two_lowest_is : (n : ℕ) (f : ℕ → ℤ) → 1 ≤ n → RightTwo f n (two_lowest n f)

@@ -15,7 +15,7 @@ use Rattle.rules.specs.Asked.{Paired, Unpaired, Agree}
 
 -- ---- row i takes column j
 
-module _ (n : ℕ) (p : Pairs) (cols-size : length p.cols ≡ n) (rows-size : length p.rows ≡ n) (i j : ℕ) (li : i < n) (lj : j < n) where
+module _ (n : ℕ) (p : Pairs) (cols_size : length p.cols ≡ n) (rows_size : length p.rows ≡ n) (i j : ℕ) (li : i < n) (lj : j < n) where
   pub took_col : at (take_column p i j).cols i ≡ j
   took_col = get_or-set_same p.cols i j 0 (omega arith)
 
@@ -37,17 +37,17 @@ module _ (n : ℕ) (p : Pairs) (cols-size : length p.cols ≡ n) (rows-size : le
       (λ x d l. omega (arith, kept_col x d, h x l))
 
 -- A row that had no column takes one: the pairs agree.
-pub take-agree : (n : ℕ) (p : Pairs) → Agree n p → (i j : ℕ) → i < n → j < n → Unpaired n p i → Agree n (take_column p i j)
-take-agree n p A i j li lj alone =
+pub take_agree : (n : ℕ) (p : Pairs) → Agree n p → (i j : ℕ) → i < n → j < n → Unpaired n p i → Agree n (take_column p i j)
+take_agree n p A i j li lj alone =
     let q = take_column p i j in
-    let tc = took_col n p A.cols-size A.rows-size i j li lj in
-    let kc = kept_col n p A.cols-size A.rows-size i j li lj in
-    let tr = took_row n p A.cols-size A.rows-size i j li lj in
-    let kr = kept_row n p A.cols-size A.rows-size i j li lj in
+    let tc = took_col n p A.cols_size A.rows_size i j li lj in
+    let kc = kept_col n p A.cols_size A.rows_size i j li lj in
+    let tr = took_row n p A.cols_size A.rows_size i j li lj in
+    let kr = kept_row n p A.cols_size A.rows_size i j li lj in
     record {
-      cols-size = length-set p.cols i j ∙ A.cols-size;
-      rows-size = length-set p.rows j i ∙ A.rows-size;
-      cols-below = taken-below n p A.cols-size A.rows-size i j li lj A.cols-below;
+      cols_size = length-set p.cols i j ∙ A.cols_size;
+      rows_size = length-set p.rows j i ∙ A.rows_size;
+      cols_below = taken-below n p A.cols_size A.rows_size i j li lj A.cols_below;
       named_back = here_or_elsewhere (λ k. k < n → at q.rows k < n → at q.cols (at q.rows k) ≡ k) j
           (λ l h. ap (at q.cols) tr ∙ tc)
           (λ k d l h. ap (at q.cols) (kr k d) ∙ kc (at p.rows k) (alone k l) ∙ A.named_back k l (omega (arith, kr k d)));
@@ -63,8 +63,8 @@ all_or_one n (suc m) row = elim (lt_or_le (row m) n) [
 ]
 
 -- Were no column free, each of the n rows would have one of the n columns.
-pub free-column : (n : ℕ) (p : Pairs) → Agree n p → (s : ℕ) → s < n → Unpaired n p s → (y : ℕ) × (y < n) × (n ≤ at p.rows y)
-free-column n p A s l alone =
+pub free_column : (n : ℕ) (p : Pairs) → Agree n p → (s : ℕ) → s < n → Unpaired n p s → (y : ℕ) × (y < n) × (n ≤ at p.rows y)
+free_column n p A s l alone =
     ⊎_elim
     (λ f.
     let I : Injective n n (at p.rows) = record {

@@ -22,11 +22,11 @@ use Rattle.rules.specs.Lowest.{reduced, two_lowest}
 use Rattle.rules.specs.Columns.{Pairs}
 use Rattle.rules.specs.Rows.{take_column, Passing, choose, Placed, pass_at, displace, settle, is_early, look, looks}
 use Rattle.rules.proofs.Lowest.{two_lowest_is}
-use Rattle.rules.proofs.Pairs.{took_row, kept_row, take-agree, free-column}
+use Rattle.rules.proofs.Pairs.{took_row, kept_row, take_agree, free_column}
 use Rattle.rules.proofs.Lowering.{Lowers}
 use Rattle.rules.proofs.Kept.{Listed, Kept, step, free-low}
 use Rattle.rules.proofs.Claims.{first, first-low}
-use Rattle.rules.proofs.Looks.{choose-fits, listed_free, listed_displaced}
+use Rattle.rules.proofs.Looks.{choose_fits, listed_free, listed_displaced}
 
 -- ---- one turn: the state after m turns is `looks n cost F m x`
 
@@ -45,9 +45,9 @@ module _ (n : ℕ) (cost : ℕ → ℕ → ℤ) (F : ℕ) (x : Passing) where
       looks-last m ∙ ap (λ (t : Bool). cond t (look n cost y) y) (lt-ltb y.pass.current F h)
 
   -- Once all F rows are done, more turns change nothing.
-  pub looks-rest : (m : ℕ) → F ≤ (looks n cost F m x).pass.current → (d : ℕ) → looks n cost F (m + d) x ≡ looks n cost F m x
+  pub looks_rest : (m : ℕ) → F ≤ (looks n cost F m x).pass.current → (d : ℕ) → looks n cost F (m + d) x ≡ looks n cost F m x
   unfolding looks
-  looks-rest m h d =
+  looks_rest m h d =
       let y = looks n cost F m x in
       sym (upward_stays 0 m (m + d) (λ k z. cond (ltb z.pass.current F) (look n cost z) z) x y (omega arith) (omega arith) refl
       (λ k l q. ap (λ (t : Bool). cond t (look n cost y) y) (le-ltb y.pass.current F h)))
@@ -64,12 +64,12 @@ module _ (n : ℕ) (cost : ℕ → ℕ → ℤ) (one : 1 ≤ n) (K : ℕ) (costs
     -- After m turns.
     pub record Passed (m : ℕ) (x : Passing) : Type 0 where
       pub kept : Kept n cost K costs v₀ x.pairs x.prices
-      pub frees-size : length x.frees ≡ n
-      pub left-few : x.pass.left ≤ x.pass.current
+      pub frees_size : length x.frees ≡ n
+      pub left_few : x.pass.left ≤ x.pass.current
       pub current_few : x.pass.current ≤ F
       pub listed : Listed n x.pairs x.frees (In x.pass)
       pub looks-least : x.pass.current ≤ x.pass.looks
-      pub looks-most : x.pass.looks ≤ F * n
+      pub looks_most_lem : x.pass.looks ≤ F * n
       pub looks_now : x.pass.current < F → x.pass.looks < (x.pass.current + 1) * n
       pub each_looks : (x.pass.looks ≡ m) ⊎ (F ≤ x.pass.current)
 
@@ -83,7 +83,7 @@ module _ (n : ℕ) (cost : ℕ → ℕ → ℤ) (one : 1 ≤ n) (K : ℕ) (costs
       -- The list, and where the pass goes on.
       record Goes (p : Pairs) (q : Placed) : Type 0 where
         size : length q.frees ≡ n
-        left-few : q.pass.left ≤ q.pass.current
+        left_few : q.pass.left ≤ q.pass.current
         current_few : q.pass.current ≤ F
         listed : Listed n p q.frees (In q.pass)
         counted : q.pass.looks ≡ x.pass.looks + 1
@@ -103,12 +103,12 @@ module _ (n : ℕ) (cost : ℕ → ℕ → ℤ) (one : 1 ≤ n) (K : ℕ) (costs
 
         nobody : n ≤ h → Goes p' (record { frees = x.frees; pass = pass_at (x.pass.current + 1) x.pass.left (x.pass.looks + 1) })
         nobody f = record {
-          size = X.frees-size;
-          left-few = omega (arith, X.left-few);
+          size = X.frees_size;
+          left_few = omega (arith, X.left_few);
           current_few = omega arith;
           listed = listed_free n x.pairs X.kept.agree x.frees (In x.pass) X.listed x.pass.current is j lj f
               (In (pass_at (x.pass.current + 1) x.pass.left (x.pass.looks + 1)))
-              (λ t a. ⊎_elim (λ b. (inl b, λ e. omega (arith, X.left-few))) (λ b. (inr (omega (arith, b.0), b.1), λ e. omega (arith, b.0))) a)
+              (λ t a. ⊎_elim (λ b. (inl b, λ e. omega (arith, X.left_few))) (λ b. (inr (omega (arith, b.0), b.1), λ e. omega (arith, b.0))) a)
               (λ t a d. ⊎_elim (λ b. inl b) (λ b. inr (omega (arith, b.0), b.1)) a);
           counted = refl;
           by_one = omega arith;
@@ -118,11 +118,11 @@ module _ (n : ℕ) (cost : ℕ → ℕ → ℤ) (one : 1 ≤ n) (K : ℕ) (costs
         goes_back : h < n → x.pass.looks + 1 < (x.pass.current + 1) * n
             → Goes p' (record { frees = set x.frees x.pass.current h; pass = pass_at x.pass.current x.pass.left (x.pass.looks + 1) })
         goes_back f early = record {
-          size = length-set x.frees x.pass.current h ∙ X.frees-size;
-          left-few = X.left-few;
+          size = length-set x.frees x.pass.current h ∙ X.frees_size;
+          left_few = X.left_few;
           current_few = X.current_few;
           listed = listed_displaced n x.pairs X.kept.agree x.frees (In x.pass) X.listed x.pass.current is j lj f
-              x.pass.current (omega (arith, X.frees-size)) (In (pass_at x.pass.current x.pass.left (x.pass.looks + 1))) is
+              x.pass.current (omega (arith, X.frees_size)) (In (pass_at x.pass.current x.pass.left (x.pass.looks + 1))) is
               (λ t a d. (a, d)) (λ t a d. (a, d));
           counted = refl;
           by_one = omega arith;
@@ -131,13 +131,13 @@ module _ (n : ℕ) (cost : ℕ → ℕ → ℤ) (one : 1 ≤ n) (K : ℕ) (costs
 
         goes_on : h < n → Goes p' (record { frees = set x.frees x.pass.left h; pass = pass_at (x.pass.current + 1) (x.pass.left + 1) (x.pass.looks + 1) })
         goes_on f = record {
-          size = length-set x.frees x.pass.left h ∙ X.frees-size;
-          left-few = omega (arith, X.left-few);
+          size = length-set x.frees x.pass.left h ∙ X.frees_size;
+          left_few = omega (arith, X.left_few);
           current_few = omega arith;
           listed = listed_displaced n x.pairs X.kept.agree x.frees (In x.pass) X.listed x.pass.current is j lj f
-              x.pass.left (omega (arith, X.left-few, X.frees-size)) (In (pass_at (x.pass.current + 1) (x.pass.left + 1) (x.pass.looks + 1))) (inl (omega arith))
-              (λ t a d. ⊎_elim (λ b. (inl (omega arith), λ e. omega (arith, X.left-few))) (λ b. (inr (omega (arith, b.0), b.1), λ e. omega (arith, b.0))) a)
-              (λ t a d. ⊎_elim (λ b. (inl (omega arith), λ e. omega arith)) (λ b. (inr (omega (arith, b.0), b.1), λ e. omega (arith, b.0, X.left-few))) a);
+              x.pass.left (omega (arith, X.left_few, X.frees_size)) (In (pass_at (x.pass.current + 1) (x.pass.left + 1) (x.pass.looks + 1))) (inl (omega arith))
+              (λ t a d. ⊎_elim (λ b. (inl (omega arith), λ e. omega (arith, X.left_few))) (λ b. (inr (omega (arith, b.0), b.1), λ e. omega (arith, b.0))) a)
+              (λ t a d. ⊎_elim (λ b. (inl (omega arith), λ e. omega arith)) (λ b. (inr (omega (arith, b.0), b.1), λ e. omega (arith, b.0, X.left_few))) a);
           counted = refl;
           by_one = omega arith;
           looks_now = λ g. next_looks;
@@ -151,35 +151,35 @@ module _ (n : ℕ) (cost : ℕ → ℕ → ℤ) (one : 1 ≤ n) (K : ℕ) (costs
             (λ t. cond_cases back (Goes p') a b (λ u. goes_back (ltb-true h n t) (early u)) (λ u. goes_on (ltb-true h n t)))
             (λ t. nobody (ltb-false h n t))
 
-      settle-passed : (w : Choice) → Lowers n cost (signed_at x.prices) i w.column w.price
+      settle_passed : (w : Choice) → Lowers n cost (signed_at x.prices) i w.column w.price
           → (w.back ≡ true → x.pass.looks + 1 < (x.pass.current + 1) * n) → x.pass.looks ≡ m → Passed (suc m) (settle n x i w)
-      settle-passed w low early z =
+      settle_passed w low early z =
           let j = w.column in
-          let lj = low.column-below in
+          let lj = low.column_below in
           let A = X.kept.agree in
           let li : i < n = X.listed.row_below x.pass.current is in
           let alone = X.listed.unpaired x.pass.current is in
-          let y = free-column n x.pairs A i li alone in
+          let y = free_column n x.pairs A i li alone in
           let q = displace_goes j lj w.back early in
           record {
             kept = step n cost K costs v₀ (first-low n cost one K costs) x.pairs x.prices X.kept j w.price lj
                 y.0 y.1 (free-low n cost K costs v₀ (first-low n cost one K costs) x.pairs x.prices X.kept y.0 y.1 y.2)
-                i low (take_column x.pairs i j) (take-agree n x.pairs A i j li lj alone)
-                (took_row n x.pairs A.cols-size A.rows-size i j li lj) li
-                (kept_row n x.pairs A.cols-size A.rows-size i j li lj);
-            frees-size = q.size;
-            left-few = q.left-few;
+                i low (take_column x.pairs i j) (take_agree n x.pairs A i j li lj alone)
+                (took_row n x.pairs A.cols_size A.rows_size i j li lj) li
+                (kept_row n x.pairs A.cols_size A.rows_size i j li lj);
+            frees_size = q.size;
+            left_few = q.left_few;
             current_few = q.current_few;
             listed = q.listed;
             looks-least = omega (arith, q.by_one, q.counted, X.looks-least);
-            looks-most = omega (arith, q.counted, X.looks_now l, mul-le-mul_right n l, add-one x.pass.current);
+            looks_most_lem = omega (arith, q.counted, X.looks_now l, mul-le-mul_right n l, add-one x.pass.current);
             looks_now = q.looks_now;
             each_looks = inl (omega (arith, q.counted));
           }
 
-      pub look-passed : x.pass.looks ≡ m → Passed (suc m) (look n cost x)
-      look-passed z =
+      pub look_passed : x.pass.looks ≡ m → Passed (suc m) (look n cost x)
+      look_passed z =
           let f : ℕ → ℤ = reduced cost (signed_at x.prices) i in
-          let r = choose-fits n cost one x.prices x.pairs.rows i (is_early n x.pass) (two_lowest n f) (two_lowest_is n f one) in
-          settle-passed (choose n (is_early n x.pass) x.prices x.pairs.rows (two_lowest n f)) r.lowers
+          let r = choose_fits n cost one x.prices x.pairs.rows i (is_early n x.pass) (two_lowest n f) (two_lowest_is n f one) in
+          settle_passed (choose n (is_early n x.pass) x.prices x.pairs.rows (two_lowest n f)) r.lowers
           (λ b. ltb-true (x.pass.looks + 1) ((x.pass.current + 1) * n) (r.back_early b)) z

@@ -23,8 +23,8 @@ module _ (n : ℕ) (cost : ℕ → ℕ → ℤ) where
     v' = lowered v e μ
 
     -- What a lowered price makes of a reduced cost.
-    reduced-lowered : (i k : ℕ) → reduced cost v' i k +ℤ e k ≡ reduced cost v i k +ℤ μ
-    reduced-lowered i k =
+    reduced_lowered : (i k : ℕ) → reduced cost v' i k +ℤ e k ≡ reduced cost v i k +ℤ μ
+    reduced_lowered i k =
         omega (zarith, dif (cost i k) (v k), sum (reduced cost v i k) μ, dif (e k) μ, sum (v k) (e k -ℤ μ), dif (cost i k) (v' k), sum (reduced cost v' i k) (e k))
 
     pub still_fair : Settled v row s e μ → Fair n cost v' row
@@ -35,8 +35,8 @@ module _ (n : ℕ) (cost : ℕ → ℕ → ℤ) where
             omega (
               zarith,
               S.relaxed j k l m h,
-              reduced-lowered i j,
-              reduced-lowered i k,
+              reduced_lowered i j,
+              reduced_lowered i k,
               sum (reduced cost v' i j) (e j),
               sum (reduced cost v i j) μ,
               sum (reduced cost v' i k) (e k),
@@ -49,12 +49,12 @@ module _ (n : ℕ) (cost : ℕ → ℕ → ℤ) where
 
     -- μ is the start row's minimum.
     start_least : Settled v row s e μ → (k : ℕ) → k < n → μ ≤ℤ reduced cost v' s k
-    start_least S k l = omega (zarith, S.from_start k l, reduced-lowered s k, sum (reduced cost v' s k) (e k), sum (reduced cost v s k) μ)
+    start_least S k l = omega (zarith, S.from_start k l, reduced_lowered s k, sum (reduced cost v' s k) (e k), sum (reduced cost v s k) μ)
 
     -- A column that the start row reaches as near as it lies.
     pub start_minimum : Settled v row s e μ → (j : ℕ) → j < n → e j ≡ reduced cost v s j → AtMinimum n cost v' s j
     start_minimum S j l q = record {
-      no_less = λ k m. omega (zarith, start_least S k m, reduced-lowered s j, sum (reduced cost v' s j) (e j), sum (reduced cost v s j) μ);
+      no_less = λ k m. omega (zarith, start_least S k m, reduced_lowered s j, sum (reduced cost v' s j) (e j), sum (reduced cost v s j) μ);
     }
 
     -- A column that the row of column x reaches as near as it lies.
@@ -66,8 +66,8 @@ module _ (n : ℕ) (cost : ℕ → ℕ → ℤ) where
           omega (
             zarith,
             ((still_fair S).paired_at_minimum x lx h).no_less k m,
-            reduced-lowered i x,
-            reduced-lowered i j,
+            reduced_lowered i x,
+            reduced_lowered i j,
             sum (reduced cost v' i j) (e j),
             sum (reduced cost v i j) μ,
             sum (reduced cost v' i x) (e x),

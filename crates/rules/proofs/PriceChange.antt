@@ -34,9 +34,9 @@ lesser-first : (a b : ℤ) → a ≤ℤ b → lesser a b ≡ a
 unfolding lesser
 lesser-first a b h = cond_cases (le_z a b) (λ z. z ≡ a) a b (λ e. refl) (λ e. omega zarith)
 
-lesser-second : (a b : ℤ) → b ≤ℤ a → lesser a b ≡ b
+lesser_second : (a b : ℤ) → b ≤ℤ a → lesser a b ≡ b
 unfolding lesser
-lesser-second a b h = cond_cases (le_z a b) (λ z. z ≡ b) a b (λ e. omega zarith) (λ e. refl)
+lesser_second a b h = cond_cases (le_z a b) (λ z. z ≡ b) a b (λ e. omega zarith) (λ e. refl)
 
 lesser_both : (a b : ℤ) → (lesser a b ≤ℤ a) × (lesser a b ≤ℤ b)
 unfolding lesser
@@ -47,7 +47,7 @@ lesser_both a b = cond_cases (le_z a b) (λ z. (z ≤ℤ a) × (z ≤ℤ b)) a b
 module _ (n : ℕ) (d : List ℤ) (list : List ℕ) (P : Permutation n list) (μ : ℤ) (v : List ℤ) (size : length v ≡ n) where
   -- The first m columns of the list have had their distance less μ added.
   pub record Changed (m : ℕ) (x : List ℤ) : Type 0 where
-    pub prices-size : length x ≡ n
+    pub prices_size : length x ≡ n
     pub changed : (t : ℕ) → t < m → signed_at x (at list t) ≡ signed_at v (at list t) +ℤ (signed_at d (at list t) -ℤ μ)
     pub unchanged : (t : ℕ) → m ≤ t → t < n → signed_at x (at list t) ≡ signed_at v (at list t)
 
@@ -55,11 +55,11 @@ module _ (n : ℕ) (d : List ℤ) (list : List ℕ) (P : Permutation n list) (μ
   changed_more m x l C =
       let j = at list m in
       let y = signed_at x j +ℤ (signed_at d j -ℤ μ) in
-      let here : signed_at (add_distance d μ j x) j ≡ y = get_or-set_same x j y (pos 0) (omega (arith, C.prices-size, P.injective.below m l)) in
+      let here : signed_at (add_distance d μ j x) j ≡ y = get_or-set_same x j y (pos 0) (omega (arith, C.prices_size, P.injective.below m l)) in
       let there : (t : ℕ) → t < n → t ≢ m → signed_at (add_distance d μ j x) (at list t) ≡ signed_at x (at list t) =
       λ t k f. get_or-set_other x j (at list t) y (pos 0) (λ e. f (P.injective.once t m k l e)) in
       record {
-        prices-size = length-set x j y ∙ C.prices-size;
+        prices_size = length-set x j y ∙ C.prices_size;
         changed = below_suc (λ t. signed_at (add_distance d μ j x) (at list t) ≡ signed_at v (at list t) +ℤ (signed_at d (at list t) -ℤ μ))
             (λ t k. there t (omega arith) (λ e. omega arith) ∙ C.changed t k)
             (here ∙ ap (λ z. z +ℤ (signed_at d j -ℤ μ)) (C.unchanged m (omega arith) l));
@@ -67,10 +67,10 @@ module _ (n : ℕ) (d : List ℤ) (list : List ℕ) (P : Permutation n list) (μ
       }
 
   pub changed_start : Changed 0 v
-  changed_start = record { prices-size = size; changed = λ t k. absurd (omega arith); unchanged = λ t a k. refl }
+  changed_start = record { prices_size = size; changed = λ t k. absurd (omega arith); unchanged = λ t a k. refl }
 
-  changed-after : (m : ℕ) → m ≤ n → Changed m (upward 0 m (λ k. add_distance d μ (at list k)) v)
-  changed-after m h = upward_keeps Changed 0 m (λ k. add_distance d μ (at list k)) v (omega arith) changed_start (λ k x a l C. changed_more k x (omega arith) C)
+  changed_after : (m : ℕ) → m ≤ n → Changed m (upward 0 m (λ k. add_distance d μ (at list k)) v)
+  changed_after m h = upward_keeps Changed 0 m (λ k. add_distance d μ (at list k)) v (omega arith) changed_start (λ k x a l C. changed_more k x (omega arith) C)
 
 -- ---- after a search
 
@@ -90,12 +90,12 @@ module _ (n : ℕ) (cost : ℕ → ℕ → ℤ) (v : List ℤ) (row : ℕ → �
   where_is : (k : ℕ) → k < n → (t : ℕ) × (t < n) × (place w t ≡ k)
   where_is k l = reached E.sound.permutation.injective k l
 
-  changed-ready : Changed n w.distances w.list E.sound.permutation μ v size f.ready v'
+  changed_ready : Changed n w.distances w.list E.sound.permutation μ v size f.ready v'
   unfolding new_prices
-  changed-ready =
-      let z : signed_at w.distances (at w.list f.cursor.lo) ≡ μ = ap (λ (t : ℕ). far w (place w t)) E.cursor-kept ∙ E.is_minimum in
+  changed_ready =
+      let z : signed_at w.distances (at w.list f.cursor.lo) ≡ μ = ap (λ (t : ℕ). far w (place w t)) E.cursor_kept ∙ E.is_minimum in
       subst (λ (x : ℤ). Changed n w.distances w.list E.sound.permutation μ v size f.ready (upward 0 f.ready (λ k. add_distance w.distances x (at w.list k)) v)) (sym z)
-      (changed-after n w.distances w.list E.sound.permutation μ v size f.ready (omega (arith, E.ready-below)))
+      (changed_after n w.distances w.list E.sound.permutation μ v size f.ready (omega (arith, E.ready_below)))
 
   settled : Settled n cost (signed_at v) row s e μ
   settled = record {
@@ -127,16 +127,16 @@ module _ (n : ℕ) (cost : ℕ → ℕ → ℤ) (v : List ℤ) (row : ℕ → �
           let A = reduced cost (signed_at v) (row (place w t)) (place w t) in
           let B = reduced cost (signed_at v) (row (place w t)) k in
           let no_less : A ≤ℤ B = (F.paired_at_minimum (place w t) (E.sound.permutation.injective.below t m) h).no_less k l in
-          omega (zarith, (lesser_both (far w k) μ).1, lesser-second (far w (place w t)) μ (E.high t a m), sum (e k) A, sum (e (place w t)) B)
+          omega (zarith, (lesser_both (far w k) μ).1, lesser_second (far w (place w t)) μ (E.high t a m), sum (e k) A, sum (e (place w t)) B)
 
   -- The list has the lowered prices.
   new_price : (k : ℕ) → k < n → signed_at v' k ≡ lowered n cost (signed_at v) e μ k
   new_price k l = let P = where_is k l in subst (λ (x : ℕ). signed_at v' x ≡ lowered n cost (signed_at v) e μ x) P.2 (elim (lt_or_le P.0 f.ready) [
-    | inl a ↦ changed-ready.changed P.0 a
+    | inl a ↦ changed_ready.changed P.0 a
         ∙ ap (λ z. signed_at v (place w P.0) +ℤ (z -ℤ μ)) (sym (lesser-first (far w (place w P.0)) μ (E.low P.0 a)))
     | inr a ↦ let x = place w P.0 in
-        changed-ready.unchanged P.0 a P.1
-        ∙ omega (zarith, lesser-second (far w x) μ (E.high P.0 a P.1), dif (e x) μ, sum (signed_at v x) (e x -ℤ μ))
+        changed_ready.unchanged P.0 a P.1
+        ∙ omega (zarith, lesser_second (far w x) μ (E.high P.0 a P.1), dif (e x) μ, sum (signed_at v x) (e x -ℤ μ))
   ])
 
   -- At the minimum with the lowered prices, so with the list's.
@@ -147,7 +147,7 @@ module _ (n : ℕ) (cost : ℕ → ℕ → ℤ) (v : List ℤ) (row : ℕ → �
   }
 
   pub new_size : length v' ≡ n
-  new_size = changed-ready.prices-size
+  new_size = changed_ready.prices_size
 
   pub new_fair : Fair n cost (signed_at v') row
   new_fair = record { paired_at_minimum = λ j l h. to_list (row j) j l ((still_fair n cost (signed_at v) row s e μ settled).paired_at_minimum j l h) }
@@ -157,7 +157,7 @@ module _ (n : ℕ) (cost : ℕ → ℕ → ℤ) (v : List ℤ) (row : ℕ → �
 
   -- Columns at μ or farther keep their price, and a free column lies there.
   new_same : (k : ℕ) → k < n → μ ≤ℤ far w k → signed_at v' k ≡ signed_at v k
-  new_same k l h = omega (zarith, new_price k l, lesser-second (far w k) μ h, dif (e k) μ, sum (signed_at v k) (e k -ℤ μ))
+  new_same k l h = omega (zarith, new_price k l, lesser_second (far w k) μ h, dif (e k) μ, sum (signed_at v k) (e k -ℤ μ))
 
   pub free-same : (k : ℕ) → k < n → n ≤ row k → signed_at v' k ≡ signed_at v k
   free-same k l h = let P = where_is k l in elim (lt_or_le P.0 f.ready) [

@@ -22,15 +22,15 @@ module _ (n : ℕ) (cost : ℕ → ℕ → ℤ) where
     minimum-near v i j f l m = omega (zlin, m.no_less f l, costs i j, costs i f)
 
     -- Fair prices where column f is at -B or more: paired columns are at -(B + 2K) or more.
-    pub fair-near : (v : ℕ → ℤ) (row : ℕ → ℕ) (f B : ℕ) → f < n → NotBelow B (v f) → Fair n cost v row → (k : ℕ) → k < n → row k < n → NotBelow (B + 2 * K) (v k)
-    fair-near v row f B l low F k m h =
+    pub fair_near : (v : ℕ → ℤ) (row : ℕ → ℕ) (f B : ℕ) → f < n → NotBelow B (v f) → Fair n cost v row → (k : ℕ) → k < n → row k < n → NotBelow (B + 2 * K) (v k)
+    fair_near v row f B l low F k m h =
         record { low = omega (zlin, minimum-near v (row k) k f l (F.paired_at_minimum k m h), low.low) }
 
     -- Where free columns and one column are at -K or more, all are at -3K or more.
     pub all_near : (v : ℕ → ℤ) (row : ℕ → ℕ) (f : ℕ) → f < n → NotBelow K (v f) → Fair n cost v row → ((k : ℕ) → k < n → n ≤ row k → NotBelow K (v k))
         → (k : ℕ) → k < n → NotBelow (3 * K) (v k)
     all_near v row f l low F free k m = elim (lt_or_le (row k) n) [
-      | inl h ↦ record { low = omega (arith, (fair-near v row f K l low F k m h).low) }
+      | inl h ↦ record { low = omega (arith, (fair_near v row f K l low F k m h).low) }
       | inr h ↦ record { low = omega (arith, (free k m h).low) }
     ]
 

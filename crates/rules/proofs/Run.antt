@@ -26,7 +26,7 @@ use Rattle.rules.specs.Nights.{six}
 use Rattle.rules.specs.Right.{Between, Right}
 use Rattle.rules.specs.Asked.{AtMinimum, Fair, Paired, Agree}
 use Rattle.rules.proofs.Prices.{NotBelow, minimum_pays}
-use Rattle.rules.proofs.Sizes.{total-within}
+use Rattle.rules.proofs.Sizes.{total_within}
 use Rattle.rules.proofs.Lowering.{bounds_low}
 use Rattle.rules.proofs.Kept.{Kept}
 use Rattle.rules.proofs.Claims.{best, first, first-cost, first-least, first-low}
@@ -48,10 +48,10 @@ module _ (n : ℕ) (costs : List ℤ) (p : Pairs) (v : List ℤ) (A : Agree n p)
   pub paired-minimum : (i : ℕ) → i < n → AtMinimum n cost (signed_at v) i (at p.cols i)
   paired-minimum i l =
       subst (λ (y : ℕ). AtMinimum n cost (signed_at v) y (at p.cols i)) (all i l)
-      (F.paired_at_minimum (at p.cols i) (A.cols-below i l) (omega (arith, all i l)))
+      (F.paired_at_minimum (at p.cols i) (A.cols_below i l) (omega (arith, all i l)))
 
   pub all_named : Named (square n costs) p.cols p.rows
-  all_named = record { inside = A.cols-below; back = all }
+  all_named = record { inside = A.cols_below; back = all }
 
   pub all_feasible : Feasible (square n costs) u v
   all_feasible = record { under = λ i j l m e. omega (zlin, u_is i l, (paired-minimum i l).no_less j m) }
@@ -60,7 +60,7 @@ module _ (n : ℕ) (costs : List ℤ) (p : Pairs) (v : List ℤ) (A : Agree n p)
   all_tight = record { met = λ i l. omega (zlin, u_is i l) }
 
   pub all_pairing : Pairing (square n costs) p.cols
-  all_pairing = square_named_pairing n costs p.cols p.rows A.cols-size all_named
+  all_pairing = square_named_pairing n costs p.cols p.rows A.cols_size all_named
 
   pub all_least : Least (square n costs) p.cols
   all_least = square_prices_least n costs u v all_feasible p.cols all_pairing all_tight
@@ -82,7 +82,7 @@ module _ (n : ℕ) (cost : ℕ → ℕ → ℤ) (one : 1 ≤ n) (K : ℕ) (costs
   some-three : (k : ℕ) × (k < n) × NotBelow (3 * K) (signed_at v k)
   some-three = elim (ℕ_discrete n 1) [
     | yes e ↦ (0, one, record { low = omega (zlin, κ.single e 0 one, (first-low n cost one K costs 0).low) })
-    | no d ↦ let o = another (omega arith) κ.bounds.one in (o.0, o.1, κ.bounds.others-low o.0 o.1 o.2)
+    | no d ↦ let o = another (omega arith) κ.bounds.one in (o.0, o.1, κ.bounds.others_low o.0 o.1 o.2)
   ]
 
   -- Row prices are in 0..4K.
@@ -116,10 +116,10 @@ module _ (n : ℕ) (costs : List ℤ) (K : ℕ) (within : (k : ℕ) → Within K
         let v = x.prices in
         let named = all_named n costs p v κ.agree κ.fair L.all_paired in
         record {
-          cols-size = κ.agree.cols-size;
-          rows-size = κ.agree.rows-size;
+          cols_size = κ.agree.cols_size;
+          rows_size = κ.agree.rows_size;
           row_prices_size = length-table n (λ i. reduced cost' (signed_at v) i (at p.cols i));
-          column_prices_size = κ.prices-size;
+          column_prices_size = κ.prices_size;
           named = named;
           named_back = square_named_back n costs p.cols p.rows named;
           pairing = all_pairing n costs p v κ.agree κ.fair L.all_paired;
@@ -129,10 +129,10 @@ module _ (n : ℕ) (costs : List ℤ) (K : ℕ) (within : (k : ℕ) → Within K
           column_prices_between = column_price_between n cost' one K (λ i j. within (i * n + j)) p v κ;
           row_prices_between = λ i l.
               subst (Between 0 (4 * K)) (sym (get_d_table n (λ i. reduced cost' (signed_at v) i (at p.cols i)) (pos 0) i l))
-              (row_price_between n cost' one K (λ i j. within (i * n + j)) p v κ i (at p.cols i) l (κ.agree.cols-below i l)
+              (row_price_between n cost' one K (λ i j. within (i * n + j)) p v κ i (at p.cols i) l (κ.agree.cols_below i l)
               (paired-minimum n costs p v κ.agree κ.fair L.all_paired i l));
           total_is = refl;
-          total-near = total-within n costs K within p.cols;
+          total-near = total_within n costs K within p.cols;
           counts_right = stages_are.counts;
         }
 
@@ -154,8 +154,8 @@ nothing_right costs K =
     let tight : Tight (square 0 costs) [] [] [] = record { met = λ i l. absurd (omega arith) } in
     let pairing : Pairing (square 0 costs) [] = square_named_pairing 0 costs [] [] refl named in
     record {
-      cols-size = refl;
-      rows-size = refl;
+      cols_size = refl;
+      rows_size = refl;
       row_prices_size = refl;
       column_prices_size = refl;
       named = named;
@@ -169,14 +169,14 @@ nothing_right costs K =
       total_is = refl;
       total-near = record { low = omega arith; high = omega arith };
       counts_right = record {
-        free-few = omega arith;
+        free_few = omega arith;
         one_least = omega arith;
         one_most = omega arith;
         left_one_few = omega arith;
         two_least = omega arith;
         two_most = omega arith;
-        left-few = omega arith;
-        scanned-few = omega arith;
+        left_few = omega arith;
+        scanned_few = omega arith;
       };
     }
 

@@ -18,7 +18,7 @@ use Rattle.lists.proofs.Runs.{upward_none, until_none}
 use Rattle.lists.proofs.Leaving.{Either, goes_on, is_left_lem, either_map}
 use Rattle.lists.proofs.InStep.{until-same}
 use Rattle.lists.proofs.Tables.{length-table, get_d_table, table_cong}
-use Rattle.lists.proofs.Permutations.{exchange-second, exchange_other, exchange_permutation}
+use Rattle.lists.proofs.Permutations.{exchange_second, exchange_other, exchange_permutation}
 use Rattle.lists.proofs.Cases.{cond_cases, lt_or_le}
 use Rattle.rules.specs.declared.LastFree.{LastFree}
 use Rattle.rules.specs.declared.LastFree.TheVariants.{NoneYet, At}
@@ -56,7 +56,7 @@ joined n row lo k w S l h =
         few = omega arith;
         paired = λ t a m. elim (ℕ_discrete t b) [
           | yes z ↦ subst (λ (y : ℕ). row (place (join w k) y) < n) (sym z)
-              (subst (λ (y : ℕ). row y < n) (sym (exchange-second w.list k b (omega arith))) h)
+              (subst (λ (y : ℕ). row y < n) (sym (exchange_second w.list k b (omega arith))) h)
           | no d ↦ subst (λ (y : ℕ). row y < n) (sym (exchange_other w.list k b t (λ z. omega (arith, S.to)) d)) (S.in_block.paired t a (omega arith))
         ];
       };
@@ -97,19 +97,19 @@ module _ (n : ℕ) (cost : ℕ → ℕ → ℤ) (v : ℕ → ℤ) (row : ℕ →
       more y M = record { in_block = M.in_block; to = omega (arith, M.to) }
 
 -- From place n on there is no block and no scan.
-block-past : (n : ℕ) (d : List ℤ) (lo : ℕ) (list : List ℕ) → n ≤ lo → (block n d lo list).list ≡ list
+block_past : (n : ℕ) (d : List ℤ) (lo : ℕ) (list : List ℕ) → n ≤ lo → (block n d lo list).list ≡ list
 unfolding block
-block-past n d lo list h = ap (λ (b : Block). b.list) (upward_none (lo + 1) n (block_step d lo) (block_start d lo list) (omega arith))
+block_past n d lo list h = ap (λ (b : Block). b.list) (upward_none (lo + 1) n (block_step d lo) (block_start d lo list) (omega arith))
 
-scan-past : (n : ℕ) (cost : ℕ → ℕ → ℤ) (v : ℕ → ℤ) (row : ℕ → ℕ) (lo : ℕ) (w : Work) → n ≤ lo → scan n cost v row lo w ≡ on w
+scan_past : (n : ℕ) (cost : ℕ → ℕ → ℤ) (v : ℕ → ℤ) (row : ℕ → ℕ) (lo : ℕ) (w : Work) → n ≤ lo → scan n cost v row lo w ≡ on w
 unfolding scan
-scan-past n cost v row lo w h = until_none lo n (λ k x. cond (ltb k x.hi) (scan_row n cost v row k x) (on x)) w h
+scan_past n cost v row lo w h = until_none lo n (λ k x. cond (ltb k x.hi) (scan_row n cost v row k x) (on x)) w h
 
 module _ (n : ℕ) (cost cost' : ℕ → ℕ → ℤ) (v v' : ℕ → ℤ) (row : ℕ → ℕ)
     (E : (i j : ℕ) → i < n → j < n → reduced cost v i j ≡ reduced cost' v' i j) where
-  column-same : (minimum h : ℤ) (i k : ℕ) (w : Work) → i < n → Permutation n w.list → k < n
+  column_same : (minimum h : ℤ) (i k : ℕ) (w : Work) → i < n → Permutation n w.list → k < n
       → scan_column n cost v row minimum h i k w ≡ scan_column n cost' v' row minimum h i k w
-  column-same minimum h i k w li P l =
+  column_same minimum h i k w li P l =
       let j = place w k in
       ap (λ (y : ℤ). cond (lt_z (y -ℤ h) (far w j)) (after_lowering n row minimum k j (y -ℤ h) (reach_by w i j (y -ℤ h))) (on w)) (E i j li (P.injective.below k l))
 
@@ -123,15 +123,15 @@ module _ (n : ℕ) (cost cost' : ℕ → ℕ → ℤ) (v v' : ℕ → ℤ) (row 
       let h = reduced cost v (row j) j -ℤ m in
       let r = until-same (Seen n row lo) Any w.hi n (scan_column n cost v row m h (row j)) (scan_column n cost' v' row m h (row j)) (count_one w) B.few
       (record { in_block = record { permutation = B.permutation; few = B.few; paired = B.paired }; to = omega arith })
-      (λ t x b c S. (column_keeps n cost v row lo m h (row j) t x S c, column-same m h (row j) t x li S.in_block.permutation c)) in (
+      (λ t x b c S. (column_keeps n cost v row lo m h (row j) t x S c, column_same m h (row j) t x li S.in_block.permutation c)) in (
         either_map r.0 (λ x S. S.in_block) (λ y q. q),
         r.1 ∙ ap (λ (y : ℤ). until w.hi n (scan_column n cost' v' row m (y -ℤ m) (row j)) (count_one w)) (E (row j) j li lj),
       )
 
-  scan-same : (lo : ℕ) (w : Work) → InBlock n row lo w → lo ≤ n
+  scan_same : (lo : ℕ) (w : Work) → InBlock n row lo w → lo ≤ n
       → Either (InBlock n row lo) Any (scan n cost v row lo w) × (scan n cost v row lo w ≡ scan n cost' v' row lo w)
   unfolding scan
-  scan-same lo w B l =
+  scan_same lo w B l =
       until-same (λ k. InBlock n row lo) Any lo n (λ k x. cond (ltb k x.hi) (scan_row n cost v row k x) (on x))
       (λ k x. cond (ltb k x.hi) (scan_row n cost' v' row k x) (on x)) w l B
       (λ k x a m D. turn k x a D (lt_or_le k x.hi))
@@ -170,7 +170,7 @@ module _ (n : ℕ) (cost cost' : ℕ → ℕ → ℤ) (v v' : ℕ → ℤ) (row 
           by (At j) S = (is_left_lem tt, refl)
           by NoneYet S =
               let B = block_of_minima n w.distances w.hi w.list P l in
-              let r = scan-same w.hi q (record { permutation = B.permutation; few = omega (arith, B.order); paired = S }) (omega arith) in
+              let r = scan_same w.hi q (record { permutation = B.permutation; few = omega (arith, B.order); paired = S }) (omega arith) in
               (after w.hi q.hi (scan n cost v row w.hi q) r.0, ap (after_scan w.hi q.hi) r.1)
 
       -- No place is left, and nothing is scanned.
@@ -180,16 +180,16 @@ module _ (n : ℕ) (cost cost' : ℕ → ℕ → ℤ) (v v' : ℕ → ℤ) (row 
           by : (o : LastFree) → Goal o
           by (At j) = (is_left_lem tt, refl)
           by NoneYet = (
-            subst (λ (t : Turn Work Hit). Either Listed Any (after_scan w.hi q.hi t)) (sym (scan-past n cost v row w.hi q l))
-                (goes_on (subst (Permutation n) (sym (block-past n w.distances w.hi w.list l)) P)),
-            ap (after_scan w.hi q.hi) (scan-past n cost v row w.hi q l ∙ sym (scan-past n cost' v' row w.hi q l)),
+            subst (λ (t : Turn Work Hit). Either Listed Any (after_scan w.hi q.hi t)) (sym (scan_past n cost v row w.hi q l))
+                (goes_on (subst (Permutation n) (sym (block_past n w.distances w.hi w.list l)) P)),
+            ap (after_scan w.hi q.hi) (scan_past n cost v row w.hi q l ∙ sym (scan_past n cost' v' row w.hi q l)),
           )
 
   -- ---- the search
 
-  pub search-same : (s : ℕ) → s < n → search n cost v row s ≡ search n cost' v' row s
+  pub search_same : (s : ℕ) → s < n → search n cost v row s ≡ search n cost' v' row s
   unfolding search search_blocks
-  search-same s l =
+  search_same s l =
       ap found_at
       (until-same (λ k. Listed) Any 0 n (λ k x. search_block n cost v row x) (λ k x. search_block n cost' v' row x) (search_start n cost v row s) (omega arith) start
       (λ k x a m P. block_same x P)).1

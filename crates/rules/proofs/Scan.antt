@@ -17,7 +17,7 @@ use Rattle.ints.proofs.Ranges.{zarith}
 use Rattle.ints.proofs.Shapes.{zlin}
 use Rattle.lists.specs.Runs.{Turn, on, left}
 use Rattle.lists.specs.Permutations.{at, Permutation}
-use Rattle.lists.proofs.Permutations.{exchange-second, exchange-first, exchange_other, exchange_permutation}
+use Rattle.lists.proofs.Permutations.{exchange_second, exchange-first, exchange_other, exchange_permutation}
 use Rattle.lists.proofs.Leaving.{Either, goes_on, is_left_lem}
 use Rattle.lists.proofs.Cases.{cond_cases, lt_or_le, here_or_elsewhere}
 use Rattle.assignment.specs.Pairings.{signed_at}
@@ -67,8 +67,8 @@ module _ (n : ℕ) (cost : ℕ → ℕ → ℤ) (v : ℕ → ℤ) (row : ℕ →
   -- Lists of n entries, the columns in some order, and distances from the floor to what the start row makes them.
   pub record Sound (w : Work) : Type 0 where
     pub permutation : Permutation n w.list
-    pub distances-size : length w.distances ≡ n
-    pub predecessors-size : length w.predecessors ≡ n
+    pub distances_size : length w.distances ≡ n
+    pub predecessors_size : length w.predecessors ≡ n
     pub from_start : (k : ℕ) → k < n → far w k ≤ℤ R s k
     pub from_floor : (k : ℕ) → k < n → floor ≤ℤ far w k
 
@@ -118,9 +118,9 @@ module _ (n : ℕ) (cost : ℕ → ℕ → ℤ) (v : ℕ → ℤ) (row : ℕ →
         let j = place w k in
         let q = reach_by w i₀ j x in
         let lj : j < n = S.permutation.injective.below k l in
-        let fs : far q j ≡ x = get_or-set_same w.distances j x (pos 0) (omega (arith, S.distances-size)) in
+        let fs : far q j ≡ x = get_or-set_same w.distances j x (pos 0) (omega (arith, S.distances_size)) in
         let fo : (y : ℕ) → y ≢ j → far q y ≡ far w y = λ y d. get_or-set_other w.distances j y x (pos 0) d in
-        let ps : at q.predecessors j ≡ i₀ = get_or-set_same w.predecessors j i₀ 0 (omega (arith, S.predecessors-size)) in
+        let ps : at q.predecessors j ≡ i₀ = get_or-set_same w.predecessors j i₀ 0 (omega (arith, S.predecessors_size)) in
         let po : (y : ℕ) → y ≢ j → at q.predecessors y ≡ at w.predecessors y = λ y d. get_or-set_other w.predecessors j y i₀ 0 d in
         let apart : (t : ℕ) → t < n → t ≢ k → place w t ≢ j = λ t m d z. d (S.permutation.injective.once t k m l z) in
         let ft : (t : ℕ) → t < n → t ≢ k → far q (place w t) ≡ far w (place w t) = λ t m d. fo (place w t) (apart t m d) in
@@ -132,8 +132,8 @@ module _ (n : ℕ) (cost : ℕ → ℕ → ℤ) (v : ℕ → ℤ) (row : ℕ →
           scanning = record {
             sound = record {
               permutation = S.permutation;
-              distances-size = length-set w.distances j x ∙ S.distances-size;
-              predecessors-size = length-set w.predecessors j i₀ ∙ S.predecessors-size;
+              distances_size = length-set w.distances j x ∙ S.distances_size;
+              predecessors_size = length-set w.predecessors j i₀ ∙ S.predecessors_size;
               from_start = λ y m. omega (zarith, less y, S.from_start y m);
               from_floor = here_or_elsewhere (λ y. y < n → floor ≤ℤ far q y) j (λ m. omega (zarith, fs)) (λ y d m. omega (zarith, fo y d, S.from_floor y m));
             };
@@ -190,7 +190,7 @@ module _ (n : ℕ) (cost : ℕ → ℕ → ℤ) (v : ℕ → ℤ) (row : ℕ →
         let b = w.hi in
         let lb : b < n = omega arith in
         let size : length w.list ≡ n = S.permutation.size in
-        let sb : place q b ≡ place w k = exchange-second w.list k b (omega arith) in
+        let sb : place q b ≡ place w k = exchange_second w.list k b (omega arith) in
         let sa : place q k ≡ place w b = exchange-first w.list k b (omega arith) (omega arith) in
         let so : (t : ℕ) → t ≢ k → t ≢ b → place q t ≡ place w t = exchange_other w.list k b in
         let sl : (t : ℕ) → t < b → place q t ≡ place w t = λ t m. so t (λ z. omega arith) (λ z. omega arith) in
@@ -214,8 +214,8 @@ module _ (n : ℕ) (cost : ℕ → ℕ → ℤ) (v : ℕ → ℤ) (row : ℕ →
           scanning = record {
             sound = record {
               permutation = exchange_permutation S.permutation k b l lb;
-              distances-size = S.distances-size;
-              predecessors-size = S.predecessors-size;
+              distances_size = S.distances_size;
+              predecessors_size = S.predecessors_size;
               from_start = S.from_start;
               from_floor = S.from_floor;
             };
@@ -293,7 +293,7 @@ module _ (n : ℕ) (cost : ℕ → ℕ → ℤ) (v : ℕ → ℤ) (row : ℕ →
         lj = M.scanning.sound.permutation.injective.below k l
 
         fs : far q j ≡ x
-        fs = get_or-set_same w.distances j x (pos 0) (omega (arith, M.scanning.sound.distances-size, lj))
+        fs = get_or-set_same w.distances j x (pos 0) (omega (arith, M.scanning.sound.distances_size, lj))
 
         no_less : R i₀ j₀ ≤ℤ R i₀ j
         no_less =

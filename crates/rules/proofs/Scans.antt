@@ -24,14 +24,14 @@ module _ (n : ℕ) (cost : ℕ → ℕ → ℤ) (v : ℕ → ℤ) (row : ℕ →
   -- The columns before place k have been scanned, and no more than those were counted.
   pub record Counted (k : ℕ) (w : Work) : Type 0 where
     pub scanning : Scanning n cost v row s floor ready k μ w
-    pub counted-few : w.scanned ≤ k
+    pub counted_few : w.scanned ≤ k
     pub counted_in_block : w.scanned ≤ w.hi
 
   -- The scan is left at a free column, with fewer columns counted than there are.
   pub record LeftAt (h : Hit) : Type 0 where
     pub at_place : ℕ
     pub reaches : Reaches n cost v row s floor ready at_place μ h.work.scanned h
-    pub counted-few : h.work.scanned < n
+    pub counted_few : h.work.scanned < n
 
 module _ (n : ℕ) (cost : ℕ → ℕ → ℤ) (v : ℕ → ℤ) (row : ℕ → ℕ) (s : ℕ) (floor : ℤ) (F : Fair n cost v row) (ready : ℕ) (μ : ℤ) where
   abbrev On : ℕ → Work → Type 0
@@ -52,8 +52,8 @@ module _ (n : ℕ) (cost : ℕ → ℕ → ℤ) (v : ℕ → ℤ) (row : ℕ →
         scanning = record {
           sound = record {
             permutation = S.permutation;
-            distances-size = S.distances-size;
-            predecessors-size = S.predecessors-size;
+            distances_size = S.distances_size;
+            predecessors_size = S.predecessors_size;
             from_start = S.from_start;
             from_floor = S.from_floor;
           };
@@ -121,13 +121,13 @@ module _ (n : ℕ) (cost : ℕ → ℕ → ℤ) (v : ℕ → ℤ) (row : ℕ →
       (subst (λ (y : ℤ). Either (P n) Q (until w.hi n (scan_column n cost v row y (reduced cost v (row j) j -ℤ y) (row j)) (count_one w))) (sym e) run)
       (λ x M. record {
         scanning = see_end k j c x M;
-        counted-few = omega (arith, M.counted, D.counted-few);
-        counted_in_block = omega (arith, M.counted, D.counted-few, M.in_block);
+        counted_few = omega (arith, M.counted, D.counted_few);
+        counted_in_block = omega (arith, M.counted, D.counted_few, M.in_block);
       })
       (λ h X. record {
         at_place = k;
         reaches = subst (λ (z : ℕ). Reaches n cost v row s floor ready k μ z h) (sym X.counted) X;
-        counted-few = omega (arith, X.counted, D.counted-few, X.in_block, X.stands.1, X.stands.2);
+        counted_few = omega (arith, X.counted, D.counted_few, X.in_block, X.stands.1, X.stands.2);
       })
 
   -- The block's columns from place lo on.
@@ -151,6 +151,6 @@ module _ (n : ℕ) (cost : ℕ → ℕ → ℤ) (v : ℕ → ℤ) (row : ℕ →
           relaxed = λ t a b. I.relaxed t (omega arith) b;
           root = I.root;
         };
-        counted-few = omega (arith, D.counted-few);
+        counted_few = omega (arith, D.counted_few);
         counted_in_block = D.counted_in_block;
       }

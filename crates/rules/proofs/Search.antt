@@ -31,13 +31,13 @@ module _ (n : ℕ) (cost : ℕ → ℕ → ℤ) (v : ℕ → ℤ) (row : ℕ →
     pub rising : (t u : ℕ) → t < w.hi → w.hi ≤ u → u < n → far w (place w t) ≤ℤ far w (place w u)
     pub relaxed : (t : ℕ) → t < w.hi → Relaxed n cost v row s floor w (place w t)
     pub root : (t : ℕ) → t < n → Root n cost v row s floor w (λ u. u < w.hi) t (place w t)
-    pub counted-few : w.scanned ≤ w.hi
+    pub counted_few : w.scanned ≤ w.hi
 
   -- The search has reached a free column: the ready columns lie at μ or before it, the others at μ or after it, and the free one at μ.
   pub record Ended (f : Found) (μ : ℤ) : Type 0 where
     pub sound : Sound n cost v row s floor f.work
-    pub ready-below : f.ready < n
-    pub cursor-kept : f.cursor.lo ≡ f.ready
+    pub ready_below : f.ready < n
+    pub cursor_kept : f.cursor.lo ≡ f.ready
     pub is_minimum : far f.work (place f.work f.ready) ≡ μ
     pub paired : (t : ℕ) → t < f.ready → row (place f.work t) < n
     pub low : (t : ℕ) → t < f.ready → far f.work (place f.work t) ≤ℤ μ
@@ -48,7 +48,7 @@ module _ (n : ℕ) (cost : ℕ → ℕ → ℤ) (v : ℕ → ℤ) (row : ℕ →
     pub stands : (k : ℕ) × (k < n) × (place f.work k ≡ f.column)
     pub is_free : n ≤ row f.column
     pub distance : far f.work f.column ≡ μ
-    pub counted-few : f.work.scanned < n
+    pub counted_few : f.work.scanned < n
 
   abbrev pub Good : Found → Type 0
   Good f = (μ : ℤ) × Ended f μ
@@ -72,20 +72,20 @@ module _ (n : ℕ) (cost : ℕ → ℕ → ℤ) (v : ℕ → ℤ) (row : ℕ →
     lo_hi = omega (arith, is_b.order)
 
     kept : (t : ℕ) → t < lo → place q t ≡ place w t
-    kept t m = is_b.before-kept t m
+    kept t m = is_b.before_kept t m
 
     sound_b : Sound n cost v row s floor q
     sound_b = record {
       permutation = is_b.permutation;
-      distances-size = H.sound.distances-size;
-      predecessors-size = H.sound.predecessors-size;
+      distances_size = H.sound.distances_size;
+      predecessors_size = H.sound.predecessors_size;
       from_start = H.sound.from_start;
       from_floor = H.sound.from_floor;
     }
 
     low_b : (t : ℕ) → t < lo → far q (place q t) ≤ℤ b.minimum
     low_b t m =
-        let F = is_b.from-after lo (omega arith) l in
+        let F = is_b.from_after lo (omega arith) l in
         omega (zarith, ap (far w) (kept t m), ap (far w) F.3, H.rising t F.0 m F.1 F.2, is_b.at_least lo (omega arith) is_b.order.0)
 
     carry : (t t' y : ℕ) → ((u : ℕ) → u < t → u < lo → u < t') → Root n cost v row s floor w (λ u. u < lo) t y → Root n cost v row s floor q (λ u. u < lo) t' y
@@ -100,7 +100,7 @@ module _ (n : ℕ) (cost : ℕ → ℕ → ℤ) (v : ℕ → ℤ) (row : ℕ →
     root_b : (t : ℕ) → t < n → Root n cost v row s floor q (λ u. u < lo) t (place q t)
     root_b t m = elim (lt_or_le t lo) [
       | inl a ↦ subst (Root n cost v row s floor q (λ u. u < lo) t) (sym (kept t a)) (carry t t (place w t) (λ u x y. x) (H.root t m))
-      | inr a ↦ let F = is_b.from-after t a m in
+      | inr a ↦ let F = is_b.from_after t a m in
           subst (Root n cost v row s floor q (λ u. u < lo) t) (sym F.3) (carry F.0 t (place w F.0) (λ u x y. omega arith) (H.root F.0 F.2))
     ]
 
@@ -125,16 +125,16 @@ module _ (n : ℕ) (cost : ℕ → ℕ → ℤ) (v : ℕ → ℤ) (row : ℕ →
             (λ (a : (u : ℕ) × (u < t) × (u < lo) × FromColumn n cost v row s floor q (place q u) (place q t)).
             inr (a.0, a.1, omega (arith, a.2, is_b.order), a.3)) (root_b t m);
       };
-      counted-few = H.counted-few;
-      counted_in_block = omega (arith, H.counted-few, is_b.order);
+      counted_few = H.counted_few;
+      counted_in_block = omega (arith, H.counted_few, is_b.order);
     }
 
     -- A column of the block is free: the search ends.
     pub to_end : (t : ℕ) → lo ≤ t → t < q.hi → n ≤ row (place q t) → Ended (found lo (record { lo = lo; hi = q.hi }) (place q t) q) b.minimum
     to_end t a m f = record {
       sound = sound_b;
-      ready-below = l;
-      cursor-kept = refl;
+      ready_below = l;
+      cursor_kept = refl;
       is_minimum = is_b.at_least lo (omega arith) is_b.order.0;
       paired = paired_b;
       low = low_b;
@@ -146,7 +146,7 @@ module _ (n : ℕ) (cost : ℕ → ℕ → ℤ) (v : ℕ → ℤ) (row : ℕ →
       stands = (t, omega (arith, is_b.order), refl);
       is_free = f;
       distance = is_b.at_least t a m;
-      counted-few = omega (arith, H.counted-few);
+      counted_few = omega (arith, H.counted_few);
     }
 
   -- ---- after a scan
@@ -158,8 +158,8 @@ module _ (n : ℕ) (cost : ℕ → ℕ → ℤ) (v : ℕ → ℤ) (row : ℕ →
       let w = h.work in
       record {
         sound = I.sound;
-        ready-below = omega (arith, I.order);
-        cursor-kept = refl;
+        ready_below = omega (arith, I.order);
+        cursor_kept = refl;
         is_minimum = I.level ready (omega arith) I.order.1;
         paired = λ t m. I.paired t (omega (arith, I.order));
         low = λ t m. I.low t (omega (arith, I.order));
@@ -171,7 +171,7 @@ module _ (n : ℕ) (cost : ℕ → ℕ → ℤ) (v : ℕ → ℤ) (row : ℕ →
         stands = let P = X.reaches.stands in (P.0, P.1, P.3);
         is_free = X.reaches.is_free;
         distance = X.reaches.distance;
-        counted-few = X.counted-few;
+        counted_few = X.counted_few;
       }
 
   pub scanned_head : (ready : ℕ) (μ : ℤ) (w : Work) → Counted n cost v row s floor ready μ n w → Head w
@@ -181,7 +181,7 @@ module _ (n : ℕ) (cost : ℕ → ℕ → ℤ) (v : ℕ → ℤ) (row : ℕ →
     rising = λ t u a e m. omega (zarith, I.low t a, I.high u e m);
     relaxed = λ t a. I.relaxed t (omega (arith, I.order)) a;
     root = I.root;
-    counted-few = C.counted_in_block;
+    counted_few = C.counted_in_block;
   }
 
   -- ---- the search
@@ -241,8 +241,8 @@ module _ (n : ℕ) (cost : ℕ → ℕ → ℤ) (v : ℕ → ℤ) (row : ℕ →
             size = length-table n (λ j. j);
             injective = record { below = λ i l. omega (arith, at_own i l); once = λ i k l h e. sym (at_own i l) ∙ e ∙ at_own k h };
           };
-          distances-size = length-table n (reduced cost v s);
-          predecessors-size = length-table n (λ j. s);
+          distances_size = length-table n (reduced cost v s);
+          predecessors_size = length-table n (λ j. s);
           from_start = λ k l. omega (zarith, far_is k l);
           from_floor = λ k l. omega (zarith, far_is k l, under k l);
         };
@@ -251,7 +251,7 @@ module _ (n : ℕ) (cost : ℕ → ℕ → ℤ) (v : ℕ → ℤ) (row : ℕ →
         relaxed = λ t m. absurd (omega arith);
         root = λ t l. let y = place w t in let ly : y < n = omega (arith, at_own t l) in
             inl (record { leads = get_d_table n (λ j. s) 0 y ly; exact = far_is y ly });
-        counted-few = omega arith;
+        counted_few = omega arith;
       }
     where
       w : Work
@@ -268,14 +268,14 @@ module _ (n : ℕ) (cost : ℕ → ℕ → ℤ) (v : ℕ → ℤ) (row : ℕ →
     is_left_at : (f : Found) × (search_blocks n cost v row n (search_start n cost v row s) ≡ left f) × Good f
     is_left_at = blocks_end F y ly fy (search_start n cost v row s) (start_head under)
 
-    pub search-left : search_blocks n cost v row n (search_start n cost v row s) ≡ left (search n cost v row s)
+    pub search_left : search_blocks n cost v row n (search_start n cost v row s) ≡ left (search n cost v row s)
     unfolding search
-    search-left = let r = is_left_at in r.1 ∙ ap (λ (t : Turn Work Found). left (found_at t)) (sym r.1)
+    search_left = let r = is_left_at in r.1 ∙ ap (λ (t : Turn Work Found). left (found_at t)) (sym r.1)
 
     pub search_good : Good (search n cost v row s)
     unfolding search
     search_good = let r = is_left_at in subst (λ (t : Turn Work Found). Good (found_at t)) (sym r.1) r.2
 
-    pub search-enough : (m : ℕ) → n ≤ m → search_blocks n cost v row m (search_start n cost v row s) ≡ left (search n cost v row s)
+    pub search_enough : (m : ℕ) → n ≤ m → search_blocks n cost v row m (search_start n cost v row s) ≡ left (search n cost v row s)
     unfolding search_blocks
-    search-enough m h = until-longer 0 n (λ k x. search_block n cost v row x) (search_start n cost v row s) (search n cost v row s) (omega arith) search-left m h
+    search_enough m h = until-longer 0 n (λ k x. search_block n cost v row x) (search_start n cost v row s) (search n cost v row s) (omega arith) search_left m h

@@ -12,29 +12,29 @@ use Rattle.rules.specs.Augmentation.{Progress, augments}
 use Rattle.rules.specs.Run.{stages}
 use Rattle.rules.specs.Right.{SearchEnds}
 use Rattle.rules.specs.Asked.{Can}
-use Rattle.rules.proofs.Pairs.{free-column}
-use Rattle.rules.proofs.Search.{search-left}
-use Rattle.rules.proofs.Flips.{flips-left}
+use Rattle.rules.proofs.Pairs.{free_column}
+use Rattle.rules.proofs.Search.{search_left}
+use Rattle.rules.proofs.Flips.{flips_left}
 use Rattle.rules.proofs.Augment.{floor_of, floor_under, Tree, rank, rooted, flipping, one, found_good}
-use Rattle.rules.proofs.Stages.{stages_right, search-ready}
+use Rattle.rules.proofs.Stages.{stages_right, search_ready}
 
 -- From any state from which row s can get a column.
-pub can-ends : (n : ℕ) (cost : ℕ → ℕ → ℤ) (x : Progress) (s : ℕ) → Can n cost x s → SearchEnds n cost x s
-can-ends n cost x s C =
+pub can_ends : (n : ℕ) (cost : ℕ → ℕ → ℤ) (x : Progress) (s : ℕ) → Can n cost x s → SearchEnds n cost x s
+can_ends n cost x s C =
     let v = signed_at x.prices in
     let row = at x.pairs.rows in
     let some = one n cost x s C in
     let floor = floor_of n cost v s some in
-    let y = free-column n x.pairs C.agree s C.start_below C.start_unpaired in
+    let y = free_column n x.pairs C.agree s C.start_below C.start_unpaired in
     let f = search n cost v row s in
     let μ = (found_good n cost x s C).0 in
     let E = (found_good n cost x s C).1 in
     let below = C.start_below in
     record {
-      found_within = search-left n cost v row s floor C.fair y.0 y.1 y.2 (floor_under n cost v s some);
-      scanned-few = E.counted-few;
-      flipped-within =
-          flips-left n s below f.work.predecessors x.pairs (Tree n cost v x.pairs s floor below f μ E) (rank n cost v x.pairs s floor below f μ E)
+      found_within = search_left n cost v row s floor C.fair y.0 y.1 y.2 (floor_under n cost v s some);
+      scanned_few = E.counted_few;
+      flipped_within =
+          flips_left n s below f.work.predecessors x.pairs (Tree n cost v x.pairs s floor below f μ E) (rank n cost v x.pairs s floor below f μ E)
           (rooted n cost v x.pairs s floor below f μ E) (record { column = f.column; pairs = x.pairs })
           (flipping n cost v x.pairs s floor below f μ E C.agree C.start_unpaired);
     }
@@ -49,5 +49,5 @@ run_searches_end n some room costs K within m l =
     let near : (i j : ℕ) → Within K (cost i j) = λ i j. within (i * n + j) in
     let s = pass_end (stages n cost).pass_two in
     let good = (stages_right n cost some K near room).pass_two_lem.good in
-    can-ends n cost (augments n cost s.frees m (record { pairs = s.pairs; prices = s.prices; scanned = 0 })) (at s.frees m)
-    (search-ready n cost some K near s good m l).can
+    can_ends n cost (augments n cost s.frees m (record { pairs = s.pairs; prices = s.prices; scanned = 0 })) (at s.frees m)
+    (search_ready n cost some K near s good m l).can

@@ -7,7 +7,7 @@ use lib.IntN.{ℤ, pos}
 use lib.ListN.{length, get_or-eq_default}
 use Rattle.ints.specs.Parts.{Within}
 use Rattle.lists.specs.Permutations.{at}
-use Rattle.lists.proofs.Sums.{sum-within}
+use Rattle.lists.proofs.Sums.{sum_within}
 use Rattle.lists.proofs.Cases.{lt_or_le}
 use Rattle.assignment.specs.Pairings.{square, signed_at, total}
 
@@ -19,5 +19,5 @@ within_everywhere K l h k = elim (lt_or_le k (length l)) [
 ]
 
 -- The total of n costs.
-pub total-within : (n : ℕ) (costs : List ℤ) (K : ℕ) → ((k : ℕ) → Within K (signed_at costs k)) → (cols : List ℕ) → Within (n * K) (total (square n costs) cols)
-total-within n costs K within cols = sum-within n K (λ i. signed_at costs (i * n + at cols i)) (λ i l. within (i * n + at cols i))
+pub total_within : (n : ℕ) (costs : List ℤ) (K : ℕ) → ((k : ℕ) → Within K (signed_at costs k)) → (cols : List ℕ) → Within (n * K) (total (square n costs) cols)
+total_within n costs K within cols = sum_within n K (λ i. signed_at costs (i * n + at cols i)) (λ i l. within (i * n + at cols i))

@@ -19,7 +19,7 @@ use Rattle.rules.specs.Right.{CountsRight}
 use Rattle.rules.specs.Asked.{Paired, Can}
 use Rattle.rules.proofs.Prices.{all_near}
 use Rattle.rules.proofs.Kept.{Kept, within_five}
-use Rattle.rules.proofs.Claims.{first, first-low, first-within}
+use Rattle.rules.proofs.Claims.{first, first-low, first_within}
 use Rattle.rules.proofs.Transfers.{Good, column_reduction_good}
 use Rattle.rules.proofs.Passes.{looks_none}
 use Rattle.rules.proofs.RowReduction.{PassOf, row_reduction_pass_of}
@@ -56,12 +56,12 @@ module _ (n : ℕ) (cost : ℕ → ℕ → ℤ) (one : 1 ≤ n) (K : ℕ) (costs
       (λ k l h. record { low = omega (zlin, untouched k l h, (first-low n cost one K costs k).low) }) in
       record {
         agree = g.agree;
-        prices-size = g.prices-size;
+        prices_size = g.prices_size;
         fair = g.fair;
         free_untouched = untouched;
         not_risen = λ k l. omega (zlin, g.not_risen k l, κ.not_risen k l);
         single = λ a k l. subst (λ (z : ℕ). signed_at y.prices z ≡ v₀ z) (let e : f ≡ k = omega arith in e) ef;
-        bounds = record { one = f; one_low = record { low = omega (arith, (all f lf).low) }; others-low = λ k l d. all k l };
+        bounds = record { one = f; one_low = record { low = omega (arith, (all f lf).low) }; others_low = λ k l d. all k l };
       }
 
   -- ---- the last stage
@@ -73,7 +73,7 @@ module _ (n : ℕ) (cost : ℕ → ℕ → ℤ) (one : 1 ≤ n) (K : ℕ) (costs
     start_augmented : Augmented n cost s.frees s.count x₀ 0 x₀
     start_augmented = record {
       agree = G.kept.agree;
-      prices-size = G.kept.prices-size;
+      prices_size = G.kept.prices_size;
       fair = G.kept.fair;
       listed = record {
         row_below = λ t a. G.listed.row_below t a.1;
@@ -82,7 +82,7 @@ module _ (n : ℕ) (cost : ℕ → ℕ → ℤ) (one : 1 ≤ n) (K : ℕ) (costs
         paired_or_listed = λ i l. ⊎_elim (λ a. inl a)
             (λ (a : (t : ℕ) × (t < s.count) × (at s.frees t ≡ i)). inr (a.0, (omega arith, a.1), a.2)) (G.listed.paired_or_listed i l);
       };
-      scanned-few = omega arith;
+      scanned_few = omega arith;
     }
 
     -- After m searches.
@@ -96,31 +96,31 @@ module _ (n : ℕ) (cost : ℕ → ℕ → ℤ) (one : 1 ≤ n) (K : ℕ) (costs
     -- What search m finds: a state from which its row can get a column, and prices within 5K.
     pub record SearchReady (m : ℕ) (x : Progress) : Type 0 where
       pub can : Can n cost x (at s.frees m)
-      pub prices-within : (k : ℕ) → Within (5 * K) (signed_at x.prices k)
-      pub scanned-few : x.scanned ≤ m * (n - 1)
+      pub prices_within_lem : (k : ℕ) → Within (5 * K) (signed_at x.prices k)
+      pub scanned_few : x.scanned ≤ m * (n - 1)
 
-    pub search-ready : (m : ℕ) → m < s.count → SearchReady m (augments n cost s.frees m x₀)
-    search-ready m l =
+    pub search_ready : (m : ℕ) → m < s.count → SearchReady m (augments n cost s.frees m x₀)
+    search_ready m l =
         let x = augments n cost s.frees m x₀ in
         let A = augments-kept m (omega arith) in
         record {
           can = augmented_can n cost s.frees s.count x₀ m x l A.0;
-          prices-within = within_five n cost K costs v₀ (first-low n cost one K costs) x.pairs x.prices A.1 (first-within n cost one K costs);
-          scanned-few = omega (arith, A.0.scanned-few);
+          prices_within_lem = within_five n cost K costs v₀ (first-low n cost one K costs) x.pairs x.prices A.1 (first_within n cost one K costs);
+          scanned_few = omega (arith, A.0.scanned_few);
         }
 
     -- All rows paired, all kept, and at most n - 1 columns scanned for each row left.
     pub record Last (x : Progress) : Type 0 where
       pub all_paired : (i : ℕ) → i < n → Paired x.pairs i
       pub kept : Kept n cost K costs v₀ x.pairs x.prices
-      pub scanned-few : x.scanned ≤ s.count * (n - 1)
+      pub scanned_few : x.scanned ≤ s.count * (n - 1)
 
     pub augmentation-last : Last (augmentation n cost s)
     unfolding augmentation
     augmentation-last =
         let x = augments n cost s.frees s.count x₀ in
         let A = augments-kept s.count (omega arith) in
-        record { all_paired = augmented_paired n cost s.frees s.count x₀ x A.0; kept = A.1; scanned-few = omega (arith, A.0.scanned-few) }
+        record { all_paired = augmented_paired n cost s.frees s.count x₀ x A.0; kept = A.1; scanned_few = omega (arith, A.0.scanned_few) }
 
   -- ---- the run
 
@@ -146,13 +146,13 @@ module _ (n : ℕ) (cost : ℕ → ℕ → ℤ) (one : 1 ≤ n) (K : ℕ) (costs
         pass_two_lem = R;
         last = L;
         counts = record {
-          free-few = G.count-few;
+          free_few = G.count_few;
           one_least = Q.looks-least;
-          one_most = Q.looks-most;
-          left_one_few = Q.left-fewer;
+          one_most = Q.looks_most_lem;
+          left_one_few = Q.left_fewer;
           two_least = R.looks-least;
-          two_most = R.looks-most;
-          left-few = R.left-fewer;
-          scanned-few = L.scanned-few;
+          two_most = R.looks_most_lem;
+          left_few = R.left_fewer;
+          scanned_few = L.scanned_few;
         };
       }

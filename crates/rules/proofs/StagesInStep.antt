@@ -35,7 +35,7 @@ use Rattle.rules.specs.Augmentation.{Progress, augment_by, augment, augments, au
 use Rattle.rules.specs.Run.{Stages, stages}
 use Rattle.rules.proofs.Lowest.{two_lowest_cong, least_but_cong}
 use Rattle.rules.proofs.Risen.{set-risen, table-risen, Added, reduced-same, low_plus, lowest_plus}
-use Rattle.rules.proofs.SameSearch.{search-same}
+use Rattle.rules.proofs.SameSearch.{search_same}
 
 -- ---- what a run holds, with the amounts added to its prices
 
@@ -62,8 +62,8 @@ module _ (amount : ℕ → ℤ) where
 
 -- What the steps ask for: n prices, and rows below n in the free list.
 pub record InRange (n : ℕ) (v : List ℤ) (frees : List ℕ) : Type 0 where
-  pub prices-size : length v ≡ n
-  pub rows-below : (t : ℕ) → at frees t < n
+  pub prices_size : length v ≡ n
+  pub rows_below : (t : ℕ) → at frees t < n
 
 -- ---- rules 3 to 6 in step, at side 1 or more
 
@@ -105,15 +105,15 @@ module _ (n : ℕ) (one : 1 ≤ n) (amount : ℕ → ℤ) (cost cost' : ℕ → 
       → StepTransfer (transfer n cost s i x) (transfer n cost' s i (risen_transfer amount x))
   transfer_step s i x l R =
       cond_both (eqb (at s.marks i) 0) StepTransfer
-      (record { prices-size = R.prices-size; rows-below = set_below n x.frees x.count i R.rows-below l }, refl)
+      (record { prices_size = R.prices_size; rows_below = set_below n x.frees x.count i R.rows_below l }, refl)
       (cond_both (eqb (at s.marks i) 1) StepTransfer (
-        record { prices-size = length-set x.prices (at s.cols i) _ ∙ R.prices-size; rows-below = R.rows-below },
-        ap (λ (v : List ℤ). record { prices = v; frees = x.frees; count = x.count }) (lower_column-risen i (at s.cols i) x.prices l R.prices-size),
+        record { prices_size = length-set x.prices (at s.cols i) _ ∙ R.prices_size; rows_below = R.rows_below },
+        ap (λ (v : List ℤ). record { prices = v; frees = x.frees; count = x.count }) (lower_column-risen i (at s.cols i) x.prices l R.prices_size),
       )
       (R, refl))
 
   start_range : InRange n (untransferred n cost).prices (untransferred n cost).frees
-  start_range = record { prices-size = length-table n (λ j. (minimum n cost j).value); rows-below = λ t. omega (arith, get_d_constant {A = ℕ} n 0 t) }
+  start_range = record { prices_size = length-table n (λ j. (minimum n cost j).value); rows_below = λ t. omega (arith, get_d_constant {A = ℕ} n 0 t) }
 
   transfers_step : (s : Claims) → StepTransfer (transfers n cost s) (transfers n cost' s)
   unfolding transfers
@@ -161,8 +161,8 @@ module _ (n : ℕ) (one : 1 ≤ n) (amount : ℕ → ℤ) (cost cost' : ℕ → 
 
     settle_range : (w : Choice) → InRange n v x.frees → InRange n (settle n x i w).prices (settle n x i w).frees
     settle_range w R = record {
-      prices-size = length-set v w.column w.price ∙ R.prices-size;
-      rows-below =
+      prices_size = length-set v w.column w.price ∙ R.prices_size;
+      rows_below =
           let h = at x.pairs.rows w.column in
           let p = x.pass in
           let back : Placed = record { frees = set x.frees p.current h; pass = pass_at p.current p.left (p.looks + 1) } in
@@ -170,9 +170,9 @@ module _ (n : ℕ) (one : 1 ≤ n) (amount : ℕ → ℤ) (cost cost' : ℕ → 
           let none : Placed = record { frees = x.frees; pass = pass_at (p.current + 1) p.left (p.looks + 1) } in
           cond_cases (ltb h n) Below (cond w.back back next) none
           (λ e. cond_cases w.back Below back next
-          (λ d. set_below n x.frees p.current h R.rows-below (ltb-true h n e))
-          (λ d. set_below n x.frees p.left h R.rows-below (ltb-true h n e)))
-          (λ e. R.rows-below);
+          (λ d. set_below n x.frees p.current h R.rows_below (ltb-true h n e))
+          (λ d. set_below n x.frees p.left h R.rows_below (ltb-true h n e)))
+          (λ e. R.rows_below);
     }
       where
         Below : Placed → Type 0
@@ -190,7 +190,7 @@ module _ (n : ℕ) (one : 1 ≤ n) (amount : ℕ → ℤ) (cost cost' : ℕ → 
         settle_range x i (choose n early v rows (two_lowest n (reduced cost (signed_at v) i))) R,
         ap (λ (t : TwoLowest). settle n (risen_passing amount x) i (choose n early (risen amount v) rows t))
             (two_lowest_cong n (reduced cost' (signed_at (risen amount v)) i) (reduced cost (signed_at v) i) one
-            (λ j l. reduced-same n amount cost cost' added v R.prices-size i j (R.rows-below x.pass.current) l))
+            (λ j l. reduced-same n amount cost cost' added v R.prices_size i j (R.rows_below x.pass.current) l))
             ∙ choose_settles x i early rows (two_lowest n (reduced cost (signed_at v) i)),
       )
 
@@ -240,7 +240,7 @@ module _ (n : ℕ) (one : 1 ≤ n) (amount : ℕ → ℤ) (cost cost' : ℕ → 
       let f = search n cost (signed_at v) row s in (
         new_prices-length f v ∙ size,
         ap (augment_by n (risen_state amount x) s)
-            (search-same n cost' cost (signed_at (risen amount v)) (signed_at v) row (λ i j h m. reduced-same n amount cost cost' added v size i j h m) s l)
+            (search_same n cost' cost (signed_at (risen amount v)) (signed_at v) row (λ i j h m. reduced-same n amount cost cost' added v size i j h m) s l)
             ∙ ap (λ (z : List ℤ). record { pairs = (augment_by n x s f).pairs; prices = z; scanned = x.scanned + f.work.scanned }) (new_prices-risen f v),
       )
 
@@ -248,8 +248,8 @@ module _ (n : ℕ) (one : 1 ≤ n) (amount : ℕ → ℤ) (cost cost' : ℕ → 
   unfolding augmentation augments
   augmentation_step s R =
       upward_picture (λ k x. length x.prices ≡ n) (risen_state amount) 0 s.count (λ k y. augment n cost y (at s.frees k)) (λ k y. augment n cost' y (at s.frees k))
-      (record { pairs = s.pairs; prices = s.prices; scanned = 0 }) (omega arith) R.prices-size
-      (λ k x a l e. augment_step x (at s.frees k) (R.rows-below k) e)
+      (record { pairs = s.pairs; prices = s.prices; scanned = 0 }) (omega arith) R.prices_size
+      (λ k x a l e. augment_step x (at s.frees k) (R.rows_below k) e)
 
   -- ---- the run
 

@@ -16,9 +16,9 @@ Unpaired n p i = (k : ℕ) → k < n → at p.rows k ≢ i
 
 -- Lists of n entries, in which each row that a column names names it back.
 pub record Agree (n : ℕ) (p : Pairs) : Type 0 where
-  pub cols-size : length p.cols ≡ n
-  pub rows-size : length p.rows ≡ n
-  pub cols-below : (i : ℕ) → i < n → at p.cols i < n
+  pub cols_size : length p.cols ≡ n
+  pub rows_size : length p.rows ≡ n
+  pub cols_below : (i : ℕ) → i < n → at p.cols i < n
   pub named_back : (k : ℕ) → k < n → at p.rows k < n → at p.cols (at p.rows k) ≡ k
 
 module _ (n : ℕ) (cost : ℕ → ℕ → ℤ) where
@@ -33,7 +33,7 @@ module _ (n : ℕ) (cost : ℕ → ℕ → ℤ) where
 -- A state from which row s can get a column.
 pub record Can (n : ℕ) (cost : ℕ → ℕ → ℤ) (x : Progress) (s : ℕ) : Type 0 where
   pub agree : Agree n x.pairs
-  pub prices-size : length x.prices ≡ n
+  pub prices_size : length x.prices ≡ n
   pub fair : Fair n cost (signed_at x.prices) (at x.pairs.rows)
   pub start_below : s < n
   pub start_unpaired : Unpaired n x.pairs s

@@ -18,28 +18,28 @@ pub record Between (a b : ℕ) (z : ℤ) : Type 0 where
 -- "A pass over F rows makes F to F*n looks; each search scans at most n-1 columns." "Pass two's looks are shown to lie between [the rows left after
 -- pass one] and that number times the side."
 pub record CountsRight (n : ℕ) (c : Counts) : Type 0 where
-  pub free-few : c.free_rows ≤ n
+  pub free_few : c.free_rows ≤ n
   pub one_least : c.free_rows ≤ c.looks_one
   pub one_most : c.looks_one ≤ c.free_rows * n
   pub left_one_few : c.left_one ≤ c.free_rows
   pub two_least : c.left_one ≤ c.looks_two
   pub two_most : c.looks_two ≤ c.left_one * n
-  pub left-few : c.rows_left ≤ c.left_one
-  pub scanned-few : c.columns_scanned ≤ c.rows_left * (n - 1)
+  pub left_few : c.rows_left ≤ c.left_one
+  pub scanned_few : c.columns_scanned ≤ c.rows_left * (n - 1)
 
 -- How a search from row s ends: within n blocks, fewer than n columns scanned, and the pairs flip back within n flips. "The source's answer for
 -- more than n flips must be shown never to arise."
 pub record SearchEnds (n : ℕ) (cost : ℕ → ℕ → ℤ) (x : Progress) (s : ℕ) : Type 0 where
   pub found_within : let v = signed_at x.prices in let row = at x.pairs.rows in
       search_blocks n cost v row n (search_start n cost v row s) ≡ left (search n cost v row s)
-  pub scanned-few : (search n cost (signed_at x.prices) (at x.pairs.rows) s).work.scanned < n
-  pub flipped-within : let f = search n cost (signed_at x.prices) (at x.pairs.rows) s in
+  pub scanned_few : (search n cost (signed_at x.prices) (at x.pairs.rows) s).work.scanned < n
+  pub flipped_within : let f = search n cost (signed_at x.prices) (at x.pairs.rows) s in
       flips n s f.work.predecessors (record { column = f.column; pairs = x.pairs }) ≡ left (augment n cost x s).pairs
 
 -- All that the answer of a run owes.
 pub record Right (n : ℕ) (costs : List ℤ) (K : ℕ) (a : Result) : Type 0 where
-  pub cols-size : length a.cols ≡ n
-  pub rows-size : length a.rows ≡ n
+  pub cols_size : length a.cols ≡ n
+  pub rows_size : length a.rows ≡ n
   pub row_prices_size : length a.prices_of_rows ≡ n
   pub column_prices_size : length a.prices_of_columns ≡ n
   pub named : Named (square n costs) a.cols a.rows

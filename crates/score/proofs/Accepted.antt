@@ -11,7 +11,7 @@ use lib.IntN.{pos}
 use lib.ListN.{length, take, drop}
 use lib.Seq.{take_at}
 use Rattle.lists.proofs.Tables.{length-table, get_d_table}
-use Rattle.layout.proofs.Sheets.{sheet-length}
+use Rattle.layout.proofs.Sheets.{sheet_length_lem}
 use Rattle.assignment.specs.Pairings.{square}
 use Rattle.matrix.specs.Refusals.{number_of}
 use Rattle.matrix.specs.Verdicts.{Passes, fails_if, fails_at}
@@ -65,12 +65,12 @@ module _ (firsts seconds room : List ℕ) where
     accepted_lists = ((sheet_tests_iff firsts seconds (length room)).0 (accepted_iff.0 e)).0
 
     -- The bytes that are written: the first 4*n*n + 12 of the room.
-    pub sheet-written : take (sheet_length n) (score_sheet firsts seconds room).sheet ≡ scored_sheet firsts seconds
+    pub sheet_written : take (sheet_length n) (score_sheet firsts seconds room).sheet ≡ scored_sheet firsts seconds
     unfolding score_sheet
-    sheet-written =
+    sheet_written =
         ap (λ (v : Verdict). take (sheet_length n) (filled_if firsts seconds room v).sheet) (accepted_iff.0 e)
         ∙ take_at (scored_sheet firsts seconds) (drop (sheet_length n) room) (sheet_length n)
-        (omega (arith, sheet-length 1 [] n (scores n firsts seconds) [], length-table (n * n) (score_at n firsts seconds)))
+        (omega (arith, sheet_length_lem 1 [] n (scores n firsts seconds) [], length-table (n * n) (score_at n firsts seconds)))
 
     -- The cost of a row and a column is the score of their references.
     pub cost_scored : (i j : ℕ) → i < n → j < n → score (reference i firsts) (reference j seconds) ≡ Total ((square n (scores n firsts seconds)).cost i j)

@@ -40,9 +40,9 @@ module _ (b : ℕ) (e : known b ≡ true) where
       ]
 
 -- A cost is at most 9, and 0 for equal bytes.
-pub cost-small : (a b : ℕ) → character_cost a b ≤ 9
+pub cost_small : (a b : ℕ) → character_cost a b ≤ 9
 unfolding character_cost
-cost-small a b =
+cost_small a b =
     cond_cases (eqb a b) (λ c. c ≤ 9) 0 _ (λ e. omega arith)
     (λ e. cond_cases (look_alike a b) (λ c. c ≤ 9) 2 9 (λ d. omega arith) (λ d. omega arith))
 

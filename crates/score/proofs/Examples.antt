@@ -44,9 +44,9 @@ second_short : (values_of (score lower (65 ∷ []))).place ≡ 2
 unfolding lower table score score_tests score_of character_cost totalled ◌then◌ fails_by fails_at_by first upward turns sum
 second_short = refl
 
-second-lower : (values_of (score plain lower)).place ≡ 12
+second_lower : (values_of (score plain lower)).place ≡ 12
 unfolding plain lower table score score_tests score_of character_cost totalled ◌then◌ fails_by fails_at_by first upward turns sum
-second-lower = refl
+second_lower = refl
 
 -- Two references each: rows of the first list, and the last byte of the room as it was.
 sheet : score_sheet (plain ++ other) (alike ++ plain) (replicate 29 7)

@@ -11,11 +11,11 @@ use Rattle.ints.specs.Parts.{Within}
 use Rattle.ints.proofs.Shapes.{zlin}
 use Rattle.lists.specs.Permutations.{at}
 use Rattle.lists.specs.Sums.{sum}
-use Rattle.lists.proofs.Sums.{sum_cong, sum_zero, sum_add, sum_le, sum_le_tight, sum-within}
+use Rattle.lists.proofs.Sums.{sum_cong, sum_zero, sum_add, sum_le, sum_le_tight, sum_within}
 use Rattle.matrix.specs.declared.Answer.TheVariants.{Total}
 use Rattle.score.specs.Characters.{Reference, character_cost}
 use Rattle.score.specs.Score.{score_of, score}
-use Rattle.score.proofs.CharacterCosts.{cost-small, cost-same, cost_symmetric, cost_zero, cost_detour}
+use Rattle.score.proofs.CharacterCosts.{cost_small, cost-same, cost_symmetric, cost_zero, cost_detour}
 use Rattle.score.proofs.Scores.{score_iff}
 
 -- What the characters at k cost.
@@ -24,9 +24,9 @@ costs x y k = pos (character_cost (at x k) (at y k))
 
 -- ---- the sum
 
-pub sum-small : (x y : List ℕ) → Within 108 (score_of x y)
+pub sum_small : (x y : List ℕ) → Within 108 (score_of x y)
 unfolding score_of
-sum-small x y = sum-within 12 9 (costs x y) (λ k l. omega (arith, cost-small (at x k) (at y k)))
+sum_small x y = sum_within 12 9 (costs x y) (λ k l. omega (arith, cost_small (at x k) (at y k)))
 
 sum_same : (x : List ℕ) → score_of x x ≡ pos 0
 unfolding score_of

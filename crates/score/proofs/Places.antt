@@ -21,16 +21,16 @@ module _ (n k : ℕ) (h : k < n * n) where
   pub row_below : k / n < n
   row_below = (div-lt_iff_lt-mul {k = n} {x = k} {y = n} side_positive).1 h
 
-  pub column-below : k % n < n
-  column-below = mod-lt k side_positive
+  pub column_below : k % n < n
+  column_below = mod-lt k side_positive
 
 -- A reference of a list that passed its tests.
 module _ (n : ℕ) (list : List ℕ) (l : Known (12 * n) list) (i : ℕ) (h : i < n) where
-  pub reference-inside : 12 * i + 12 ≤ length list
-  reference-inside = omega (arith, l.size)
+  pub reference_inside : 12 * i + 12 ≤ length list
+  reference_inside = omega (arith, l.size)
 
   pub reference-known : Reference (reference i list)
   reference-known = record {
-    size = part_length (12 * i) 12 list reference-inside;
+    size = part_length (12 * i) 12 list reference_inside;
     known = λ p m. ap known (part_at (12 * i) 12 list p 0 m) ∙ l.known (12 * i + p) (omega arith);
   }

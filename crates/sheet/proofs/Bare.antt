@@ -7,9 +7,9 @@ use Rattle.matrix.proofs.Verdicts.{bare_then, bare_if, bare-at}
 use Rattle.sheet.specs.Reading.{Laid, sheet_tests, night_tests}
 
 -- The tests before the costs, and those of the night.
-pub sheet-bare : (room : ℕ) (sheet : List ℕ) (laid : Laid) → (bare (sheet_tests room sheet) ≡ sheet_tests room sheet) × (bare (night_tests laid) ≡ night_tests laid)
+pub sheet_bare : (room : ℕ) (sheet : List ℕ) (laid : Laid) → (bare (sheet_tests room sheet) ≡ sheet_tests room sheet) × (bare (night_tests laid) ≡ night_tests laid)
 unfolding sheet_tests
-sheet-bare room sheet laid = (
+sheet_bare room sheet laid = (
   bare_then _ _
       (bare_then _ _
       (bare_then _ _

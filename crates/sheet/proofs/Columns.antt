@@ -15,8 +15,8 @@ use Rattle.lapjv.specs.Solve.{Lent, Outcome, outcome_of, tested, solve}
 use Rattle.lapjv.proofs.Tests.{tested_iff, passes_paired, fails_refused}
 use Rattle.lapjv.proofs.Owed.{solved_owes}
 
-pub paired-inside : (n : ℕ) (costs : List ℤ) (lent : Lent) (found : Sums) (l : Lent) → outcome_of (Paired found) l ≡ solve n costs lent → (i : ℕ) → i < n → at l.cols i < n
-paired-inside n costs lent found l e i h = by (tested n costs lent) refl
+pub paired_inside : (n : ℕ) (costs : List ℤ) (lent : Lent) (found : Sums) (l : Lent) → outcome_of (Paired found) l ≡ solve n costs lent → (i : ℕ) → i < n → at l.cols i < n
+paired_inside n costs lent found l e i h = by (tested n costs lent) refl
   where
     by : (v : Verdict) → tested n costs lent ≡ v → at l.cols i < n
     by Passed f =
@@ -24,7 +24,7 @@ paired-inside n costs lent found l e i h = by (tested n costs lent) refl
         let owed = solved_owes n costs lent p in
         let cols = (answer n costs).cols in
         let same : l.cols ≡ cols ++ drop n lent.cols = ap (λ (o : Outcome). o.lent.cols) (e ∙ passes_paired n costs lent p) in
-        subst (λ (j : ℕ). j < n) (sym (get_or-append cols (drop n lent.cols) 0 i (omega (arith, owed.cols-size))) ∙ ap (λ (c : List ℕ). at c i) (sym same)) (owed.named.inside i h)
+        subst (λ (j : ℕ). j < n) (sym (get_or-append cols (drop n lent.cols) 0 i (omega (arith, owed.cols_size))) ∙ ap (λ (c : List ℕ). at c i) (sym same)) (owed.named.inside i h)
     by (Fails refusal) f =
         let z : ◌≡◌ {A = ℕ} 0 1 = cc (ap (λ (o : Outcome). o.answer) (e ∙ fails_refused n costs lent refusal f)) in
         absurd (omega arith)

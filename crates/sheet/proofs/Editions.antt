@@ -10,19 +10,19 @@ use Rattle.layout.specs.Slips.{row_count_length}
 use Rattle.matrix.specs.Limits.{K}
 use Rattle.sheet.specs.Reading.{has_bars, distance_due, cost_most}
 use Rattle.bars.specs.Tests.{barred_most}
-use Rattle.bars.proofs.Passed.{barred_most-small}
+use Rattle.bars.proofs.Passed.{barred_most_small}
 
 -- Of two numbers the one or the other.
 either : (B : ℕ → Type 0) (t : Bool) (a b : ℕ) → B a → B b → B (cond t a b)
 either B true a b x y = x
 either B false a b x y = y
 
-pub cost_most-within : (edition : ℕ) → cost_most edition ≤ K
-cost_most-within edition = either (λ (m : ℕ). m ≤ K) (has_bars edition) barred_most K barred_most-small (omega arith)
+pub cost_most_within : (edition : ℕ) → cost_most edition ≤ K
+cost_most_within edition = either (λ (m : ℕ). m ≤ K) (has_bars edition) barred_most K barred_most_small (omega arith)
 
 -- What an edition adds to the costs is short, and so is the whole distance.
-pub bars-short : (edition n : ℕ) → cond (has_bars edition) (8 * n) 0 ≤ 8 * n
-bars-short edition n = either (λ (k : ℕ). k ≤ 8 * n) (has_bars edition) (8 * n) 0 (omega arith) (omega arith)
+pub bars_short_lem : (edition n : ℕ) → cond (has_bars edition) (8 * n) 0 ≤ 8 * n
+bars_short_lem edition n = either (λ (k : ℕ). k ≤ 8 * n) (has_bars edition) (8 * n) 0 (omega arith) (omega arith)
 
 pub count-short : (edition : ℕ) → row_count_length edition ≤ 2
 count-short edition = either (λ (k : ℕ). k ≤ 2) (has_row_count edition) 2 0 (omega arith) (omega arith)
@@ -31,14 +31,14 @@ pub due_short : (edition m n : ℕ) → m ≤ n → n ≤ 64 → distance_due ed
 due_short edition m n f h =
     let fewer : m ≤ 64 = omega (arith, f, h) in
     let few : m * n ≤ 4096 = mul-le-mul fewer h in
-    omega (arith, bars-short edition n, count-short edition)
+    omega (arith, bars_short_lem edition n, count-short edition)
 
 -- No edition has both bars and a row count.
 pub barred_uncounted : (edition : ℕ) → has_bars edition ≡ true → has_row_count edition ≡ false
 barred_uncounted edition e = ne_eqb edition 3 (λ f. absurd (omega (arith, eqb-true edition 2 e)))
 
-pub counted-unbarred : (edition : ℕ) → has_row_count edition ≡ true → has_bars edition ≡ false
-counted-unbarred edition e = ne_eqb edition 2 (λ f. absurd (omega (arith, eqb-true edition 3 e)))
+pub counted_unbarred : (edition : ℕ) → has_row_count edition ≡ true → has_bars edition ≡ false
+counted_unbarred edition e = ne_eqb edition 2 (λ f. absurd (omega (arith, eqb-true edition 3 e)))
 
 -- The edition with bars, and any other.
 pub with_bars : {edition : ℕ} → edition ≡ 2 → has_bars edition ≡ true

@@ -31,9 +31,9 @@ use Rattle.sheet.specs.Settle.{pair}
 sheet : List ℕ
 sheet = 0x07 ∷ 0 ∷ 0 ∷ 0 ∷ 0x04 ∷ 0 ∷ 0 ∷ 0 ∷ 0x01 ∷ 0 ∷ 0x01 ∷ 0 ∷ 0x4D ∷ 0x54 ∷ 0x43 ∷ 0x48 ∷ []
 
-sheet-read : read 38 sheet ≡ night (record { edition = 1; row_count = 1; side = 1; costs = pos 7 ∷ []; bars = 0 ∷ [] })
+sheet_read : read 38 sheet ≡ night (record { edition = 1; row_count = 1; side = 1; costs = pos 7 ∷ []; bars = 0 ∷ [] })
 unfolding sheet bytes_of value_of fields table turns upward first K ◌then◌ fails_by fails_at_by sheet_side sheet_most note_most barred_most sheet_tests read
-sheet-read = refl
+sheet_read = refl
 
 -- The same sheet paired in a room of 40 bytes: the slip, and the last two bytes as they were.
 paired : pair sheet (replicate 40 9) ≡ record { number = 0; slip = slip_of 1 1 1 (0 ∷ []) (pos 0 ∷ []) (pos 7 ∷ []) (pos 7) ++ (9 ∷ 9 ∷ []) }

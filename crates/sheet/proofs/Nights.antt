@@ -22,7 +22,7 @@ use Rattle.rules.specs.Run.{Result}
 use Rattle.rules.specs.Right.{Right}
 use Rattle.sheet.specs.Reading.{cost_most, Laid, night, read}
 use Rattle.sheet.specs.Settle.{solved_costs, found, barred_row}
-use Rattle.sheet.proofs.Editions.{counted-unbarred}
+use Rattle.sheet.proofs.Editions.{counted_unbarred}
 use Rattle.sheet.proofs.Solver as solver
 use Rattle.sheet.proofs.Pairing.{Readable, read_right}
 use Rattle.sheet.proofs.Pairing as pairing
@@ -54,37 +54,37 @@ module _ (sheet : List ℕ) (room : ℕ) (laid : Laid) (e : read room sheet ≡ 
   below i h l = by (has_row_count laid.edition) refl
     where
       by : (t : Bool) → has_row_count laid.edition ≡ t → at laid.bars i ≡ 0
-      by true c = ap (λ (b : List ℕ). at b i) (readable.unbarred (counted-unbarred laid.edition c)) ∙ get_or-replicate {A = ℕ} n i 0 0 l
+      by true c = ap (λ (b : List ℕ). at b i) (readable.unbarred (counted_unbarred laid.edition c)) ∙ get_or-replicate {A = ℕ} n i 0 0 l
       by false c = absurd (omega (arith, readable.square c))
 
   -- No pair of the K-filled square is barred.
   module _ (free : n ≤ barred_row laid) where
-    square-feasible : Feasible (night_of n n laid.costs laid.bars) a.prices_of_rows a.prices_of_columns
-    square-feasible = bars.barred-feasible n (pos K) laid.costs laid.bars a.prices_of_rows a.prices_of_columns owed.feasible
+    square_feasible : Feasible (night_of n n laid.costs laid.bars) a.prices_of_rows a.prices_of_columns
+    square_feasible = bars.barred_feasible n (pos K) laid.costs laid.bars a.prices_of_rows a.prices_of_columns owed.feasible
 
-    square-pairing : Pairing (night_of n n laid.costs laid.bars) a.cols
-    square-pairing = bars.barred-pairing n (pos K) laid.costs laid.bars a.cols owed.pairing free
+    square_pairing : Pairing (night_of n n laid.costs laid.bars) a.cols
+    square_pairing = bars.barred_pairing n (pos K) laid.costs laid.bars a.cols owed.pairing free
 
-    square-tight : Tight (night_of n n laid.costs laid.bars) a.prices_of_rows a.prices_of_columns a.cols
-    square-tight = bars.barred-tight n (pos K) laid.costs laid.bars a.cols owed.pairing free a.prices_of_rows a.prices_of_columns owed.tight
+    square_tight : Tight (night_of n n laid.costs laid.bars) a.prices_of_rows a.prices_of_columns a.cols
+    square_tight = bars.barred_tight n (pos K) laid.costs laid.bars a.cols owed.pairing free a.prices_of_rows a.prices_of_columns owed.tight
 
-    pub night-feasible : Feasible sheet_night a.prices_of_rows a.prices_of_columns
-    night-feasible = padded.rows-feasible m n laid.costs laid.bars readable.filled readable.fewer below a.prices_of_rows a.prices_of_columns square-feasible
+    pub night_feasible : Feasible sheet_night a.prices_of_rows a.prices_of_columns
+    night_feasible = padded.rows_feasible m n laid.costs laid.bars readable.filled readable.fewer below a.prices_of_rows a.prices_of_columns square_feasible
 
-    pub night-pairing : Pairing sheet_night (take m a.cols)
-    night-pairing = padded.rows-pairing m n laid.costs laid.bars readable.filled readable.fewer below a.prices_of_rows a.prices_of_columns square-feasible a.cols square-pairing square-tight
+    pub night_pairing : Pairing sheet_night (take m a.cols)
+    night_pairing = padded.rows_pairing m n laid.costs laid.bars readable.filled readable.fewer below a.prices_of_rows a.prices_of_columns square_feasible a.cols square_pairing square_tight
 
-    pub night-tight : Tight sheet_night a.prices_of_rows a.prices_of_columns (take m a.cols)
-    night-tight = padded.rows-tight m n laid.costs laid.bars readable.filled readable.fewer below a.prices_of_rows a.prices_of_columns square-feasible a.cols square-pairing square-tight
+    pub night_tight : Tight sheet_night a.prices_of_rows a.prices_of_columns (take m a.cols)
+    night_tight = padded.rows_tight m n laid.costs laid.bars readable.filled readable.fewer below a.prices_of_rows a.prices_of_columns square_feasible a.cols square_pairing square_tight
 
-    pub night-spares : SparesNotBelow sheet_night a.prices_of_columns (take m a.cols)
-    night-spares = padded.rows-spares m n laid.costs laid.bars readable.filled readable.fewer below a.prices_of_rows a.prices_of_columns square-feasible a.cols square-pairing square-tight
+    pub night_spares : SparesNotBelow sheet_night a.prices_of_columns (take m a.cols)
+    night_spares = padded.rows_spares m n laid.costs laid.bars readable.filled readable.fewer below a.prices_of_rows a.prices_of_columns square_feasible a.cols square_pairing square_tight
 
     -- What is paired, in the slip and in the program's lines, is least among the pairings of the night.
-    pub night-least : Least sheet_night (take m a.cols)
-    night-least = padded.rows-least m n laid.costs laid.bars readable.filled readable.fewer below a.prices_of_rows a.prices_of_columns square-feasible a.cols square-pairing square-tight
+    pub night_least : Least sheet_night (take m a.cols)
+    night_least = padded.rows_least m n laid.costs laid.bars readable.filled readable.fewer below a.prices_of_rows a.prices_of_columns square_feasible a.cols square_pairing square_tight
 
-    pub night-total : a.total ≡ total sheet_night (take m a.cols)
-    night-total =
+    pub night_total : a.total ≡ total sheet_night (take m a.cols)
+    night_total =
         owed.total_is ∙ bars.barred-total n (pos K) laid.costs laid.bars a.cols owed.pairing free
-        ∙ padded.rows-total m n laid.costs laid.bars readable.filled readable.fewer below a.prices_of_rows a.prices_of_columns square-feasible a.cols square-pairing square-tight
+        ∙ padded.rows_total m n laid.costs laid.bars readable.filled readable.fewer below a.prices_of_rows a.prices_of_columns square_feasible a.cols square_pairing square_tight

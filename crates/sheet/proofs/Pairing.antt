@@ -8,7 +8,7 @@ use native.Mathlib.Nat.{mul-le-mul}
 use native.Mathlib.Omega.{arith}
 use Rattle.lists.specs.Parts.{part}
 use Rattle.lists.specs.Permutations.{at}
-use Rattle.lists.proofs.Parts.{part-short, part-inside, part_at}
+use Rattle.lists.proofs.Parts.{part-short, part_inside, part_at}
 use lib.Dec.{ltb, lit<}
 use lib.IntN.{ℤ}
 use lib.ListN.{length, take, drop, replicate, length-append, length-drop, length-replicate}
@@ -26,27 +26,27 @@ use Rattle.matrix.specs.Verdicts.{Passes}
 use Rattle.matrix.specs.declared.Verdict.{Verdict}
 use Rattle.matrix.specs.declared.Verdict.TheVariants.{Passed, Fails}
 use Rattle.matrix.specs.declared.Refusal.{Refusal}
-use Rattle.matrix.proofs.SmallLimits.{sheet_side-small}
+use Rattle.matrix.proofs.SmallLimits.{sheet_side_small}
 use Rattle.matrix.proofs.Verdicts as verdicts
-use Rattle.matrix.proofs.Verdicts.{then_iff, then_small, fails_if-small, fails_at-small}
+use Rattle.matrix.proofs.Verdicts.{then_iff, then_small, fails_if_small, fails_at_small}
 use Rattle.sheet.specs.declared.State.{State}
 use Rattle.sheet.specs.declared.Reply.TheVariants.{Accepted, Refused, Blocked}
 use Rattle.sheet.specs.declared.Settled.{Settled}
-use Rattle.sheet.specs.Reading.{sheet_most, has_bars, rows_of, Laid, laid_of, trailed, rows_fit, pointed, unfit, note_fit, sheet_tests, night_tests, Read, refused, night, night_if, read_if, read}
+use Rattle.sheet.specs.Reading.{sheet_most, has_bars, rows_of, Laid, laid_of, trailed, rows_fit_lem, pointed, unfit, note_fit, sheet_tests, night_tests, Read, refused, night, night_if, read_if, read}
 use Rattle.sheet.specs.Settle.{fresh, found, ended, barred_row, rows_shown, blocked_with, accepted_with, settled_as, Delivery, blocked_as, slip_as, paired_as}
-use Rattle.sheet.proofs.Limits.{sheet_most-small}
-use Rattle.sheet.proofs.Passing.{trailed-passed, tests_passed}
+use Rattle.sheet.proofs.Limits.{sheet_most_small}
+use Rattle.sheet.proofs.Passing.{trailed_passed, tests_passed}
 
 -- ---- what was read
 
-trailed-small : (sheet : List ℕ) → verdicts.Small (trailed sheet)
-trailed-small sheet =
+trailed_small : (sheet : List ℕ) → verdicts.Small (trailed sheet)
+trailed_small sheet =
     then_small _ _
-    (then_small _ _ (then_small _ _ (fails_if-small _ _ _ (lit< tt) (λ e. lit< tt)) (λ e. fails_if-small _ _ _ (lit< tt) (λ e. lit< tt))) (λ e. fails_if-small _ _ _ (lit< tt) (λ e. lit< tt)))
-    (λ e. fails_if-small _ _ _ (lit< tt) (λ e. lit< tt))
+    (then_small _ _ (then_small _ _ (fails_if_small _ _ _ (lit< tt) (λ e. lit< tt)) (λ e. fails_if_small _ _ _ (lit< tt) (λ e. lit< tt))) (λ e. fails_if_small _ _ _ (lit< tt) (λ e. lit< tt)))
+    (λ e. fails_if_small _ _ _ (lit< tt) (λ e. lit< tt))
 
-pointed-small : (sheet : List ℕ) → verdicts.Small (pointed sheet)
-pointed-small sheet = then_small _ _ (fails_if-small _ _ _ (lit< tt) (λ e. lit< tt)) (λ e. fails_if-small _ _ _ (lit< tt) (λ e. lit< tt))
+pointed_small : (sheet : List ℕ) → verdicts.Small (pointed sheet)
+pointed_small sheet = then_small _ _ (fails_if_small _ _ _ (lit< tt) (λ e. lit< tt)) (λ e. fails_if_small _ _ _ (lit< tt) (λ e. lit< tt))
 
 -- A row count is two bytes, and so is a side.
 abbrev pub Bytes : List ℕ → Type 0
@@ -55,10 +55,10 @@ Bytes sheet = (k : ℕ) → k < length sheet → at sheet k < 256
 two_bytes : (sheet : List ℕ) → Bytes sheet → (a : ℕ) → value_of (part a 2 sheet) < 256 ^ 2
 two_bytes sheet bytes a =
     value_below (part a 2 sheet) 2 (part-short a 2 sheet)
-    (λ i l. rw (part_at a 2 sheet i 0 (omega (arith, part-short a 2 sheet))) (bytes (a + i) (part-inside a 2 sheet i l)))
+    (λ i l. rw (part_at a 2 sheet i 0 (omega (arith, part-short a 2 sheet))) (bytes (a + i) (part_inside a 2 sheet i l)))
 
-rows-small : (sheet : List ℕ) → Bytes sheet → verdicts.Small (rows_fit sheet)
-rows-small sheet bytes = then_small _ _ (fails_if-small _ _ _ (lit< tt) (λ e. lit< tt)) (λ e. fails_if-small _ _ _ (lit< tt) (λ f. by (has_row_count (edition_of sheet))))
+rows_small : (sheet : List ℕ) → Bytes sheet → verdicts.Small (rows_fit_lem sheet)
+rows_small sheet bytes = then_small _ _ (fails_if_small _ _ _ (lit< tt) (λ e. lit< tt)) (λ e. fails_if_small _ _ _ (lit< tt) (λ f. by (has_row_count (edition_of sheet))))
   where
     by : (t : Bool) → cond t (row_count_of sheet) (side_of sheet) < 2 ^ 48
     by true = omega (arith, two_bytes sheet bytes (length sheet - 14))
@@ -66,16 +66,16 @@ rows-small sheet bytes = then_small _ _ (fails_if-small _ _ _ (lit< tt) (λ e. l
 
 -- A position of the note is one of the sheet, which is short.
 note_small : (sheet : List ℕ) → length sheet ≤ sheet_most → verdicts.Small (note_fit sheet)
-note_small sheet short = fails_at-small _ (λ k. k) _ (unfit sheet) (lit< tt) (λ k l. omega (arith, sheet_most-small))
+note_small sheet short = fails_at_small _ (λ k. k) _ (unfit sheet) (lit< tt) (λ k l. omega (arith, sheet_most_small))
 
 tests_small : (room : ℕ) (sheet : List ℕ) → Bytes sheet → verdicts.Small (sheet_tests room sheet)
 unfolding sheet_tests
 tests_small room sheet bytes =
     then_small _ _
     (then_small _ _
-    (then_small _ _ (then_small _ _ (trailed-small sheet) (λ e. rows-small sheet bytes)) (λ e. pointed-small sheet))
-    (λ e. note_small sheet (trailed-passed sheet ((then_iff _ _).0 ((then_iff _ _).0 e).0).0).2))
-    (λ e. fails_if-small _ _ _ (lit< tt) (λ e. lit< tt))
+    (then_small _ _ (then_small _ _ (trailed_small sheet) (λ e. rows_small sheet bytes)) (λ e. pointed_small sheet))
+    (λ e. note_small sheet (trailed_passed sheet ((then_iff _ _).0 ((then_iff _ _).0 e).0).0).2))
+    (λ e. fails_if_small _ _ _ (lit< tt) (λ e. lit< tt))
 
 -- What is known of a night that was read: state and room are large enough, and its costs and bars are within their limits.
 pub record Readable (room : ℕ) (laid : Laid) : Type 0 where
@@ -99,13 +99,13 @@ night_right room sheet laid Passed h f = f refl
 night_right room sheet laid (Fails refusal) h f = λ bytes. h
 
 -- A place in the costs or among the rows is small.
-night-small : (laid : Laid) → laid.row_count ≤ 64 → laid.side ≤ 64 → length laid.costs ≡ laid.row_count * laid.side → verdicts.Small (night_tests laid)
-night-small laid rows few size =
-    then_small _ _ (fails_at-small _ _ _ _ (lit< tt) (λ k l. omega (arith, size, mul-le-mul rows few))) (λ e. fails_at-small _ _ _ _ (lit< tt) (λ i l. omega (arith, few)))
+night_small : (laid : Laid) → laid.row_count ≤ 64 → laid.side ≤ 64 → length laid.costs ≡ laid.row_count * laid.side → verdicts.Small (night_tests laid)
+night_small laid rows few size =
+    then_small _ _ (fails_at_small _ _ _ _ (lit< tt) (λ k l. omega (arith, size, mul-le-mul rows few))) (λ e. fails_at_small _ _ _ _ (lit< tt) (λ i l. omega (arith, few)))
 
-bars-size : (t : Bool) (n : ℕ) (sheet : List ℕ) → length (cond t (bars_at n sheet) (replicate n 0)) ≡ n
-bars-size true n sheet = length_fields _ _ 8 n sheet
-bars-size false n sheet = length-replicate n 0
+bars_size : (t : Bool) (n : ℕ) (sheet : List ℕ) → length (cond t (bars_at n sheet) (replicate n 0)) ≡ n
+bars_size true n sheet = length_fields _ _ 8 n sheet
+bars_size false n sheet = length-replicate n 0
 
 pub read_right : (room : ℕ) (sheet : List ℕ) → ReadRight room sheet (read room sheet)
 unfolding read
@@ -117,16 +117,16 @@ read_right room sheet = by (sheet_tests room sheet) refl (tests_small room sheet
         let p = tests_passed room sheet e in
         let m = rows_of sheet in
         let n = side_of sheet in
-        let few : n ≤ 64 = omega (arith, p.counted.small, sheet_side-small) in
+        let few : n ≤ 64 = omega (arith, p.counted.small, sheet_side_small) in
         let size : length (costs_at (distance_of sheet) (m * n) sheet) ≡ m * n = length_fields _ _ 4 (m * n) sheet in
-        night_right room sheet (laid_of sheet) (night_tests (laid_of sheet)) (night-small (laid_of sheet) (omega (arith, p.counted.fewer, few)) few size)
-        (λ passes. record { small = p.counted.small; few = few; fewer = p.counted.fewer; roomy = p.roomy; filled = size; square = λ h. ap (λ (t : Bool). cond t (row_count_of sheet) n) h; rows = bars-size (has_bars (edition_of sheet)) n sheet; unbarred = λ h. ap (λ (t : Bool). cond t (bars_at n sheet) (replicate n 0)) h; passes = passes })
+        night_right room sheet (laid_of sheet) (night_tests (laid_of sheet)) (night_small (laid_of sheet) (omega (arith, p.counted.fewer, few)) few size)
+        (λ passes. record { small = p.counted.small; few = few; fewer = p.counted.fewer; roomy = p.roomy; filled = size; square = λ h. ap (λ (t : Bool). cond t (row_count_of sheet) n) h; rows = bars_size (has_bars (edition_of sheet)) n sheet; unbarred = λ h. ap (λ (t : Bool). cond t (bars_at n sheet) (replicate n 0)) h; passes = passes })
 
 -- ---- what is settled
 
 -- The state's arrays are as long as their types say.
 pub record Sized (state : State) : Type 0 where
-  pub cols-size : length state.cols ≡ 64
+  pub cols_size : length state.cols ≡ 64
   pub row_prices_size : length state.row_prices ≡ 64
   pub column_prices_size : length state.col_prices ≡ 64
 
@@ -144,16 +144,16 @@ module _ (sheet room : List ℕ) (s : Settled) where
   reply_is x e = ap (λ (t : Settled). t.reply) e
 
   -- The two ways in which a night ends: with or without rows to show.
-  night-refused : (laid : Laid) (t : Bool) → (refusal : Refusal) → (cond t (blocked_with laid) (accepted_with laid)).reply ≡ Refused refusal → ⊥
-  night-refused laid true refusal v = let z : ◌≡◌ {A = ℕ} 0 1 = cc in absurd (omega arith)
-  night-refused laid false refusal v = let z : ◌≡◌ {A = ℕ} 0 1 = cc in absurd (omega arith)
+  night_refused : (laid : Laid) (t : Bool) → (refusal : Refusal) → (cond t (blocked_with laid) (accepted_with laid)).reply ≡ Refused refusal → ⊥
+  night_refused laid true refusal v = let z : ◌≡◌ {A = ℕ} 0 1 = cc in absurd (omega arith)
+  night_refused laid false refusal v = let z : ◌≡◌ {A = ℕ} 0 1 = cc in absurd (omega arith)
 
   pub refused-outcome : Bytes sheet → (x : Read) → ReadRight (length room) sheet x → s ≡ settled_as x → (refusal : Refusal) → s.reply ≡ Refused refusal
       → (Tellable refusal) × (◌≡◌ {A = Delivery} (record { number = code_of refusal; slip = room }) (paired_as room x))
   refused-outcome bytes (refused given) right e refusal v =
       let same : given ≡ refusal = cc (reply_is (refused given) e) in
       (subst Tellable same (right bytes), ap (λ (r : Refusal). record { number = code_of r; slip = room }) (sym same))
-  refused-outcome bytes (night laid) right e refusal v = absurd (night-refused laid (ltb (barred_row laid) laid.side) refusal (sym (reply_is (night laid) e) ∙ v))
+  refused-outcome bytes (night laid) right e refusal v = absurd (night_refused laid (ltb (barred_row laid) laid.side) refusal (sym (reply_is (night laid) e) ∙ v))
 
   -- Rows that are shown.
   shown_by : (laid : Laid) (t : Bool) (rows : ℕ) → (cond t (blocked_with laid) (accepted_with laid)).reply ≡ Blocked rows
@@ -185,7 +185,7 @@ module _ (sheet room : List ℕ) (s : Settled) where
       let same_rows : m ≡ laid.row_count = cc r in
       let same-side : n ≡ side = cc r in
       let sum : total ≡ a.total = cc r in
-      let cols = front a.cols fresh.cols side refl (sym (ap (λ (t : State). length t.cols) d) ∙ sized.cols-size) right.few in
+      let cols = front a.cols fresh.cols side refl (sym (ap (λ (t : State). length t.cols) d) ∙ sized.cols_size) right.few in
       let rows = front a.prices_of_rows fresh.row_prices side refl (sym (ap (λ (t : State). length t.row_prices) d) ∙ sized.row_prices_size) right.few in
       let columns = front a.prices_of_columns fresh.col_prices side refl (sym (ap (λ (t : State). length t.col_prices) d) ∙ sized.column_prices_size) right.few in
       (same-edition, same_rows, same-side, rw (same-edition, same_rows, same-side, sum, d, front_shorter laid.row_count side right.fewer (ended laid).cols cols, front_shorter laid.row_count side right.fewer (ended laid).row_prices rows, columns))

@@ -11,7 +11,7 @@ use Rattle.layout.specs.Slips.{slip_length}
 use Rattle.matrix.specs.Limits.{sheet_side}
 use Rattle.matrix.specs.Verdicts.{Passes, ◌then◌}
 use Rattle.matrix.proofs.Verdicts.{then_iff, fails_if_iff}
-use Rattle.sheet.specs.Reading.{sheet_most, rows_of, distance_due, laid_at, laid_of, trailed, rows_fit, pointed, sheet_tests}
+use Rattle.sheet.specs.Reading.{sheet_most, rows_of, distance_due, laid_at, laid_of, trailed, rows_fit_lem, pointed, sheet_tests}
 use Rattle.sheet.specs.Asked.{Ended, Counted}
 
 -- A sheet that is not refused by 11 has a trailer.
@@ -23,8 +23,8 @@ has-trailer mark sheet e = ltb-false (length sheet) 12 (left _ _ e)
     left false b f = refl
 
 -- 17, 11, 12, 13.
-pub trailed-passed : (sheet : List ℕ) → Passes (trailed sheet) → (12 ≤ length sheet) × (side_of sheet ≤ sheet_side) × (length sheet ≤ sheet_most)
-trailed-passed sheet p =
+pub trailed_passed : (sheet : List ℕ) → Passes (trailed sheet) → (12 ≤ length sheet) × (side_of sheet ≤ sheet_side) × (length sheet ≤ sheet_most)
+trailed_passed sheet p =
     let t13 = (then_iff _ _).0 p in
     let t12 = (then_iff _ _).0 t13.0 in
     let t11 = (then_iff _ _).0 t12.0 in (
@@ -34,10 +34,10 @@ trailed-passed sheet p =
     )
 
 -- 23.
-pub rows-passed : (sheet : List ℕ) → Passes (trailed sheet then rows_fit sheet) → Counted sheet
-rows-passed sheet p =
+pub rows_passed : (sheet : List ℕ) → Passes (trailed sheet then rows_fit_lem sheet) → Counted sheet
+rows_passed sheet p =
     let t23 = (then_iff _ _).0 p in
-    let ends = trailed-passed sheet t23.0 in
+    let ends = trailed_passed sheet t23.0 in
     let counts = (then_iff _ _).0 t23.1 in
     record {
       ended = record { long = ends.0; counted = (fails_if_iff _ _ _).0 counts.0 };
@@ -46,9 +46,9 @@ rows-passed sheet p =
     }
 
 -- 14, 15.
-pub pointed-passed : (sheet : List ℕ) → 12 ≤ length sheet → Passes (pointed sheet)
+pub pointed_passed : (sheet : List ℕ) → 12 ≤ length sheet → Passes (pointed sheet)
     → (distance_of sheet ≡ distance_due (edition_of sheet) (rows_of sheet) (side_of sheet)) × (distance_of sheet + 12 ≤ length sheet)
-pointed-passed sheet long p =
+pointed_passed sheet long p =
     let t15 = (then_iff _ _).0 p in (
       eqb-true _ _ (not-false _ ((fails_if_iff _ _ _).0 t15.0)),
       omega (arith, ltb-false (length sheet - 12) (distance_of sheet) ((fails_if_iff _ _ _).0 t15.1)),
@@ -73,8 +73,8 @@ module _ (room : ℕ) (sheet : List ℕ) where
       let t16 = (then_iff _ _).0 p in
       let t21 = (then_iff _ _).0 t16.0 in
       let t15 = (then_iff _ _).0 t21.0 in
-      let counts = rows-passed sheet t15.0 in
-      let points = pointed-passed sheet counts.ended.long t15.1 in
+      let counts = rows_passed sheet t15.0 in
+      let points = pointed_passed sheet counts.ended.long t15.1 in
       record {
         counted = counts;
         distance = points.0;

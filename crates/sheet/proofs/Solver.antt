@@ -31,7 +31,7 @@ use Rattle.matrix.specs.Refusals.{BarsPastSide}
 use Rattle.matrix.specs.Tests.{costs_in}
 use Rattle.matrix.specs.declared.Verdict.{Verdict}
 use Rattle.matrix.specs.declared.Verdict.TheVariants.{Passed, Fails}
-use Rattle.matrix.proofs.SmallLimits.{sheet_side-small, sheet_side-within}
+use Rattle.matrix.proofs.SmallLimits.{sheet_side_small, sheet_side_within}
 use Rattle.matrix.proofs.Verdicts.{then_iff, fails_at_cong}
 use Rattle.matrix.proofs.Passed.{costs_in_lem}
 use Rattle.rules.specs.Run.{Result}
@@ -48,7 +48,7 @@ use Rattle.sheet.specs.declared.Settled.{Settled}
 use Rattle.sheet.specs.Reading.{has_bars, rows_of, distance_due, cost_most, Laid, laid_at, bars_in, night_tests, night_if, night_tested, read_if, sheet_tests, read, night}
 use Rattle.sheet.specs.Settle.{fresh, lent, state_of, solved_costs, found, ended, settled_as, settled}
 use Rattle.sheet.specs.Steps.{read_into, bars_into, filled_in, settled_by, solved_in, state_tests, settled_if, settled_in}
-use Rattle.sheet.proofs.Editions.{cost_most-within}
+use Rattle.sheet.proofs.Editions.{cost_most_within}
 use Rattle.sheet.proofs.Passing.{tests_passed, laid_found}
 
 -- A list of one entry again and again is its first n and the rest.
@@ -68,9 +68,9 @@ module _ (n : ℕ) (dear : ℤ) (costs : List ℤ) (bars more : List ℕ) (rows 
   bars_front : (i : ℕ) → i < n → at (bars ++ more) i ≡ at bars i
   bars_front i l = get_or-append bars more 0 i (omega arith)
 
-  bars-longer : filled_costs n dear costs (bars ++ more) ≡ filled_costs n dear costs bars
+  bars_longer : filled_costs n dear costs (bars ++ more) ≡ filled_costs n dear costs bars
   unfolding filled_costs
-  bars-longer =
+  bars_longer =
       table_cong (n * n) (filled_at n dear costs (bars ++ more)) (filled_at n dear costs bars)
       (λ k l. ap (λ (b : ℕ). cond (bit_of b (k % n)) dear (signed_at costs k)) (bars_front (k / n) (below-side n k l)))
 
@@ -78,9 +78,9 @@ module _ (n : ℕ) (dear : ℤ) (costs : List ℤ) (bars more : List ℕ) (rows 
 
 module _ (n : ℕ) (dear : ℤ) (costs : List ℤ) (k m : ℕ) (bars : List ℕ) where
   -- They are what stands past the end of the costs.
-  zeros-behind : filled_costs n dear (costs ++ drop k (replicate m (pos 0))) bars ≡ filled_costs n dear costs bars
+  zeros_behind : filled_costs n dear (costs ++ drop k (replicate m (pos 0))) bars ≡ filled_costs n dear costs bars
   unfolding filled_costs
-  zeros-behind =
+  zeros_behind =
       table_cong (n * n) (filled_at n dear (costs ++ drop k (replicate m (pos 0))) bars) (filled_at n dear costs bars)
       (λ i l. ap (cond (bit_of (at bars (i / n)) (i % n)) dear) (by i (dec_lt i (length costs))))
     where
@@ -110,37 +110,37 @@ module _ (edition m n : ℕ) (costs : List ℤ) (bars : List ℕ) (size : length
   abbrev laid : Laid
   laid = record { edition = edition; row_count = m; side = n; costs = costs; bars = bars }
 
-  abbrev bars-kept : List ℕ
-  bars-kept = bars ++ drop n fresh.bars
+  abbrev bars_kept : List ℕ
+  bars_kept = bars ++ drop n fresh.bars
 
   -- The state in which it was read.
   abbrev held : State
-  held = state_of (costs ++ drop (m * n) fresh.costs) bars-kept (lent fresh)
+  held = state_of (costs ++ drop (m * n) fresh.costs) bars_kept (lent fresh)
 
   -- The tests are those of the night.
   tests_same : state_tests edition m n held ≡ night_tests laid
   tests_same =
       ap₂ ◌then◌ (ap (costs_in (pos (cost_most edition))) (take_at costs (drop (m * n) fresh.costs) (m * n) size))
-      (fails_at_cong BarsPastSide n (λ i. i) (λ i. i) (λ i. bits_above n (at bars-kept i)) (λ i. bits_above n (at bars i)) (λ i. refl)
+      (fails_at_cong BarsPastSide n (λ i. i) (λ i. i) (λ i. bits_above n (at bars_kept i)) (λ i. bits_above n (at bars i)) (λ i. refl)
       (λ i l. ap (bits_above n) (bars_front n (pos K) costs bars (drop n fresh.bars) rows i l)))
 
   -- The state with K on barred places.
   abbrev filled-held : State
-  filled-held = state_of (solved_costs laid ++ drop (n * n) fresh.costs) bars-kept (lent fresh)
+  filled-held = state_of (solved_costs laid ++ drop (n * n) fresh.costs) bars_kept (lent fresh)
 
   filled-same : filled_in n held ≡ filled-held
   filled-same =
       let rest = drop (m * n) fresh.costs in
-      ap₂ (λ (l r : List ℤ). state_of (l ++ r) bars-kept (lent fresh)) (zeros-behind n (pos K) costs (m * n) 4096 bars-kept ∙ bars-longer n (pos K) costs bars (drop n fresh.bars) rows)
+      ap₂ (λ (l r : List ℤ). state_of (l ++ r) bars_kept (lent fresh)) (zeros_behind n (pos K) costs (m * n) 4096 bars_kept ∙ bars_longer n (pos K) costs bars (drop n fresh.bars) rows)
       (later_zeros costs 4096 (m * n) (n * n) size (mul-le-mul fewer (omega arith)))
 
   -- No test of the solver can apply.
   module _ (passes : Passes (night_tests laid)) where
     few : n ≤ 64
-    few = omega (arith, sheet_side-small)
+    few = omega (arith, sheet_side_small)
 
-    filled-size : length (solved_costs laid) ≡ n * n
-    filled-size = filled_costs_length n (pos K) costs bars
+    filled_size : length (solved_costs laid) ≡ n * n
+    filled_size = filled_costs_length n (pos K) costs bars
 
     filled_within : (k : ℕ) → k < n * n → Within K (signed_at (solved_costs laid) k)
     filled_within =
@@ -148,51 +148,51 @@ module _ (edition m n : ℕ) (costs : List ℤ) (bars : List ℕ) (size : length
         (λ k l. by k (dec_lt k (length costs)))
       where
         by : (k : ℕ) → Dec (k < length costs) → Within K (signed_at costs k)
-        by k (yes h) = within_mono (cost_most-within edition) ((costs_in_lem (cost_most edition) costs).0 ((then_iff _ _).0 passes).0 k h)
+        by k (yes h) = within_mono (cost_most_within edition) ((costs_in_lem (cost_most edition) costs).0 ((then_iff _ _).0 passes).0 k h)
         by k (no h) = rw (get_or-eq_default costs (pos 0) {n = k} (omega arith)) (record { low = omega arith; high = omega arith })
 
     pub filled_within_all : (k : ℕ) → k < length (solved_costs laid) → Within K (signed_at (solved_costs laid) k)
-    filled_within_all k l = filled_within k (omega (arith, filled-size))
+    filled_within_all k l = filled_within k (omega (arith, filled_size))
 
     limits : WithinLimits n (solved_costs laid) (lent fresh)
     limits = record {
-      small = omega (arith, sheet_side-within);
-      squared = filled-size;
-      cols-enough = few;
-      rows-enough = few;
+      small = omega (arith, sheet_side_within);
+      squared = filled_size;
+      cols_enough = few;
+      rows_enough = few;
       row_prices_enough = few;
       column_prices_enough = few;
-      indices-enough = omega (arith, few);
-      numbers-enough = few;
-      costs-within = filled_within_all;
+      indices_enough = omega (arith, few);
+      numbers_enough = few;
+      costs_within_lem = filled_within_all;
     }
 
     pub owed : Right n (solved_costs laid) K (found laid)
-    owed = answer_owes n (solved_costs laid) limits.small limits.costs-within
+    owed = answer_owes n (solved_costs laid) limits.small limits.costs_within_lem
 
     -- What the solver leaves in the state is the night's answer, and a barred pair is the night's.
     solved_same : solved_in edition m n filled-held ≡ settled_as (night laid)
     solved_same =
-        ap (λ (l : List ℤ). after (solve n l (lent fresh))) (take_at (solved_costs laid) (drop (n * n) fresh.costs) (n * n) filled-size)
+        ap (λ (l : List ℤ). after (solve n l (lent fresh))) (take_at (solved_costs laid) (drop (n * n) fresh.costs) (n * n) filled_size)
         ∙ ap after (passes_paired n (solved_costs laid) (lent fresh) limits)
         ∙ ap₂ (λ (bar shown : ℕ). cond (ltb bar n) (record { reply = Blocked shown; state = fresh }) done)
-        (first_barred_same n bars-kept bars same-bars kept-cols (found laid).cols same-cols)
-        (shown_rows_same n bars-kept bars same-bars kept-cols (found laid).cols same-cols)
+        (first_barred_same n bars_kept bars same_bars kept_cols (found laid).cols same_cols)
+        (shown_rows_same n bars_kept bars same_bars kept_cols (found laid).cols same_cols)
       where
         after : Outcome → Settled
-        after o = settled_by edition m n o.answer (state_of (solved_costs laid ++ drop (n * n) fresh.costs) bars-kept o.lent)
+        after o = settled_by edition m n o.answer (state_of (solved_costs laid ++ drop (n * n) fresh.costs) bars_kept o.lent)
 
         done : Settled
         done = record { reply = Accepted edition m n (found laid).total; state = ended laid }
 
-        kept-cols : List ℕ
-        kept-cols = (found laid).cols ++ drop n fresh.cols
+        kept_cols : List ℕ
+        kept_cols = (found laid).cols ++ drop n fresh.cols
 
-        same-bars : (i : ℕ) → i < n → at bars-kept i ≡ at bars i
-        same-bars = bars_front n (pos K) costs bars (drop n fresh.bars) rows
+        same_bars : (i : ℕ) → i < n → at bars_kept i ≡ at bars i
+        same_bars = bars_front n (pos K) costs bars (drop n fresh.bars) rows
 
-        same-cols : (i : ℕ) → i < n → at kept-cols i ≡ at (found laid).cols i
-        same-cols i l = get_or-append (found laid).cols (drop n fresh.cols) 0 i (omega (arith, owed.cols-size))
+        same_cols : (i : ℕ) → i < n → at kept_cols i ≡ at (found laid).cols i
+        same_cols i l = get_or-append (found laid).cols (drop n fresh.cols) 0 i (omega (arith, owed.cols_size))
 
   -- Tested, filled and solved.
   pub held_settles : settled_in edition m n held ≡ settled_as (night_tested laid)
@@ -206,32 +206,32 @@ module _ (edition m n : ℕ) (costs : List ℤ) (bars : List ℕ) (size : length
 
 module _ (edition m n : ℕ) (sheet : List ℕ) (fewer : m ≤ n) (small : n ≤ sheet_side) where
   fits : n ≤ 64
-  fits = omega (arith, sheet_side-small)
+  fits = omega (arith, sheet_side_small)
 
-  few-rows : m ≤ 64
-  few-rows = omega (arith, fewer, fits)
+  few_rows : m ≤ 64
+  few_rows = omega (arith, fewer, fits)
 
   abbrev costs_there : List ℤ
   costs_there = costs_at (distance_due edition m n) (m * n) sheet
 
-  costs-size : length costs_there ≡ m * n
-  costs-size = length_fields _ _ 4 (m * n) sheet
+  costs_size : length costs_there ≡ m * n
+  costs_size = length_fields _ _ 4 (m * n) sheet
 
   -- The bars at the front of the state's, with those of the edition or none.
-  bars-read : (t : Bool) → cond t (sets fresh.bars 0 (bars_at n sheet)) fresh.bars ≡ cond t (bars_at n sheet) (replicate n 0) ++ drop n fresh.bars
-  bars-read true = sets_front (bars_at n sheet) fresh.bars n (length_fields _ _ 8 n sheet) fits
-  bars-read false = zeros_split 0 n 64 fits
+  bars_read : (t : Bool) → cond t (sets fresh.bars 0 (bars_at n sheet)) fresh.bars ≡ cond t (bars_at n sheet) (replicate n 0) ++ drop n fresh.bars
+  bars_read true = sets_front (bars_at n sheet) fresh.bars n (length_fields _ _ 8 n sheet) fits
+  bars_read false = zeros_split 0 n 64 fits
 
-  bars-size : (t : Bool) → length (cond t (bars_at n sheet) (replicate n 0)) ≡ n
-  bars-size true = length_fields _ _ 8 n sheet
-  bars-size false = length-replicate n 0
+  bars_size : (t : Bool) → length (cond t (bars_at n sheet) (replicate n 0)) ≡ n
+  bars_size true = length_fields _ _ 8 n sheet
+  bars_size false = length-replicate n 0
 
   pub state_settles : {start read barred : State} {answer : Settled} → start ≡ fresh → read ≡ read_into (distance_due edition m n) (m * n) sheet start
       → barred ≡ bars_into edition n sheet read → answer ≡ settled_in edition m n barred → answer ≡ settled_as (night_tested (laid_at edition m n (distance_due edition m n) sheet))
   state_settles e f g h =
       h ∙ ap (settled_in edition m n) (g ∙ ap (bars_into edition n sheet) (f ∙ ap (read_into (distance_due edition m n) (m * n) sheet) e)
-      ∙ ap₂ (λ (l : List ℤ) (b : List ℕ). state_of l b (lent fresh)) (sets_front costs_there fresh.costs (m * n) costs-size (mul-le-mul few-rows fits)) (bars-read (has_bars edition)))
-      ∙ held_settles edition m n costs_there (bars_in edition n sheet) costs-size (bars-size (has_bars edition)) fewer small
+      ∙ ap₂ (λ (l : List ℤ) (b : List ℕ). state_of l b (lent fresh)) (sets_front costs_there fresh.costs (m * n) costs_size (mul-le-mul few_rows fits)) (bars_read (has_bars edition)))
+      ∙ held_settles edition m n costs_there (bars_in edition n sheet) costs_size (bars_size (has_bars edition)) fewer small
 
 -- A sheet that passes the tests before the costs settles as its night.
 pub passed_settles : (room : ℕ) (sheet : List ℕ) → Passes (sheet_tests room sheet)

@@ -15,17 +15,17 @@ use Rattle.lists.specs.Permutations.{at}
 use Rattle.lists.specs.Parts.{part}
 use Rattle.lists.specs.Counts.{bit_of}
 use Rattle.lists.proofs.Parts.{part_length, part_at}
-use Rattle.lists.proofs.Injections.{reached, injective-fewer, pigeonhole}
+use Rattle.lists.proofs.Injections.{reached, injective_fewer, pigeonhole}
 use Rattle.assignment.specs.Pairings.{Night, Pairing, signed_at}
 use Rattle.assignment.specs.Prices.{priced}
-use Rattle.assignment.proofs.Pairings.{pairing-injective}
+use Rattle.assignment.proofs.Pairings.{pairing_injective}
 use Rattle.bars.specs.Barred.{night_of}
 use Rattle.matrix.proofs.First.{first_cong}
 use Rattle.swaps.specs.Walks.{Walk, mark, is_done, live}
 use Rattle.swaps.specs.Second.{nodes, behind, dearest, fits, way}
 use Rattle.swaps.specs.Places.{first_from, goes_over, comes_down}
 use Rattle.swaps.specs.Rooms.{CanChoose, walk_in, come_to, chosen_in}
-use Rattle.swaps.proofs.Ways.{rows-nodes, spare_node, behind_le, behind_spare}
+use Rattle.swaps.proofs.Ways.{rows_nodes, spare_node, behind_le, behind_spare}
 use Rattle.swaps.proofs.Froms.{since, since_first}
 
 -- ---- flags
@@ -55,23 +55,23 @@ live_picked false y nodes w l = rw (le-ltb nodes nodes (omega arith))
 -- ---- the nodes of a pairing
 
 module _ (night : Night) (cols : List ℕ) (p : Pairing night cols) where
-  pub rows-columns : night.row_count ≤ night.column_count
-  rows-columns = pigeonhole (pairing-injective night cols p)
+  pub rows_columns : night.row_count ≤ night.column_count
+  rows_columns = pigeonhole (pairing_injective night cols p)
 
-  pub nodes-columns : nodes night ≤ night.column_count
-  nodes-columns = elim (dec_lt night.row_count night.column_count) [
+  pub nodes_columns : nodes night ≤ night.column_count
+  nodes_columns = elim (dec_lt night.row_count night.column_count) [
     | yes l ↦ rw (lt-ltb night.row_count night.column_count l) (omega arith)
-    | no l ↦ rw (le-ltb night.row_count night.column_count (omega arith)) (omega (arith, rows-columns))
+    | no l ↦ rw (le-ltb night.row_count night.column_count (omega arith)) (omega (arith, rows_columns))
   ]
 
-  pub behind-node : (us vs : List ℤ) (j : ℕ) → j < night.column_count → behind night cols j < nodes night
-  behind-node us vs j l = by (dec_lt night.row_count night.column_count) (dec_lt (behind night cols j) night.row_count)
+  pub behind_node : (us vs : List ℤ) (j : ℕ) → j < night.column_count → behind night cols j < nodes night
+  behind_node us vs j l = by (dec_lt night.row_count night.column_count) (dec_lt (behind night cols j) night.row_count)
     where
       by : Dec (night.row_count < night.column_count) → Dec (behind night cols j < night.row_count) → behind night cols j < nodes night
-      by d (yes h) = omega (arith, rows-nodes night)
+      by d (yes h) = omega (arith, rows_nodes night)
       by (yes d) (no h) = omega (arith, behind_le night us vs cols j, spare_node night d)
       by (no d) (no h) =
-          let r = reached (injective-fewer {m = night.row_count} {n = night.column_count} {f = at cols} (omega arith) (pairing-injective night cols p)) j l in
+          let r = reached (injective_fewer {m = night.row_count} {n = night.column_count} {f = at cols} (omega arith) (pairing_injective night cols p)) j l in
           absurd (behind_spare night us vs cols j (omega arith) r.0 (omega (arith, r.1)) r.2)
 
 module _ (m n : ℕ) (costs : List ℤ) (bars cols : List ℕ) (us vs ts : List ℤ) (top : ℤ) (room : List ℕ) (x : ℕ)
@@ -92,10 +92,10 @@ module _ (m n : ℕ) (costs : List ℤ) (bars cols : List ℕ) (us vs ts : List 
   leads c = live N w (way night us vs cols x c)
 
   pub fewer : (m ≤ n) × (N ≤ n) × (x < n)
-  fewer = let k = nodes-columns night cols h.fair.pairing in (rows-columns night cols h.fair.pairing, k, omega (arith, h.node))
+  fewer = let k = nodes_columns night cols h.fair.pairing in (rows_columns night cols h.fair.pairing, k, omega (arith, h.node))
 
   pub own_below : (j : ℕ) → j < n → at room j < N
-  own_below j l = omega (arith, h.columns j l, behind-node night cols h.fair.pairing us vs j l)
+  own_below j l = omega (arith, h.columns j l, behind_node night cols h.fair.pairing us vs j l)
 
   marked : (k : ℕ) → k < N → mark w k ≡ at room (n + n + k)
   marked k l = part_at (n + n) N room k 0 l
@@ -108,7 +108,7 @@ module _ (m n : ℕ) (costs : List ℤ) (bars cols : List ℕ) (us vs ts : List 
 
   -- ---- from a row
 
-  module _ (l : x < m) (rows marks : List ℕ) (rows-read : (j : ℕ) → j < n → at rows j ≡ at room j)
+  module _ (l : x < m) (rows marks : List ℕ) (rows_read : (j : ℕ) → j < n → at rows j ≡ at room j)
       (marks-read : (k : ℕ) → k < n → at marks k ≡ at room (n + n + k)) where
     abbrev row : List ℤ
     row = part (x * n) n costs
@@ -116,13 +116,13 @@ module _ (m n : ℕ) (costs : List ℤ) (bars cols : List ℕ) (us vs ts : List 
     pub row_fits : x * n + n ≤ length costs
     row_fits = omega (arith, h.fair.filled, mul-le-mul_right n l)
 
-    pub row-length : length row ≡ n
-    row-length = part_length (x * n) n costs row_fits
+    pub row_length : length row ≡ n
+    row_length = part_length (x * n) n costs row_fits
 
     over : (j : ℕ) → j < n → goes_over m top (at bars x) x row (signed_at us x) vs rows marks j ≡ leads j
     over j b =
-        let e : at rows j ≡ own j = rows-read j b ∙ h.columns j b in
-        let k : own j < N = behind-node night cols h.fair.pairing us vs j b in
+        let e : at rows j ≡ own j = rows_read j b ∙ h.columns j b in
+        let k : own j < N = behind_node night cols h.fair.pairing us vs j b in
         let d : at marks (own j) ≡ mark w (own j) = marks-read (own j) (omega (arith, fewer.1)) ∙ sym (marked (own j) k) in
         let q : signed_at row j ≡ signed_at costs (x * n + j) = part_at (x * n) n costs j (pos 0) b in
         rw (e, d, q, h.highest, lt-ltb x m l)
@@ -133,15 +133,15 @@ module _ (m n : ℕ) (costs : List ℤ) (bars cols : List ℕ) (us vs ts : List 
 
     -- The same, as the call has its arguments.
     -- and with the prices that may have been lowered.
-    over-lowered : (j : ℕ) → j < n → goes_over m top (at bars x) x row (signed_at us x) ts rows marks j ≡ leads j
-    over-lowered j b = by (ℕ_discrete (mark w (own j)) 2)
+    over_lowered : (j : ℕ) → j < n → goes_over m top (at bars x) x row (signed_at us x) ts rows marks j ≡ leads j
+    over_lowered j b = by (ℕ_discrete (mark w (own j)) 2)
       where
         e : at rows j ≡ own j
-        e = rows-read j b ∙ h.columns j b
+        e = rows_read j b ∙ h.columns j b
 
         d : at marks (own j) ≡ mark w (own j)
         d =
-            let k = behind-node night cols h.fair.pairing us vs j b in marks-read (own j) (omega (arith, fewer.1)) ∙ sym (marked (own j) k)
+            let k = behind_node night cols h.fair.pairing us vs j b in marks-read (own j) (omega (arith, fewer.1)) ∙ sym (marked (own j) k)
 
         by : Dec (mark w (own j) ≡ 2) → goes_over m top (at bars x) x row (signed_at us x) ts rows marks j ≡ leads j
         by (no q) = rw (h.lowered.kept j b q) (over j b)
@@ -152,10 +152,10 @@ module _ (m n : ℕ) (costs : List ℤ) (bars cols : List ℕ) (us vs ts : List 
             (ltb (at rows j) m || le_z (signed_at ts j) top) (ltb (at rows j) m || le_z (signed_at vs j) top) (not (bit_of (at bars x) j)))
             ∙ over j b
 
-    pub row-chosen : (part_of : List ℤ) → part_of ≡ row → (bits : ℕ) → bits ≡ at bars x → (u : ℤ) → u ≡ signed_at us x → (t : ℤ) → t ≡ top
+    pub row_chosen : (part_of : List ℤ) → part_of ≡ row → (bits : ℕ) → bits ≡ at bars x → (u : ℤ) → u ≡ signed_at us x → (t : ℤ) → t ≡ top
         → first_from (come_to n room x) (length part_of) (goes_over m t bits x part_of u ts rows marks) ≡ chosen_in m n costs bars cols us vs room x
-    row-chosen part_of a bits b u c t d =
-        rw (a, b, c, d, row-length) (found (goes_over m top (at bars x) x row (signed_at us x) ts rows marks) over-lowered)
+    row_chosen part_of a bits b u c t d =
+        rw (a, b, c, d, row_length) (found (goes_over m top (at bars x) x row (signed_at us x) ts rows marks) over_lowered)
 
   -- ---- from the spare columns
 
@@ -165,7 +165,7 @@ module _ (m n : ℕ) (costs : List ℤ) (bars cols : List ℕ) (us vs ts : List 
       where
         by : Dec (i < m) → comes_down m top cols vs marks i ≡ leads i
         by (yes a) =
-            let k : i < N = omega (arith, rows-nodes night) in
+            let k : i < N = omega (arith, rows_nodes night) in
             let d : at marks i ≡ mark w i = marks-read i b ∙ sym (marked i k) in
             rw (d, h.highest, lt-ltb i m a, le-ltb x m l)
             (sym (live_picked (le_z (dearest night vs cols) (signed_at vs (at cols i))) i N w k ∙ and_comm (le_z (dearest night vs cols) (signed_at vs (at cols i))) (not (is_done w i))))

@@ -10,7 +10,7 @@ use borrow.Author.Tests.{ltb-true, leb-true, eqb-true, lt-ltb, le-leb}
 use Rattle.lists.proofs.Runs.{first_holds}
 use Rattle.lists.proofs.Injections.{source_of}
 use Rattle.swaps.specs.Walks.{Walk, Closed, place, place_of, last, on_closed, choice}
-use Rattle.swaps.proofs.Walks.{Leads, IsClosed, path-injective}
+use Rattle.swaps.proofs.Walks.{Leads, IsClosed, path_injective}
 
 module _ (nodes width : ℕ) (way : ℕ → ℕ → ℕ) (z : Closed) (c : IsClosed nodes width way z) where
   abbrev w : Walk
@@ -33,7 +33,7 @@ module _ (nodes width : ℕ) (way : ℕ → ℕ → ℕ) (z : Closed) (c : IsClo
     where
       by : Dec (suc k < w.size) → After k
       by (yes h) = (suc k, h, c.sound.linked k h, inl refl)
-      by (no h) = let q : w.size - 1 ≡ k = omega arith in (z.from, c.from-below, rw q at c.back, inr (omega arith, refl))
+      by (no h) = let q : w.size - 1 ≡ k = omega arith in (z.from, c.from_below, rw q at c.back, inr (omega arith, refl))
 
   -- Each node leads to one of them,
   pub in_next : (x : ℕ) → In x → Leads nodes width way w x (next x) × In (next x)
@@ -48,7 +48,7 @@ module _ (nodes width : ℕ) (way : ℕ → ℕ → ℕ) (z : Closed) (c : IsClo
     where
       by : Dec (k ≡ z.from) → (x : ℕ) × In x × (next x ≡ y)
       by (yes q) =
-          (last w, (w.size - 1, omega (arith, c.from-below), omega (arith, c.from-below), refl), c.back.there ∙ ap (place w) (sym q) ∙ e)
+          (last w, (w.size - 1, omega (arith, c.from_below), omega (arith, c.from_below), refl), c.back.there ∙ ap (place w) (sym q) ∙ e)
       by (no d) =
           let q : suc (k - 1) ≡ k = omega arith in
           let g = c.sound.linked (k - 1) (omega arith) in
@@ -67,7 +67,7 @@ module _ (nodes width : ℕ) (way : ℕ → ℕ → ℕ) (z : Closed) (c : IsClo
 
   -- It has a node, and its nodes are nodes.
   pub in_first : In (place w z.from)
-  in_first = (z.from, omega arith, c.from-below, refl)
+  in_first = (z.from, omega arith, c.from_below, refl)
 
   pub in_below : (x : ℕ) → In x → x < nodes
   in_below x (k, l, m, e) = omega (arith, c.sound.inside k m)
@@ -85,6 +85,6 @@ module _ (nodes width : ℕ) (way : ℕ → ℕ → ℕ) (z : Closed) (c : IsClo
 
   pub closed_make : (x : ℕ) → In x → on_closed z x ≡ true
   closed_make x (k, l, m, e) =
-      let q : place_of w x ≡ k = ap (place_of w) (sym e) ∙ source_of (path-injective nodes width way w c.sound) k m in
+      let q : place_of w x ≡ k = ap (place_of w) (sym e) ∙ source_of (path_injective nodes width way w c.sound) k m in
       (and-eq-true_iff (leb z.from (place_of w x)) (ltb (place_of w x) w.size)).1
       (le-leb z.from (place_of w x) (omega arith), lt-ltb (place_of w x) w.size (omega arith))

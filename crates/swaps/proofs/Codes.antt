@@ -17,22 +17,22 @@ use Rattle.matrix.specs.declared.Verdict.{Verdict}
 use Rattle.matrix.specs.declared.Verdict.TheVariants.{Passed, Fails}
 use Rattle.matrix.specs.declared.Answer.TheVariants.{Refused}
 use Rattle.matrix.proofs.Codes.{rooms_small}
-use Rattle.matrix.proofs.Verdicts.{Every, then_every, Small, then_small, fails_if-small}
+use Rattle.matrix.proofs.Verdicts.{Every, then_every, Small, then_small, fails_if_small}
 use Rattle.checker.specs.Check.{checks, check, checks_barred, check_barred, checks_oblong, check_oblong}
 use Rattle.checker.specs.Slacks.{SlackRight}
-use Rattle.checker.proofs.Codes.{check-places, check_barred_places, check_oblong_numbers}
+use Rattle.checker.proofs.Codes.{check_places, check_barred_places, check_oblong_numbers}
 use Rattle.checker.proofs.Slacks.{none_if, check_slacks, check_barred_slacks, check_oblong_slacks}
 use Rattle.swaps.specs.Entries.{Lent, outcome, lent_long, second_tests, second_square, second_barred_tests, second_barred, second_oblong_tests, second_oblong}
 use Rattle.swaps.specs.declared.Seconded.TheVariants as seconded
 
 -- ---- list 6 and the work room
 
-lent-small : (m n : ℕ) (lent : Lent) → Small (lent_long m n lent)
-lent-small m n lent =
-    then_small _ _ (fails_if-small _ _ _ (lit< tt) (λ e. lit< tt)) (λ e. rooms_small n (length lent.indices) (length lent.numbers))
+lent_small : (m n : ℕ) (lent : Lent) → Small (lent_long m n lent)
+lent_small m n lent =
+    then_small _ _ (fails_if_small _ _ _ (lit< tt) (λ e. lit< tt)) (λ e. rooms_small n (length lent.indices) (length lent.numbers))
 
-lent-numbers : (m n : ℕ) (lent : Lent) → Every (λ refusal. number_of refusal < 256) (lent_long m n lent)
-lent-numbers m n lent = by (lent_long m n lent) (lent-small m n lent)
+lent_numbers : (m n : ℕ) (lent : Lent) → Every (λ refusal. number_of refusal < 256) (lent_long m n lent)
+lent_numbers m n lent = by (lent_long m n lent) (lent_small m n lent)
   where
     by : (verdict : Verdict) → Small verdict → Every (λ refusal. number_of refusal < 256) verdict
     by Passed h = tt
@@ -66,9 +66,9 @@ module _ (P : Refusal → Type 0) where
   unfolding ◌then◌
   before_two a b c d = between (λ v. v then c then d) (λ r. refl) a b
 
-  before-three : (a b c d e : Verdict) → Every P (a then c then d then e) → Every P b → Every P (a then b then c then d then e)
+  before_three : (a b c d e : Verdict) → Every P (a then c then d then e) → Every P b → Every P (a then b then c then d then e)
   unfolding ◌then◌
-  before-three a b c d e = between (λ v. v then c then d then e) (λ r. refl) a b
+  before_three a b c d e = between (λ v. v then c then d then e) (λ r. refl) a b
 
   -- Of the verdict, and so of the outcome.
   in_outcome : (night : Night) (cols : List ℕ) (us vs : List ℤ) (lent : Lent) (verdict : Verdict) → Every P verdict
@@ -77,10 +77,10 @@ module _ (P : Refusal → Type 0) where
   in_outcome night cols us vs lent Passed h e = let z : ◌≡◌ {A = ℕ} 0 1 = cc in absurd (omega arith)
   in_outcome night cols us vs lent (Fails given) h {refusal} e = let same : given ≡ refusal = cc e in subst P same h
 
-small-answer : (verdict : Verdict) (total : ℤ) → TellableIn (totalled verdict total) → Small verdict
+small_answer : (verdict : Verdict) (total : ℤ) → TellableIn (totalled verdict total) → Small verdict
 unfolding totalled
-small-answer Passed total h = tt
-small-answer (Fails refusal) total h = h
+small_answer Passed total h = tt
+small_answer (Fails refusal) total h = h
 
 -- ---- the entries
 
@@ -89,9 +89,9 @@ module _ (n : ℕ) (costs : List ℤ) (cols rows : List ℕ) (us vs : List ℤ) 
   unfolding second_square second_tests checks
   square_every P h k = in_outcome P _ cols us vs lent _ (before_one P _ _ _ h k) e
 
-  pub second-places : Tellable refusal
+  pub second_places : Tellable refusal
   unfolding check
-  second-places = square_every Tellable (small-answer _ _ (check-places n costs cols rows us vs)) (lent-small n n lent)
+  second_places = square_every Tellable (small_answer _ _ (check_places n costs cols rows us vs)) (lent_small n n lent)
 
   pub second_slacks : SlackRight refusal
   unfolding check
@@ -104,7 +104,7 @@ module _ (n : ℕ) (costs : List ℤ) (cols rows : List ℕ) (us vs : List ℤ) 
 
   pub second_barred_places : Tellable refusal
   unfolding check_barred
-  second_barred_places = barred_every Tellable (small-answer _ _ (check_barred_places n costs cols rows us vs bars)) (lent-small n n lent)
+  second_barred_places = barred_every Tellable (small_answer _ _ (check_barred_places n costs cols rows us vs bars)) (lent_small n n lent)
 
   pub second_barred_slacks : SlackRight refusal
   unfolding check_barred
@@ -113,12 +113,12 @@ module _ (n : ℕ) (costs : List ℤ) (cols rows : List ℕ) (us vs : List ℤ) 
 module _ (m n : ℕ) (costs : List ℤ) (cols : List ℕ) (us vs : List ℤ) (lent : Lent) {refusal : Refusal} (e : (second_oblong m n costs cols us vs lent).answer ≡ seconded.Refused refusal) where
   oblong_every : (P : Refusal → Type 0) → Every P (checks_oblong m n costs cols us vs) → Every P (lent_long m n lent) → P refusal
   unfolding second_oblong second_oblong_tests checks_oblong
-  oblong_every P h k = in_outcome P _ cols us vs lent _ (before-three P _ _ _ _ _ h k) e
+  oblong_every P h k = in_outcome P _ cols us vs lent _ (before_three P _ _ _ _ _ h k) e
 
   pub second_oblong_numbers : number_of refusal < 256
   unfolding check_oblong
   second_oblong_numbers =
-      oblong_every (λ r. number_of r < 256) (of_answer (λ r. number_of r < 256) _ _ (λ r f. check_oblong_numbers m n costs cols us vs f)) (lent-numbers m n lent)
+      oblong_every (λ r. number_of r < 256) (of_answer (λ r. number_of r < 256) _ _ (λ r f. check_oblong_numbers m n costs cols us vs f)) (lent_numbers m n lent)
 
   pub second_oblong_slacks : SlackRight refusal
   unfolding check_oblong

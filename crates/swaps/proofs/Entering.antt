@@ -10,9 +10,9 @@ use lib.ListN.{length, take}
 use Rattle.lists.proofs.Injections.{pigeonhole}
 use Rattle.assignment.specs.Pairings.{Night, Pairing, square, total}
 use Rattle.assignment.specs.Prices.{SparesNotBelow}
-use Rattle.assignment.proofs.Pairings.{pairing-injective}
-use Rattle.assignment.proofs.Square.{square-spares}
-use Rattle.assignment.proofs.Longer.{at_first, spares-first}
+use Rattle.assignment.proofs.Pairings.{pairing_injective}
+use Rattle.assignment.proofs.Square.{square_spares}
+use Rattle.assignment.proofs.Longer.{at_first, spares_first}
 use Rattle.bars.specs.Barred.{night_of, barred}
 use Rattle.bars.proofs.Passed.{square-unbarred}
 use Rattle.matrix.specs.Asked.{ColumnsListed}
@@ -21,14 +21,14 @@ use Rattle.matrix.specs.Verdicts.{Passes}
 use Rattle.matrix.specs.declared.Refusal.{Refusal}
 use Rattle.matrix.specs.declared.Verdict.{Verdict}
 use Rattle.matrix.specs.declared.Verdict.TheVariants.{Fails}
-use Rattle.matrix.proofs.SmallLimits.{sheet_side-within}
+use Rattle.matrix.proofs.SmallLimits.{sheet_side_within}
 use Rattle.matrix.proofs.Verdicts.{then_iff}
-use Rattle.matrix.proofs.Passed.{list-long, rooms_long_lem}
+use Rattle.matrix.proofs.Passed.{list_long_lem, rooms_long_lem}
 use Rattle.checker.specs.Check.{checks, checks_barred, checks_oblong}
 use Rattle.checker.specs.Proven.{Prices, Shown}
 use Rattle.checker.proofs.Accepted.{checks_iff}
 use Rattle.checker.proofs.Least.{proven_shown}
-use Rattle.checker.proofs.Barred.{checks_barred_iff, barred-pairing}
+use Rattle.checker.proofs.Barred.{checks_barred_iff, barred_pairing}
 use Rattle.checker.proofs.Oblong.{checks_oblong_iff, oblong_pairing}
 use Rattle.swaps.specs.Found.{CanFindIn, FoundIn}
 use Rattle.swaps.specs.Entries.{Lent, lent_of, outcome_of, outcome, lent_long, second_tests, second_barred_tests, second_oblong_tests}
@@ -45,25 +45,25 @@ module _ (m n : ℕ) (costs : List ℤ) (bars cols : List ℕ) (us vs : List ℤ
 
   -- A pairing that its prices show to be least, and lists that are long enough.
   can_find : n ≤ side → length costs ≡ m * n → m ≤ length cols → Prices m us → Prices n vs → Shown night cols us vs → Passes (lent_long m n lent) → Can
-  can_find small filled listed row-prices column-prices shown long =
+  can_find small filled listed row_prices column_prices shown long =
       let t = (then_iff _ _).0 long in
       let r = (rooms_long_lem n (length lent.indices) (length lent.numbers)).0 t.1 in
       record {
         small = small;
         filled = filled;
-        row-prices = row-prices;
-        column-prices = column-prices;
+        row_prices = row_prices;
+        column_prices = column_prices;
         listed = listed;
         shown = shown;
-        list-long = (list-long 6 m (length lent.list)).0 t.0;
-        indices-long = r.0;
-        numbers-long = r.1;
+        list_long_lem = (list_long_lem 6 m (length lent.list)).0 t.0;
+        indices_long = r.0;
+        numbers_long = r.1;
       }
 
   -- With that the total can be taken too.
-  pub can-total : Can → (m ≤ side) × (n ≤ side) × (m * n ≤ length costs) × ColumnsListed m n cols
-  can-total h = (
-    le_trans (pigeonhole (pairing-injective night _ h.shown.pairing)) h.small,
+  pub can_total : Can → (m ≤ side) × (n ≤ side) × (m * n ≤ length costs) × ColumnsListed m n cols
+  can_total h = (
+    le_trans (pigeonhole (pairing_injective night _ h.shown.pairing)) h.small,
     h.small,
     omega (arith, h.filled),
     record { listed = h.listed; inside = λ i l. rw (at_first night cols i l) at (h.shown.pairing.inside i l) },
@@ -74,11 +74,11 @@ module _ (m n : ℕ) (costs : List ℤ) (bars cols : List ℕ) (us vs : List ℤ
   unfolding outcome
   refused-outcome e = rw e
 
-  pub told-outcome : {verdict : Verdict} → Passes verdict → {t : ℤ} → t ≡ total night cols → {r : Bool} {list indices : List ℕ} {numbers : List ℤ}
+  pub told_outcome : {verdict : Verdict} → Passes verdict → {t : ℤ} → t ≡ total night cols → {r : Bool} {list indices : List ℕ} {numbers : List ℤ}
       → FoundIn m n costs bars cols us vs lent.list lent.indices lent.numbers r list indices numbers
       → outcome_of (Told (record { total = t; another = r })) (lent_of list indices numbers) ≡ outcome night cols us vs lent verdict
   unfolding outcome
-  told-outcome e d f = rw (e, d, f.told, f.written, f.indices_cleared, f.numbers_cleared)
+  told_outcome e d f = rw (e, d, f.told, f.written, f.indices_cleared, f.numbers_cleared)
 
 -- ---- the tests of each entry
 
@@ -89,15 +89,15 @@ module _ (n : ℕ) (costs : List ℤ) (cols rows : List ℕ) (us vs : List ℤ) 
       let t = (then_iff _ _).0 passed in
       let s = (then_iff _ _).0 t.0 in
       let f = (checks_iff n costs cols rows us vs).0 ((then_iff _ _).1 (s.0, t.1)) in
-      can_find n n costs [] cols us vs lent f.sizes.small f.sizes.squared f.sizes.columns-listed f.row-prices f.column-prices
+      can_find n n costs [] cols us vs lent f.sizes.small f.sizes.squared f.sizes.columns_listed f.row_prices f.column_prices
       (subst (λ (night : Night). Shown night cols us vs) (sym (square-unbarred n costs)) (proven_shown n costs cols rows us vs f)) s.1
 
 module _ (n : ℕ) (costs : List ℤ) (cols rows : List ℕ) (us vs : List ℤ) (bars : List ℕ) (lent : Lent) where
   -- There are as many columns as rows: none is spare.
-  barred-spares : Pairing (barred n costs bars) (take n cols) → SparesNotBelow (barred n costs bars) vs cols
-  barred-spares p =
+  barred_spares : Pairing (barred n costs bars) (take n cols) → SparesNotBelow (barred n costs bars) vs cols
+  barred_spares p =
       let q : Pairing (square n costs) (take n cols) = record { size = p.size; inside = p.inside; apart = p.apart; permitted = λ i l. refl } in
-      (spares-first (barred n costs bars) cols vs).0 (record { not_below = (square-spares n costs vs (take n cols) q).not_below })
+      (spares_first (barred n costs bars) cols vs).0 (record { not_below = (square_spares n costs vs (take n cols) q).not_below })
 
   pub barred_can_find : Passes (second_barred_tests n costs cols rows us vs bars lent) → CanFindIn n n costs bars cols us vs lent.list lent.indices lent.numbers
   unfolding second_barred_tests checks_barred
@@ -107,9 +107,9 @@ module _ (n : ℕ) (costs : List ℤ) (cols rows : List ℕ) (us vs : List ℤ) 
       let s = (then_iff _ _).0 p.0 in
       let h = (checks_barred_iff n costs bars cols rows us vs).0 ((then_iff _ _).1 ((then_iff _ _).1 (s.0, p.1), t.1)) in
       let f = h.0 in
-      let pairing = barred-pairing n costs bars cols rows f in
-      can_find n n costs bars cols us vs lent (le_trans f.small sheet_side-within) f.squared f.columns-listed h.1.row-prices h.1.column-prices
-      (record { pairing = pairing; feasible = h.1.feasible; tight = h.2; spares = barred-spares pairing }) s.1
+      let pairing = barred_pairing n costs bars cols rows f in
+      can_find n n costs bars cols us vs lent (le_trans f.small sheet_side_within) f.squared f.columns_listed h.1.row_prices h.1.column_prices
+      (record { pairing = pairing; feasible = h.1.feasible; tight = h.2; spares = barred_spares pairing }) s.1
 
 module _ (m n : ℕ) (costs : List ℤ) (cols : List ℕ) (us vs : List ℤ) (lent : Lent) where
   pub oblong_can_find : Passes (second_oblong_tests m n costs cols us vs lent) → CanFindIn m n costs [] cols us vs lent.list lent.indices lent.numbers
@@ -121,5 +121,5 @@ module _ (m n : ℕ) (costs : List ℤ) (cols : List ℕ) (us vs : List ℤ) (le
       let s = (then_iff _ _).0 p.0 in
       let h = (checks_oblong_iff m n costs cols us vs).0 ((then_iff _ _).1 ((then_iff _ _).1 ((then_iff _ _).1 (s.0, p.1), t.1), t27.1)) in
       let f = h.0 in
-      can_find m n costs [] cols us vs lent (le_trans f.small sheet_side-within) f.filled f.columns-listed h.1.row-prices h.1.column-prices
+      can_find m n costs [] cols us vs lent (le_trans f.small sheet_side_within) f.filled f.columns_listed h.1.row_prices h.1.column_prices
       (record { pairing = oblong_pairing m n costs cols f; feasible = h.1.feasible; tight = h.2; spares = h.3 }) s.1

@@ -24,12 +24,12 @@ use Rattle.swaps.specs.Rooms.{Fair, CanWalk, CanMove, Chosen, WalkedTo, walk_of,
 use Rattle.swaps.specs.Found.{another, written_in, SearchedBy}
 use Rattle.swaps.specs.declared.Walked.{Walked}
 use Rattle.swaps.specs.declared.Walked.TheVariants.{Ended, Came}
-use Rattle.swaps.proofs.Walks.{IsClosed, path-injective}
+use Rattle.swaps.proofs.Walks.{IsClosed, path_injective}
 use Rattle.swaps.proofs.Turns.{walk_ok}
 use Rattle.swaps.proofs.Seconds.{second_only_iff}
-use Rattle.swaps.proofs.Stores.{store, stored-length, stored_moved}
+use Rattle.swaps.proofs.Stores.{store, stored_length, stored_moved}
 use Rattle.swaps.proofs.Lowering.{lowered_start}
-use Rattle.swaps.proofs.Choosing.{nodes-columns, rows-columns}
+use Rattle.swaps.proofs.Choosing.{nodes_columns, rows_columns}
 
 -- ---- a room of zeros with the rows listed in its first part
 
@@ -37,8 +37,8 @@ module _ (n : ℕ) (f : ℕ → ℕ) (room : List ℕ) (e : room ≡ table n f +
   abbrev zeros : List ℕ
   zeros = table (n + n + n + n) (λ k. 0)
 
-  listed-size : length room ≡ n + n + n + n
-  listed-size =
+  listed_size : length room ≡ n + n + n + n
+  listed_size =
       omega (arith, ap length e, length-append (table n f) (drop n zeros), length-table n f, length-drop n zeros, length-table {A = ℕ} (n + n + n + n) (λ k. 0))
 
   listed_at : (j : ℕ) → j < n → at room j ≡ f j
@@ -57,7 +57,7 @@ module _ (n : ℕ) (f : ℕ → ℕ) (room : List ℕ) (e : room ≡ table n f +
       part_at a N room i 0 (omega (arith, size)) ∙ ap (at room) q ∙ zero_behind (a - n + i) ∙ sym (get_or-replicate {A = ℕ} N i 0 0 (omega (arith, size))))
     where
       size : length (part a N room) ≡ N
-      size = part_length a N room (omega (arith, listed-size))
+      size = part_length a N room (omega (arith, listed_size))
 
 -- The highest price of a used column, as it is found row by row.
 pub found-dearest : (night : Night) (vs : List ℤ) (cols : List ℕ) → upward 0 night.row_count (higher vs cols) (signed_at vs (at cols 0)) ≡ dearest night vs cols
@@ -65,10 +65,10 @@ unfolding dearest
 found-dearest night vs cols = refl
 
 -- Where the walk is left, the answer is the moved pairing.
-second-left : (night : Night) (us vs : List ℤ) (cols : List ℕ) (z : Closed) → walk (nodes night) night.column_count (way night us vs cols) ≡ left z
+second_left : (night : Night) (us vs : List ℤ) (cols : List ℕ) (z : Closed) → walk (nodes night) night.column_count (way night us vs cols) ≡ left z
     → second night us vs cols ≡ also (moved night us vs cols z)
 unfolding second
-second-left night us vs cols z e = ap (answer night us vs cols) e
+second_left night us vs cols z e = ap (answer night us vs cols) e
 
 module _ (m n : ℕ) (costs : List ℤ) (bars cols : List ℕ) (us vs : List ℤ) (fair : Fair m n costs bars cols us vs) where
   abbrev night : Night
@@ -81,24 +81,24 @@ module _ (m n : ℕ) (costs : List ℤ) (bars cols : List ℕ) (us vs : List ℤ
   way_on = way night us vs cols
 
   few : N ≤ n
-  few = nodes-columns night cols fair.pairing
+  few = nodes_columns night cols fair.pairing
 
   -- ---- the start
 
-  pub can-walk : (room : List ℕ) → room ≡ table n (λ j. behind night cols j) ++ drop n (table (n + n + n + n) (λ k. 0)) → (ts : List ℤ) → ts ≡ table n (signed_at vs)
+  pub can_walk : (room : List ℕ) → room ≡ table n (λ j. behind night cols j) ++ drop n (table (n + n + n + n) (λ k. 0)) → (ts : List ℤ) → ts ≡ table n (signed_at vs)
       → (top : ℤ) → top ≡ dearest night vs cols → (count : ℕ) → count ≡ N → CanWalk m n costs bars cols us vs ts top count room
-  can-walk room e ts copied top highest count counted = record {
+  can_walk room e ts copied top highest count counted = record {
     fair = fair;
     highest = highest;
     counted = counted;
     holds = record {
-      room-size = listed-size n (behind night cols) room e;
+      room_size = listed_size n (behind night cols) room e;
       columns = listed_at n (behind night cols) room e;
       bounded = λ x l. omega (arith, none x);
       passed = λ x c l b. absurd (omega (arith, none x));
       went = λ t l. absurd (omega arith);
     };
-    lowered = lowered_start night vs cols (walk_of night us vs cols 0 room) ts copied fair.column-prices;
+    lowered = lowered_start night vs cols (walk_of night us vs cols 0 room) ts copied fair.column_prices;
     at_start = ap₂ (λ (p q : List ℕ). record { size = 0; path = p; marks = q }) (zero_part n (behind night cols) room e n N (omega arith) (omega (arith, few)))
         (zero_part n (behind night cols) room e (n + n) N (omega arith) (omega (arith, few)));
   }
@@ -145,18 +145,18 @@ module _ (m n : ℕ) (costs : List ℤ) (bars cols : List ℕ) (us vs : List ℤ
         by : Either {S = Walk} {R = Closed} All (IsClosed N n way_on) (left z) → IsClosed N n way_on z
         by (is_left_lem c) = c
 
-    path-below : size ≤ N
-    path-below = pigeonhole (path-injective N n way_on w closed.sound)
+    path_below : size ≤ N
+    path_below = pigeonhole (path_injective N n way_on w closed.sound)
 
     pub can_move : (list : List ℕ) → length list ≡ m → CanMove m n from size cols room list
     can_move list e = record {
       small = fair.small;
-      room-size = ended.1.room-size;
-      path-size = omega (arith, path-below, few);
-      order = omega (arith, closed.from-below);
-      rows = rows-columns night cols fair.pairing;
+      room_size = ended.1.room_size;
+      path_size = omega (arith, path_below, few);
+      order = omega (arith, closed.from_below);
+      rows = rows_columns night cols fair.pairing;
       listed = fair.pairing.size;
-      second-size = e;
+      second_size = e;
     }
 
     abbrev chosen : ℕ → ℕ
@@ -165,22 +165,22 @@ module _ (m n : ℕ) (costs : List ℤ) (bars cols : List ℕ) (us vs : List ℤ
     -- The stores are those of the laws,
     same_store : (k : ℕ) (l : List ℕ) → k < size → move_at m n room k l ≡ store m (place w) chosen k l
     same_store k l b =
-        ap (λ (p : ℕ). cond (ltb p m) (set l p (come_to n room p)) l) (sym (part_at n N room k 0 (omega (arith, path-below))))
-        ∙ ap (λ (v : ℕ). cond (ltb (place w k) m) (set l (place w k) v) l) (ended.1.at-choice k b)
+        ap (λ (p : ℕ). cond (ltb p m) (set l p (come_to n room p)) l) (sym (part_at n N room k 0 (omega (arith, path_below))))
+        ∙ ap (λ (v : ℕ). cond (ltb (place w k) m) (set l (place w k) v) l) (ended.1.at_choice k b)
 
     -- and make the moved pairing.
     stores_moved : upward from size (move_at m n room) cols ≡ moved night us vs cols z
     stores_moved =
         upward_cong from size (move_at m n room) (store m (place w) chosen) cols (λ k l a b. same_store k l b)
         ∙ ext_get_or 0 (upward from size (store m (place w) chosen) cols) (moved night us vs cols z)
-        (size-kept ∙ sym (length-table m (λ i. cond (on_closed z i) (chosen i) (at cols i))))
-        (λ i b. stored_moved night us vs cols z closed (omega (arith, fair.pairing.size)) i (omega (arith, size-kept)))
+        (size_kept ∙ sym (length-table m (λ i. cond (on_closed z i) (chosen i) (at cols i))))
+        (λ i b. stored_moved night us vs cols z closed (omega (arith, fair.pairing.size)) i (omega (arith, size_kept)))
       where
-        size-kept : length (upward from size (store m (place w) chosen) cols) ≡ m
-        size-kept = stored-length night us vs cols z closed (omega (arith, fair.pairing.size)) ∙ fair.pairing.size
+        size_kept : length (upward from size (store m (place w) chosen) cols) ≡ m
+        size_kept = stored_length night us vs cols z closed (omega (arith, fair.pairing.size)) ∙ fair.pairing.size
 
     pub one_found : (list after : List ℕ) → after ≡ upward from size (move_at m n room) cols → SearchedBy m n costs bars cols us vs list true after
     one_found list after e = record { told = ap another (sym q); written = e ∙ stores_moved ∙ ap (λ (a : Answer). written_in a list) (sym q) }
       where
         q : second night us vs cols ≡ also (moved night us vs cols z)
-        q = second-left night us vs cols z ended.0
+        q = second_left night us vs cols z ended.0

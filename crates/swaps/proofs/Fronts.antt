@@ -9,12 +9,12 @@ use lib.IntN.{ℤ}
 use lib.ListN.{take, drop, take-append-drop}
 use lib.Seq.{length-take-le}
 use Rattle.assignment.specs.Pairings.{Night}
-use Rattle.assignment.proofs.Longer.{tight-first, spares-first}
+use Rattle.assignment.proofs.Longer.{tight_first, spares_first}
 use Rattle.bars.specs.Barred.{night_of}
 use Rattle.swaps.specs.Second.{Answer, only, also, second}
 use Rattle.swaps.specs.Rooms.{Fair}
 use Rattle.swaps.specs.Found.{another, written_in, written_front, CanFind, FoundBy, CanFindIn, FoundIn}
-use Rattle.swaps.proofs.Longer.{second-first}
+use Rattle.swaps.proofs.Longer.{second_first}
 
 front_written : (m : ℕ) (a : Answer) (list : List ℕ) → (written_in a (take m list) ++ drop m list) ≡ written_front m a list
 front_written m only list = take-append-drop m list
@@ -29,20 +29,20 @@ module _ (m n : ℕ) (costs : List ℤ) (bars cols : List ℕ) (us vs : List ℤ
   fair = record {
     small = h.small;
     filled = h.filled;
-    row-prices = h.row-prices;
-    column-prices = h.column-prices;
+    row_prices = h.row_prices;
+    column_prices = h.column_prices;
     pairing = h.shown.pairing;
     feasible = h.shown.feasible;
-    tight = (tight-first night cols us vs).1 h.shown.tight;
-    spares = (spares-first night cols vs).1 h.shown.spares;
+    tight = (tight_first night cols us vs).1 h.shown.tight;
+    spares = (spares_first night cols vs).1 h.shown.spares;
   }
 
   pub can_find : CanFind m n costs bars (take (m - 0) cols) us vs (take (m - 0) list) (take (4 * n - 0) indices) (take (n - 0) numbers)
   can_find = rw (sub-zero m, sub-zero n, sub-zero (4 * n)) (record {
     fair = fair;
-    list-size = length-take-le m list h.list-long;
-    room-size = omega (arith, length-take-le (4 * n) indices h.indices-long);
-    numbers-size = length-take-le n numbers h.numbers-long;
+    list_size = length-take-le m list h.list_long_lem;
+    room_size = omega (arith, length-take-le (4 * n) indices h.indices_long);
+    numbers_size = length-take-le n numbers h.numbers_long;
   })
 
   pub found_in : (r : Bool) (list' room' : List ℕ) (numbers' : List ℤ)
@@ -51,7 +51,7 @@ module _ (m n : ℕ) (costs : List ℤ) (bars cols : List ℕ) (us vs : List ℤ
   found_in r list' room' numbers' = rw (sub-zero m, sub-zero n, sub-zero (4 * n)) by
     where
       same : second night us vs (take m cols) ≡ second night us vs cols
-      same = second-first night us vs cols
+      same = second_first night us vs cols
 
       by : FoundBy m n costs bars (take m cols) us vs (take m list) r list' room' numbers'
           → FoundIn m n costs bars cols us vs list indices numbers r (list' ++ drop m list) (room' ++ drop (4 * n) indices) (numbers' ++ drop n numbers)

@@ -37,8 +37,8 @@ module _ (night : Night) (us vs : List ℤ) (cols : List ℕ) where
       (λ k t a b. ap (λ (x : ℕ). cond (lt_z t (signed_at vs x)) (signed_at vs x) t) (at_first night cols k b))
       ∙ ap (λ (x : ℕ). upward 0 m (higher vs cols) (signed_at vs x)) (at_first night cols 0 h)
 
-  way-first : (x j : ℕ) → way night us vs firsts x j ≡ way night us vs cols x j
-  way-first x j = by (dec_lt x m) (dec_lt j m)
+  way_first : (x j : ℕ) → way night us vs firsts x j ≡ way night us vs cols x j
+  way_first x j = by (dec_lt x m) (dec_lt j m)
     where
       by : Dec (x < m) → Dec (j < m) → way night us vs firsts x j ≡ way night us vs cols x j
       by (yes h) d = rw (lt-ltb x m h, behind-first j, dearest-first (omega arith))
@@ -46,11 +46,11 @@ module _ (night : Night) (us vs : List ℤ) (cols : List ℕ) where
       by (no h) (no l) = rw (le-ltb x m (omega arith), le-ltb j m (omega arith))
 
   same_way : way night us vs firsts ≡ way night us vs cols
-  same_way = fun_ext (λ x. fun_ext (λ j. way-first x j))
+  same_way = fun_ext (λ x. fun_ext (λ j. way_first x j))
 
-  pub second-first : second night us vs firsts ≡ second night us vs cols
+  pub second_first : second night us vs firsts ≡ second night us vs cols
   unfolding second
-  second-first =
+  second_first =
       by (walk (nodes night) night.column_count (way night us vs firsts))
       ∙ ap (λ (f : ℕ → ℕ → ℕ). answer night us vs cols (walk (nodes night) night.column_count f)) same_way
     where

@@ -18,9 +18,9 @@ use Rattle.lists.proofs.Injections.{source_of}
 use Rattle.lists.proofs.Tables.{length-table, get_d_table}
 use Rattle.lists.specs.Permutations.{table}
 use Rattle.assignment.specs.Pairings.{Night, Pairing, signed_at}
-use Rattle.assignment.proofs.Pairings.{pairing-injective}
+use Rattle.assignment.proofs.Pairings.{pairing_injective}
 use Rattle.matrix.specs.Limits.{near}
-use Rattle.matrix.proofs.SmallLimits.{K-small}
+use Rattle.matrix.proofs.SmallLimits.{K_small}
 use Rattle.checker.specs.Proven.{Prices}
 use Rattle.swaps.specs.Walks.{Walk, mark, enter, finish}
 use Rattle.swaps.specs.Second.{behind}
@@ -36,15 +36,15 @@ module _ (night : Night) (vs : List ℤ) (cols : List ℕ) where
   pub lowered_start : (w : Walk) (ts : List ℤ) → ts ≡ table night.column_count (signed_at vs) → Prices night.column_count vs → Lowered night vs cols w ts
   lowered_start w ts e p = record {
     size = ap length e ∙ length-table night.column_count (signed_at vs);
-    bounded = λ j l. let s = p.within j l in rw (same j l) (omega (zlin, K-small));
+    bounded = λ j l. let s = p.within j l in rw (same j l) (omega (zlin, K_small));
     kept = λ j l q. same j l;
   }
     where
       same : (j : ℕ) → j < night.column_count → signed_at ts j ≡ signed_at vs j
       same j l = ap (λ (t : List ℤ). signed_at t j) e ∙ get_d_table night.column_count (signed_at vs) (pos 0) j l
 
-  pub lowered-entered : (w : Walk) (ts : List ℤ) (x : ℕ) → mark w x ≡ 0 → Lowered night vs cols w ts → Lowered night vs cols (enter x w) ts
-  lowered-entered w ts x new h = record {
+  pub lowered_entered : (w : Walk) (ts : List ℤ) (x : ℕ) → mark w x ≡ 0 → Lowered night vs cols w ts → Lowered night vs cols (enter x w) ts
+  lowered_entered w ts x new h = record {
     size = h.size;
     bounded = h.bounded;
     kept = λ j l q. h.kept j l (λ e. elim (ℕ_discrete (own j) x) [
@@ -60,8 +60,8 @@ module _ (night : Night) (vs : List ℤ) (cols : List ℕ) where
         let d : own j ≢ x = λ e. q (ap (mark (finish x w)) e ∙ get_or-set_same w.marks x 2 0 inside) in
         (d, λ e. q (get_or-set_other w.marks x (own j) 2 0 d ∙ e))
 
-    pub lowered-finished : Lowered night vs cols (finish x w) (cond (ltb x night.row_count) (set ts (at cols x) lowest) ts)
-    lowered-finished = by (dec_lt x night.row_count)
+    pub lowered_finished : Lowered night vs cols (finish x w) (cond (ltb x night.row_count) (set ts (at cols x) lowest) ts)
+    lowered_finished = by (dec_lt x night.row_count)
       where
         by : Dec (x < night.row_count) → Lowered night vs cols (finish x w) (cond (ltb x night.row_count) (set ts (at cols x) lowest) ts)
         by (no l) = rw (le-ltb x night.row_count (omega arith)) (record { size = h.size; bounded = h.bounded; kept = λ j b q. h.kept j b (other j q).1 })
@@ -73,5 +73,5 @@ module _ (night : Night) (vs : List ℤ) (cols : List ℕ) where
           ];
           kept = λ j b q.
               let o = other j q in
-              get_or-set_other ts (at cols x) j lowest (pos 0) (λ e. o.0 (ap own e ∙ source_of (pairing-injective night cols p) x l)) ∙ h.kept j b o.1;
+              get_or-set_other ts (at cols x) j lowest (pos 0) (λ e. o.0 (ap own e ∙ source_of (pairing_injective night cols p) x l)) ∙ h.kept j b o.1;
         })

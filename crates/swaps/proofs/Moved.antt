@@ -14,13 +14,13 @@ use Rattle.lists.proofs.Tables.{length-table, get_d_table}
 use Rattle.lists.proofs.Injections.{source_of}
 use Rattle.assignment.specs.Pairings.{Night, Pairing, Spare, signed_at}
 use Rattle.assignment.specs.Prices.{priced, Feasible, Tight, SparesNotBelow}
-use Rattle.assignment.proofs.Pairings.{pairing-injective}
-use Rattle.assignment.proofs.Duality.{prices-least}
+use Rattle.assignment.proofs.Pairings.{pairing_injective}
+use Rattle.assignment.proofs.Duality.{prices_least}
 use Rattle.swaps.specs.Walks.{Closed, place, on_closed, choice}
 use Rattle.swaps.specs.Second.{Another, nodes, behind, dearest, way, moved}
 use Rattle.swaps.proofs.Walks.{IsClosed}
 use Rattle.swaps.proofs.Closed.{In, in_next, in_before, in_first, in_below, in_apart, closed_true, closed_make}
-use Rattle.swaps.proofs.Ways.{rows-nodes, dearest_ok, behind-row, behind_spare, RowWay, row_read, spare_read}
+use Rattle.swaps.proofs.Ways.{rows_nodes, dearest_ok, behind_row, behind_spare, RowWay, row_read, spare_read}
 
 module _ (night : Night) (us vs : List ℤ) (fair : Feasible night us vs) (cols : List ℕ) (p : Pairing night cols) (tight : Tight night us vs cols)
     (spares : SparesNotBelow night vs cols) where
@@ -43,7 +43,7 @@ module _ (night : Night) (us vs : List ℤ) (fair : Feasible night us vs) (cols 
   top = dearest night vs cols
 
   behind-used : (i : ℕ) → i < m → own (at cols i) ≡ i
-  behind-used i l = source_of (pairing-injective night cols p) i l
+  behind-used i l = source_of (pairing_injective night cols p) i l
 
   -- No used column's price is above the highest, and no spare one's below it.
   pub used_top : (i : ℕ) → i < m → signed_at vs (at cols i) ≤ℤ top
@@ -76,14 +76,14 @@ module _ (night : Night) (us vs : List ℤ) (fair : Feasible night us vs) (cols 
     -- What is known of a row of the walk.
     record Step (i : ℕ) : Type 0 where
       below : chosen i < n
-      row-way : RowWay night us vs cols i (chosen i)
+      row_way : RowWay night us vs cols i (chosen i)
       next_inside : Inside (own (chosen i))
 
     step : (i : ℕ) → i < m → Inside i → Step i
     step i l k =
         let g = in_next N n go z c i k in
         let r = row_read night us vs cols i (chosen i) l (in_below N n go z c (go i (chosen i)) g.1) in
-        record { below = g.0.below; row-way = r; next_inside = subst Inside r.leads g.1 }
+        record { below = g.0.below; row_way = r; next_inside = subst Inside r.leads g.1 }
 
     -- ---- a pairing
 
@@ -98,7 +98,7 @@ module _ (night : Night) (us vs : List ℤ) (fair : Feasible night us vs) (cols 
               elim (cases k lk) [
                 | inl b ↦
                     let q : chosen i ≡ chosen k = sym a.1 ∙ e ∙ b.1 in
-                    in_apart N n go z c i k a.0 b.0 ((step i li a.0).row-way.leads ∙ ap own q ∙ sym (step k lk b.0).row-way.leads)
+                    in_apart N n go z c i k a.0 b.0 ((step i li a.0).row_way.leads ∙ ap own q ∙ sym (step k lk b.0).row_way.leads)
                 | inr b ↦ absurd (clash i k li lk a.0 b.0 (sym a.1 ∙ e ∙ b.1))
               ]
           | inr a ↦
@@ -108,24 +108,24 @@ module _ (night : Night) (us vs : List ℤ) (fair : Feasible night us vs) (cols 
               ]
         ]
 
-    moved-pairing : Pairing night after
-    moved-pairing = record {
+    moved_pairing : Pairing night after
+    moved_pairing = record {
       size = length-table m (λ i. cond (on_closed z i) (chosen i) (at cols i));
       inside = λ i l. ⊎_elim (λ a. omega (arith, (step i l a.0).below)) (λ a. omega (arith, p.inside i l)) (cases i l);
       apart = apart;
-      permitted = λ i l. ⊎_elim (λ a. ap (night.allowed i) a.1 ∙ (step i l a.0).row-way.permitted)
+      permitted = λ i l. ⊎_elim (λ a. ap (night.allowed i) a.1 ∙ (step i l a.0).row_way.permitted)
           (λ a. ap (night.allowed i) a.1 ∙ p.permitted i l) (cases i l);
     }
 
     -- ---- the prices show that it is least
 
-    moved-tight : Tight night us vs after
-    moved-tight = record {
+    moved_tight : Tight night us vs after
+    moved_tight = record {
       met = λ i l. elim (cases i l) [
         | inl a ↦
             let s = step i l a.0 in
             let e : priced us vs i (chosen i) ≡ night.cost i (chosen i) =
-            omega (zarith, s.row-way.level, fair.under i (chosen i) l s.below s.row-way.permitted) in
+            omega (zarith, s.row_way.level, fair.under i (chosen i) l s.below s.row_way.permitted) in
             rw a.1 e
         | inr a ↦ rw a.1 (tight.met i l)
       ];
@@ -135,7 +135,7 @@ module _ (night : Night) (us vs : List ℤ) (fair : Feasible night us vs) (cols 
     moved_top i l =
         elim (cases i l) [
           | inl a ↦ rw a.1
-              (⊎_elim (λ h. rw (behind-row night us vs cols (chosen i) h) at (used_top (own (chosen i)) h)) (λ h. h) (step i l a.0).row-way.not_above)
+              (⊎_elim (λ h. rw (behind_row night us vs cols (chosen i) h) at (used_top (own (chosen i)) h)) (λ h. h) (step i l a.0).row_way.not_above)
           | inr a ↦ rw a.1 (used_top i l)
         ]
 
@@ -147,24 +147,24 @@ module _ (night : Night) (us vs : List ℤ) (fair : Feasible night us vs) (cols 
         taken d (x, k, e) =
             elim (dec_lt x m) [
               | yes hx ↦
-                  let r = (step x hx k).row-way in
+                  let r = (step x hx k).row_way in
                   let q : own (chosen x) ≡ own j = sym r.leads ∙ e in
                   let t : chosen x ≡ j =
-                  sym (behind-row night us vs cols (chosen x) (omega arith)) ∙ ap (at cols) q ∙ behind-row night us vs cols j d in
+                  sym (behind_row night us vs cols (chosen x) (omega arith)) ∙ ap (at cols) q ∙ behind_row night us vs cols j d in
                   absurd (⊎_elim (λ b. s x hx (b.1 ∙ t)) (λ b. b.0 k) (cases x hx))
               | no hx ↦
-                  let r = spare_read night us vs cols x (chosen x) (omega arith) (omega (arith, e, rows-nodes night)) in
-                  let q : at cols (chosen x) ≡ j = ap (at cols) (sym r.0 ∙ e) ∙ behind-row night us vs cols j d in
+                  let r = spare_read night us vs cols x (chosen x) (omega arith) (omega (arith, e, rows_nodes night)) in
+                  let q : at cols (chosen x) ≡ j = ap (at cols) (sym r.0 ∙ e) ∙ behind_row night us vs cols j d in
                   rw q at r.2
             ]
 
         by : Dec (own j < m) → top ≤ℤ signed_at vs j
         by (no d) = spare_top h j l (behind_spare night us vs cols j (omega arith))
         by (yes d) =
-            ⊎_elim (λ a. taken d (in_before N n go z c (own j) a.0)) (λ a. absurd (s (own j) d (a.1 ∙ behind-row night us vs cols j d))) (cases (own j) d)
+            ⊎_elim (λ a. taken d (in_before N n go z c (own j) a.0)) (λ a. absurd (s (own j) d (a.1 ∙ behind_row night us vs cols j d))) (cases (own j) d)
 
-    moved-spares : SparesNotBelow night vs after
-    moved-spares = record { not_below = λ i j hi hj s. omega (zarith, moved_top i hi, moved_spare (omega arith) j hj s) }
+    moved_spares : SparesNotBelow night vs after
+    moved_spares = record { not_below = λ i j hi hj s. omega (zarith, moved_top i hi, moved_spare (omega arith) j hj s) }
 
     -- ---- and it is another
 
@@ -183,15 +183,15 @@ module _ (night : Night) (us vs : List ℤ) (fair : Feasible night us vs) (cols 
 
     off : (i : ℕ) → i < m → Inside i → at after i ≡ at cols i → ⊥
     off i l k e =
-        ⊎_elim (λ a. (step i l k).row-way.other (ap own (sym a.1 ∙ e) ∙ behind-used i l)) (λ a. a.0 k) (cases i l)
+        ⊎_elim (λ a. (step i l k).row_way.other (ap own (sym a.1 ∙ e) ∙ behind-used i l)) (λ a. a.0 k) (cases i l)
 
-    pub moved-another : Another night cols after
-    moved-another = record {
-      pairing = moved-pairing;
+    pub moved_another : Another night cols after
+    moved_another = record {
+      pairing = moved_pairing;
       same = omega (
         zarith,
-        (prices-least night us vs fair cols p tight spares).least after moved-pairing,
-        (prices-least night us vs fair after moved-pairing moved-tight moved-spares).least cols p,
+        (prices_least night us vs fair cols p tight spares).least after moved_pairing,
+        (prices_least night us vs fair after moved_pairing moved_tight moved_spares).least cols p,
       );
       differs = λ e. let a = a_row in off a.0 a.1 a.2 (ap (λ (l : List ℕ). at l a.0) e);
     }

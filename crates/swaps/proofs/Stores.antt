@@ -64,11 +64,11 @@ module _ (night : Night) (us vs : List ℤ) (cols : List ℕ) (z : Closed) (c : 
   abbrev written : List ℕ
   written = upward z.from z.walk.size (store night.row_count (place z.walk) chosen) cols
 
-  all : Stored night.row_count z.from z.walk.size (place z.walk) chosen cols c.sound.apart (omega (arith, c.from-below)) enough z.walk.size written
-  all = stores night.row_count z.from z.walk.size (place z.walk) chosen cols c.sound.apart (omega (arith, c.from-below)) enough
+  all : Stored night.row_count z.from z.walk.size (place z.walk) chosen cols c.sound.apart (omega (arith, c.from_below)) enough z.walk.size written
+  all = stores night.row_count z.from z.walk.size (place z.walk) chosen cols c.sound.apart (omega (arith, c.from_below)) enough
 
-  pub stored-length : length written ≡ length cols
-  stored-length = all.long
+  pub stored_length : length written ≡ length cols
+  stored_length = all.long
 
   -- The stores make the moved pairing.
   pub stored_moved : (i : ℕ) → i < night.row_count → at written i ≡ at (moved night us vs cols z) i

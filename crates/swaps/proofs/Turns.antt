@@ -14,12 +14,12 @@ use Rattle.ints.proofs.Shapes.{zlin}
 use Rattle.lists.specs.Runs.{Turn, on, left, until, first}
 use Rattle.lists.specs.Sums.{sum}
 use Rattle.lists.proofs.Cases.{cond_cases}
-use Rattle.lists.proofs.Runs.{first_le, first_holds, first-before}
+use Rattle.lists.proofs.Runs.{first_le, first_holds, first_before}
 use Rattle.lists.proofs.Leaving.{Either, goes_on, is_left_lem, either_map, until_keeps}
 use Rattle.lists.proofs.Sums.{sum_zero, sum_cong, sum_le_tight}
 use Rattle.lists.proofs.Injections.{source_of}
 use Rattle.swaps.specs.Walks.{Walk, Closed, mark, place_of, last, is_done, enter, finish, unseen, live, choice, begin, go_from, turn, walk}
-use Rattle.swaps.proofs.Walks.{marked, Leads, Sound, IsClosed, live-read, live_make, path-injective, enter_sound, enter-marked, enter_done, last-inside, finish_sound, finish-marked, finish_done}
+use Rattle.swaps.proofs.Walks.{marked, Leads, Sound, IsClosed, live-read, live_make, path_injective, enter_sound, enter-marked, enter_done, last_inside, finish_sound, finish-marked, finish_done}
 
 -- Twice as many as the numbers below n.
 twos : (n : ℕ) → sum n (λ i. pos 2) ≡ pos (n + n)
@@ -48,7 +48,7 @@ module _ (nodes width : ℕ) (way : ℕ → ℕ → ℕ) where
       x = first nodes test
 
       all : (x < nodes → ⊥) → (y : ℕ) → y < nodes → mark w y ≡ 2
-      all l y m = eqb-true (mark w y) 2 (not-false (is_done w y) (first-before test nodes y (omega (arith, first_le test nodes))))
+      all l y m = eqb-true (mark w y) 2 (not-false (is_done w y) (first_before test nodes y (omega (arith, first_le test nodes))))
 
       by : Dec (x < nodes) → (x < nodes) × (mark w x ≡ 0)
       by (yes l) =
@@ -112,15 +112,15 @@ module _ (nodes width : ℕ) (way : ℕ → ℕ → ℕ) where
           closes : y < nodes → mark w y ≡ 1 → Leads nodes width way w (last w) y → IsClosed nodes width way (record { from = place_of w y; walk = w })
           closes l m g =
               let p = s.placed y l m in
-              let q : place_of w y ≡ p.0 = ap (place_of w) (sym p.2) ∙ source_of (path-injective nodes width way w s) p.0 p.1 in
-              record { sound = s; from-below = omega (arith, p.1); back = rw (q, p.2) g }
+              let q : place_of w y ≡ p.0 = ap (place_of w) (sym p.2) ∙ source_of (path_injective nodes width way w s) p.0 p.1 in
+              record { sound = s; from_below = omega (arith, p.1); back = rw (q, p.2) g }
 
           dead : (c < width → ⊥) → (a : ℕ) → a < width → way (last w) a < nodes → mark w (way (last w) a) ≡ 2
           dead l a m n = elim (ℕ_discrete (mark w (way (last w) a)) 2) [
             | yes e ↦ e
             | no d ↦
                 absurd (true≢false
-                (sym (live_make nodes width way w (way (last w) a) n d) ∙ first-before test width a (omega (arith, first_le test width))))
+                (sym (live_make nodes width way w (way (last w) a) n d) ∙ first_before test width a (omega (arith, first_le test width))))
           ]
 
           by : Dec (c < width) → Next k (go_from nodes width way (last w) w)
@@ -134,7 +134,7 @@ module _ (nodes width : ℕ) (way : ℕ → ℕ → ℕ) where
           by (no l) =
               rw (le-ltb c width (omega arith))
               (goes_on (finished h
-              (step (last w) (last-inside nodes width way w s h) (λ a m n. proved (way (last w) a) n (dead l a m n)))))
+              (step (last w) (last_inside nodes width way w s h) (λ a m n. proved (way (last w) a) n (dead l a m n)))))
 
       turn_all : k < nodes + nodes → Next k (turn nodes width way w)
       turn_all h =
@@ -150,11 +150,11 @@ module _ (nodes width : ℕ) (way : ℕ → ℕ → ℕ) where
   pub start_ok : State 0 (unseen nodes)
   start_ok = record {
     sound = record {
-      path-size = length-replicate {A = ℕ} nodes 0;
-      marks-size = length-replicate {A = ℕ} nodes 0;
+      path_size = length-replicate {A = ℕ} nodes 0;
+      marks_size = length-replicate {A = ℕ} nodes 0;
       known = λ x l. omega (arith, get_or-replicate {A = ℕ} nodes x 0 0 l);
       inside = λ k l. absurd (omega arith);
-      on-path = λ k l. absurd (omega arith);
+      on_path = λ k l. absurd (omega arith);
       apart = λ i k l m e. absurd (omega arith);
       placed = λ x l e. absurd (omega (arith, get_or-replicate {A = ℕ} nodes x 0 0 l));
       linked = λ k l. absurd (omega arith);
@@ -163,8 +163,8 @@ module _ (nodes width : ℕ) (way : ℕ → ℕ → ℕ) where
   }
 
   -- What holds of a walk after so many turns.
-  pub state-after : (k : ℕ) (w : Walk) → k ≤ nodes + nodes → until 0 k (λ t. turn nodes width way) (unseen nodes) ≡ on w → State k w
-  state-after k w h e =
+  pub state_after : (k : ℕ) (w : Walk) → k ≤ nodes + nodes → until 0 k (λ t. turn nodes width way) (unseen nodes) ≡ on w → State k w
+  state_after k w h e =
       by
       (subst (Either (State k) (IsClosed nodes width way)) e
       (until_keeps State (IsClosed nodes width way) 0 k (λ t. turn nodes width way) (unseen nodes) (omega arith) start_ok

@@ -15,7 +15,7 @@ use Rattle.ints.proofs.Ranges.{zarith}
 use Rattle.ints.proofs.Tests.{le_le_z}
 use Rattle.lists.specs.Permutations.{at}
 use Rattle.lists.proofs.Cases.{or_either, or_second}
-use Rattle.lists.proofs.Runs.{upward_keeps, first_le, first_holds, first-before}
+use Rattle.lists.proofs.Runs.{upward_keeps, first_le, first_holds, first_before}
 use Rattle.assignment.specs.Pairings.{Night, Spare, signed_at}
 use Rattle.assignment.specs.Prices.{priced}
 use Rattle.swaps.specs.Second.{nodes, behind, dearest, fits, row_way, spare_way, way}
@@ -29,8 +29,8 @@ picked false a b l = absurd (omega arith)
 
 -- ---- the nodes
 
-pub rows-nodes : (night : Night) → night.row_count ≤ nodes night
-rows-nodes night =
+pub rows_nodes : (night : Night) → night.row_count ≤ nodes night
+rows_nodes night =
     elim (dec_lt night.row_count night.column_count) [
       | yes l ↦ rw (lt-ltb night.row_count night.column_count l) (omega arith)
       | no l ↦ rw (le-ltb night.row_count night.column_count (omega arith)) (omega arith)
@@ -84,11 +84,11 @@ module _ (night : Night) (us vs : List ℤ) (cols : List ℕ) where
   pub behind_le : (j : ℕ) → own j ≤ m
   behind_le j = first_le (λ i. eqb (at cols i) j) m
 
-  pub behind-row : (j : ℕ) → own j < m → at cols (own j) ≡ j
-  behind-row j l = eqb-true (at cols (own j)) j (first_holds (λ i. eqb (at cols i) j) m l)
+  pub behind_row : (j : ℕ) → own j < m → at cols (own j) ≡ j
+  behind_row j l = eqb-true (at cols (own j)) j (first_holds (λ i. eqb (at cols i) j) m l)
 
   pub behind_spare : (j : ℕ) → m ≤ own j → Spare night cols j
-  behind_spare j l i h = eqb-false (at cols i) j (first-before (λ k. eqb (at cols k) j) m i (omega arith))
+  behind_spare j l i h = eqb-false (at cols i) j (first_before (λ k. eqb (at cols k) j) m i (omega arith))
 
   -- ---- the ways of a row
 

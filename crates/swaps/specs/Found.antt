@@ -19,9 +19,9 @@ written_in (also other) list = other
 pub record CanSearch (m n : ℕ) (costs : List ℤ) (bars cols : List ℕ) (us vs : List ℤ) (list room : List ℕ) (numbers : List ℤ) : Type 0 where
   pub some : 0 < m
   pub fair : Fair m n costs bars cols us vs
-  pub list-size : length list ≡ m
-  pub room-size : length room ≡ n + n + n + n
-  pub numbers-size : length numbers ≡ n
+  pub list_size : length list ≡ m
+  pub room_size : length room ≡ n + n + n + n
+  pub numbers_size : length numbers ≡ n
 
 -- What is found.
 pub record SearchedBy (m n : ℕ) (costs : List ℤ) (bars cols : List ℕ) (us vs : List ℤ) (list : List ℕ) (r : Bool) (after : List ℕ) : Type 0 where
@@ -31,9 +31,9 @@ pub record SearchedBy (m n : ℕ) (costs : List ℤ) (bars cols : List ℕ) (us 
 -- What is found with, of any night, and what is left: the rooms are cleared.
 pub record CanFind (m n : ℕ) (costs : List ℤ) (bars cols : List ℕ) (us vs : List ℤ) (list room : List ℕ) (numbers : List ℤ) : Type 0 where
   pub fair : Fair m n costs bars cols us vs
-  pub list-size : length list ≡ m
-  pub room-size : length room ≡ n + n + n + n
-  pub numbers-size : length numbers ≡ n
+  pub list_size : length list ≡ m
+  pub room_size : length room ≡ n + n + n + n
+  pub numbers_size : length numbers ≡ n
 
 pub record FoundBy (m n : ℕ) (costs : List ℤ) (bars cols : List ℕ) (us vs : List ℤ) (list : List ℕ) (r : Bool) (after room : List ℕ) (numbers : List ℤ) : Type 0 where
   pub searched : SearchedBy m n costs bars cols us vs list r after
@@ -48,13 +48,13 @@ written_front m (also other) list = other ++ drop m list
 pub record CanFindIn (m n : ℕ) (costs : List ℤ) (bars cols : List ℕ) (us vs : List ℤ) (list indices : List ℕ) (numbers : List ℤ) : Type 0 where
   pub small : n ≤ side
   pub filled : length costs ≡ m * n
-  pub row-prices : Prices m us
-  pub column-prices : Prices n vs
+  pub row_prices : Prices m us
+  pub column_prices : Prices n vs
   pub listed : m ≤ length cols
   pub shown : Shown (night_of m n costs bars) cols us vs
-  pub list-long : m ≤ length list
-  pub indices-long : 4 * n ≤ length indices
-  pub numbers-long : n ≤ length numbers
+  pub list_long_lem : m ≤ length list
+  pub indices_long : 4 * n ≤ length indices
+  pub numbers_long : n ≤ length numbers
 
 pub record FoundIn (m n : ℕ) (costs : List ℤ) (bars cols : List ℕ) (us vs : List ℤ) (list indices : List ℕ) (numbers : List ℤ) (r : Bool) (list' indices' : List ℕ) (numbers' : List ℤ) : Type 0 where
   pub told : r ≡ another (second (night_of m n costs bars) us vs cols)

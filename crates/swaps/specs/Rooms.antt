@@ -20,8 +20,8 @@ use Rattle.swaps.specs.declared.Walked.TheVariants.{Ended, Came}
 pub record Fair (m n : ℕ) (costs : List ℤ) (bars cols : List ℕ) (us vs : List ℤ) : Type 0 where
   pub small : n ≤ side
   pub filled : length costs ≡ m * n
-  pub row-prices : Prices m us
-  pub column-prices : Prices n vs
+  pub row_prices : Prices m us
+  pub column_prices : Prices n vs
   pub pairing : Pairing (night_of m n costs bars) cols
   pub feasible : Feasible (night_of m n costs bars) us vs
   pub tight : Tight (night_of m n costs bars) us vs cols
@@ -81,12 +81,12 @@ gone m n size x c room =
 -- What it is gone with: the room is large enough, and each choice below n leads to a node below n.
 pub record CanGo (m n size x c : ℕ) (room : List ℕ) : Type 0 where
   pub small : n ≤ side
-  pub room-size : length room ≡ n + n + n + n
+  pub room_size : length room ≡ n + n + n + n
   pub some : 0 < size
-  pub path-size : size ≤ n
+  pub path_size : size ≤ n
   pub node : x < n
-  pub choice-size : c ≤ n
-  pub nodes-inside : (j : ℕ) → j < n → at room j < n
+  pub choice_size : c ≤ n
+  pub nodes_inside : (j : ℕ) → j < n → at room j < n
   pub path_room : c < n → eqb (at (advanced n x c room) (n + n + over_to m x c (advanced n x c room))) 1 ≡ false → size < n
 
 -- The choice of node x under the marks of a room.
@@ -99,7 +99,7 @@ pub record CanChoose (m n : ℕ) (costs : List ℤ) (bars cols : List ℕ) (us v
   pub fair : Fair m n costs bars cols us vs
   pub highest : top ≡ dearest (night_of m n costs bars) vs cols
   pub node : x < nodes (night_of m n costs bars)
-  pub room-size : length room ≡ n + n + n + n
+  pub room_size : length room ≡ n + n + n + n
   pub columns : (j : ℕ) → j < n → at room j ≡ behind (night_of m n costs bars) cols j
   pub bounded : come_to n room x ≤ n
   pub lowered : Lowered (night_of m n costs bars) vs cols (walk_in n (nodes (night_of m n costs bars)) 0 room) ts
@@ -117,7 +117,7 @@ module _ (night : Night) (us vs : List ℤ) (cols : List ℕ) where
   -- The room holds a walk under way: no choice that a node has passed leads to a node which is not done, and the path went over the choices to which
   -- its nodes have come.
   pub record Holds (size : ℕ) (room : List ℕ) : Type 0 where
-    pub room-size : length room ≡ night.column_count + night.column_count + night.column_count + night.column_count
+    pub room_size : length room ≡ night.column_count + night.column_count + night.column_count + night.column_count
     pub columns : (j : ℕ) → j < night.column_count → at room j ≡ behind night cols j
     pub bounded : (x : ℕ) → x < nodes night → come_to night.column_count room x ≤ night.column_count
     pub passed : (x c : ℕ) → x < nodes night → c < come_to night.column_count room x → live (nodes night) (walk_of size room) (way night us vs cols x c) ≡ false
@@ -133,8 +133,8 @@ module _ (night : Night) (us vs : List ℤ) (cols : List ℕ) where
   closed_in from size room = record { from = from; walk = walk_of size room }
 
   pub record Chosen (size : ℕ) (room : List ℕ) : Type 0 where
-    pub room-size : length room ≡ night.column_count + night.column_count + night.column_count + night.column_count
-    pub at-choice : (t : ℕ) → t < size
+    pub room_size : length room ≡ night.column_count + night.column_count + night.column_count + night.column_count
+    pub at_choice : (t : ℕ) → t < size
         → come_to night.column_count room (place (walk_of size room) t) ≡ choice (nodes night) night.column_count (way night us vs cols) (walk_of size room) (place (walk_of size room) t)
 
   -- What a turn leaves: a path of another size, or the place to which the path has come back.
@@ -155,12 +155,12 @@ move_at m n room k l = cond (ltb (at room (n + k)) m) (set l (at room (n + k)) (
 -- What the moves are asked with.
 pub record CanMove (m n from size : ℕ) (cols room second : List ℕ) : Type 0 where
   pub small : n ≤ side
-  pub room-size : length room ≡ n + n + n + n
-  pub path-size : size ≤ n
+  pub room_size : length room ≡ n + n + n + n
+  pub path_size : size ≤ n
   pub order : from ≤ size
   pub rows : m ≤ n
   pub listed : length cols ≡ m
-  pub second-size : length second ≡ m
+  pub second_size : length second ≡ m
 
 -- What a turn is asked with, and what the whole walk is.
 pub record CanTurn (m n : ℕ) (costs : List ℤ) (bars cols : List ℕ) (us vs ts : List ℤ) (top : ℤ) (count size : ℕ) (room : List ℕ) : Type 0 where

@@ -21,9 +21,9 @@ use Rattle.bars.specs.Barred.{night_of, first_barred, bits_above, filled_costs}
 use Rattle.bars.proofs.FilledCosts.{filled_costs_length, filled_costs_within}
 use Rattle.bars.specs.Tests.{barred_most}
 use Rattle.bars.proofs.Barred.{barred-total}
-use Rattle.bars.proofs.Passed.{barred_most-small}
+use Rattle.bars.proofs.Passed.{barred_most_small}
 use Rattle.matrix.specs.Limits.{side, sheet_side, K}
-use Rattle.matrix.proofs.SmallLimits.{sheet_side-within}
+use Rattle.matrix.proofs.SmallLimits.{sheet_side_within}
 use Rattle.matrix.specs.declared.Answer.TheVariants.{Total}
 use Rattle.rules.specs.Run.{Result}
 use Rattle.rules.specs.Right.{Right}
@@ -31,8 +31,8 @@ use Rattle.rules.proofs.Run.{right_within_ten}
 use Rattle.checker.specs.Check.{check, check_barred, check_oblong}
 use Rattle.checker.specs.Proven.{Accepts, Proven}
 use Rattle.checker.proofs.Accepted.{proven_accepted}
-use Rattle.checker.proofs.Least.{accepted-least, accepted_iff_least}
-use Rattle.checker.proofs.FromSquare.{filled-accepted, padded_proven_accepted}
+use Rattle.checker.proofs.Least.{accepted_least, accepted_iff_least}
+use Rattle.checker.proofs.FromSquare.{filled_accepted, padded_proven_accepted}
 use Rattle.lapjv.specs.declared.Solved.TheVariants.{Paired}
 use Rattle.lapjv.specs.Answers.{answer}
 use Rattle.lapjv.specs.Solve.{Lent, Outcome, solve}
@@ -52,11 +52,11 @@ module _ (n : ℕ) (costs : List ℤ) (small : n ≤ side) (squared : length cos
   run_proven =
       let r = owed in
       record {
-        sizes = record { small = small; squared = squared; columns-listed = omega (arith, r.cols-size); rows-listed = omega (arith, r.rows-size) };
+        sizes = record { small = small; squared = squared; columns_listed = omega (arith, r.cols_size); rows_listed = omega (arith, r.rows_size) };
         within = within;
         named = r.named;
-        row-prices = record { enough = omega (arith, r.row_prices_size); within = (right_within_ten n costs K found r).0 };
-        column-prices = record { enough = omega (arith, r.column_prices_size); within = (right_within_ten n costs K found r).1 };
+        row_prices = record { enough = omega (arith, r.row_prices_size); within = (right_within_ten n costs K found r).0 };
+        column_prices = record { enough = omega (arith, r.column_prices_size); within = (right_within_ten n costs K found r).1 };
         feasible = r.feasible;
         tight = r.tight;
       }
@@ -64,26 +64,26 @@ module _ (n : ℕ) (costs : List ℤ) (small : n ≤ side) (squared : length cos
   total_front : (c : List ℕ) → total (square n costs) (found.cols ++ c) ≡ found.total
   total_front c =
       let o = owed in
-      sym (total_first (square n costs) (found.cols ++ c)) ∙ ap (total (square n costs)) (take_at found.cols c n o.cols-size) ∙ sym o.total_is
+      sym (total_first (square n costs) (found.cols ++ c)) ∙ ap (total (square n costs)) (take_at found.cols c n o.cols_size) ∙ sym o.total_is
 
   -- The rules' columns and prices are proven under any rows that the columns name back.
   pub run_proven_by : (rows : List ℕ) → n ≤ length rows → Named (square n costs) found.cols rows → Proven n costs found.cols rows found.prices_of_rows found.prices_of_columns
   run_proven_by rows listed named =
       let f = run_proven in
       record {
-        sizes = record { small = small; squared = squared; columns-listed = f.sizes.columns-listed; rows-listed = listed };
+        sizes = record { small = small; squared = squared; columns_listed = f.sizes.columns_listed; rows_listed = listed };
         within = within;
         named = named;
-        row-prices = f.row-prices;
-        column-prices = f.column-prices;
+        row_prices = f.row_prices;
+        column_prices = f.column_prices;
         feasible = f.feasible;
         tight = f.tight;
       }
 
   -- The checker accepts them, with their total.
-  pub run-accepted : (rows : List ℕ) → n ≤ length rows → Named (square n costs) found.cols rows
+  pub run_accepted : (rows : List ℕ) → n ≤ length rows → Named (square n costs) found.cols rows
       → check n costs found.cols rows found.prices_of_rows found.prices_of_columns ≡ Total found.total
-  run-accepted rows listed named =
+  run_accepted rows listed named =
       proven_accepted n costs found.cols rows found.prices_of_rows found.prices_of_columns (run_proven_by rows listed named)
       ∙ ap Total (sym owed.total_is)
 
@@ -93,7 +93,7 @@ module _ (n : ℕ) (costs : List ℤ) (small : n ≤ side) (squared : length cos
   checker_accepts_run c r u v =
       let o = owed in
       proven_accepted n costs (found.cols ++ c) (found.rows ++ r) (found.prices_of_rows ++ u) (found.prices_of_columns ++ v)
-      (proven_front n costs found.cols found.rows found.prices_of_rows found.prices_of_columns o.cols-size o.rows-size o.row_prices_size
+      (proven_front n costs found.cols found.rows found.prices_of_rows found.prices_of_columns o.cols_size o.rows_size o.row_prices_size
       o.column_prices_size run_proven c r u v)
       ∙ ap Total (total_front c)
 
@@ -107,20 +107,20 @@ module _ (n : ℕ) (costs : List ℤ) (bars : List ℕ) (small : n ≤ sheet_sid
   abbrev answered : Result
   answered = answer n filled
 
-  filled-small : n ≤ side
-  filled-small = le_trans small sheet_side-within
+  filled_small : n ≤ side
+  filled_small = le_trans small sheet_side_within
 
   filled-near : (k : ℕ) → k < length filled → Within K (signed_at filled k)
   filled-near k l =
-      filled_costs_within n (pos K) costs bars K (omega zlin) (λ i h. within_mono barred_most-small (within i (omega (arith, squared)))) k (omega (arith, filled_costs_length n (pos K) costs bars))
+      filled_costs_within n (pos K) costs bars K (omega zlin) (λ i h. within_mono barred_most_small (within i (omega (arith, squared)))) k (omega (arith, filled_costs_length n (pos K) costs bars))
 
   pub run_barred_accepted : n ≤ first_barred n bars answered.cols → (rows : List ℕ) → n ≤ length rows → Named (square n filled) answered.cols rows
       → check_barred n costs answered.cols rows answered.prices_of_rows answered.prices_of_columns bars ≡ Total answered.total
   run_barred_accepted free rows long named =
       let size = filled_costs_length n (pos K) costs bars in
-      let o = answer_owes n filled filled-small filled-near in
-      filled-accepted n (pos K) costs bars small squared listed within clear answered.cols rows answered.prices_of_rows answered.prices_of_columns
-      (run_proven_by n filled filled-small size filled-near rows long named) free
+      let o = answer_owes n filled filled_small filled-near in
+      filled_accepted n (pos K) costs bars small squared listed within clear answered.cols rows answered.prices_of_rows answered.prices_of_columns
+      (run_proven_by n filled filled_small size filled-near rows long named) free
       ∙ ap Total (sym (o.total_is ∙ barred-total n (pos K) costs bars answered.cols o.pairing free))
 
 -- An oblong night: the checker of such nights accepts the first m columns and row prices, and all column prices, of the rules' answer on a square of
@@ -133,11 +133,11 @@ module _ (m n : ℕ) (costs padding : List ℤ) (small : n ≤ sheet_side) (fits
 
   pub run_oblong_accepted : check_oblong m n costs padded-answer.cols padded-answer.prices_of_rows padded-answer.prices_of_columns ≡ Total (total (night_of m n costs []) padded-answer.cols)
   run_oblong_accepted =
-      let s = le_trans small sheet_side-within in
+      let s = le_trans small sheet_side_within in
       let o = answer_owes n padding s near in
       let f = run_proven n padding s squared near in
-      padded_proven_accepted m n costs small fits size within padded-answer.cols padded-answer.prices_of_rows padded-answer.prices_of_columns f.row-prices f.column-prices
-      padded-answer.rows padding reads o.cols-size f
+      padded_proven_accepted m n costs small fits size within padded-answer.cols padded-answer.prices_of_rows padded-answer.prices_of_columns f.row_prices f.column_prices
+      padded-answer.rows padding reads o.cols_size f
 
 -- The solver: where it pairs a night, the checker accepts what it leaves in the outputs, with its total; and the pairing is least.
 module _ (n : ℕ) (costs : List ℤ) (lent : Lent) (p : WithinLimits n costs lent) where
@@ -149,14 +149,14 @@ module _ (n : ℕ) (costs : List ℤ) (lent : Lent) (p : WithinLimits n costs le
   checker_accepts_solver =
       subst (λ (o : Outcome). check n costs o.lent.cols o.lent.rows o.lent.prices_of_rows o.lent.prices_of_columns ≡ Total (answer n costs).total)
       (sym (passes_paired n costs lent p))
-      (checker_accepts_run n costs p.small p.squared p.costs-within (drop n lent.cols) (drop n lent.rows) (drop n lent.prices_of_rows)
+      (checker_accepts_run n costs p.small p.squared p.costs_within_lem (drop n lent.cols) (drop n lent.rows) (drop n lent.prices_of_rows)
       (drop n lent.prices_of_columns))
 
   pub solved_answer : (solve n costs lent).answer ≡ Paired (record { total = (answer n costs).total; counts = (answer n costs).counts })
   solved_answer = ap (λ (o : Outcome). o.answer) (passes_paired n costs lent p)
 
   pub solved_least : Least (square n costs) (take n after.cols)
-  solved_least = accepted-least n costs after.cols after.rows after.prices_of_rows after.prices_of_columns checker_accepts_solver
+  solved_least = accepted_least n costs after.cols after.rows after.prices_of_rows after.prices_of_columns checker_accepts_solver
 
   -- THE SOLVER'S PRICES HELD FIXED: a well-formed pairing is accepted under them exactly if it is least.
   pub solver_prices_held : (other back : List ℕ) → n ≤ length other → n ≤ length back → Named (square n costs) other back

@@ -17,12 +17,12 @@ use Rattle.checker.specs.Proven.{Fair}
 use Rattle.sheet.specs.Reading.{Laid, night, read}
 use Rattle.sheet.specs.Settle.{solved_costs, found, barred_row, pair}
 use Rattle.sheet.proofs.Pairing.{Readable}
-use Rattle.sheet.proofs.Nights.{sheet_night, readable, owed, night-feasible, night-pairing, night-tight, night-spares}
+use Rattle.sheet.proofs.Nights.{sheet_night, readable, owed, night_feasible, night_pairing, night_tight, night_spares}
 use Rattle.audit.specs.Audit.{unlike, slip_tests, audit}
 use Rattle.audit.specs.declared.Audited.TheVariants.{Holds}
 use Rattle.audit.proofs.Checking.{proof_tests_iff}
-use Rattle.audit.proofs.Holding.{slip_like, read-edition, read_larger, accepted-holds}
-use Rattle.theorems.proofs.Slips.{cols-size, row_prices_size, row_price, near, slip_is, columns_are, row_prices_are, column_prices_are, total_is, slip_states_total}
+use Rattle.audit.proofs.Holding.{slip_like, read_edition, read_larger, accepted_holds}
+use Rattle.theorems.proofs.Slips.{cols_size, row_prices_size, row_price, near, slip_is, columns_are, row_prices_are, column_prices_are, total_is, slip_states_total}
 
 -- A sheet that reads as a night with a pairing.
 module _ (sheet room : List ℕ) (laid : Laid) (e : read (length room) sheet ≡ night laid) (free : laid.side ≤ barred_row laid) where
@@ -57,32 +57,32 @@ module _ (sheet room : List ℕ) (laid : Laid) (e : read (length room) sheet ≡
   like : unlike laid.edition m n slip ≡ false
   like =
       ap (unlike laid.edition m n) (slip_is sheet room laid e free)
-      ∙ slip_like laid.edition m n cols prices_of_rows a.prices_of_columns a.total fits.fewer fits.few (read-edition (length room) sheet laid e)
-      (cols-size sheet room laid e free) (row_prices_size sheet room laid e free) right.column_prices_size
+      ∙ slip_like laid.edition m n cols prices_of_rows a.prices_of_columns a.total fits.fewer fits.few (read_edition (length room) sheet laid e)
+      (cols_size sheet room laid e free) (row_prices_size sheet room laid e free) right.column_prices_size
 
   fair : Fair its prices_of_rows a.prices_of_columns
   fair =
-      let feasible = night-feasible sheet (length room) laid e free in
+      let feasible = night_feasible sheet (length room) laid e free in
       record {
-        row-prices = record { enough = omega (arith, row_prices_size sheet room laid e free); within = near sheet room laid e free };
-        column-prices = record { enough = omega (arith, right.column_prices_size); within = (right_within_ten n (solved_costs laid) K a right).1 };
+        row_prices = record { enough = omega (arith, row_prices_size sheet room laid e free); within = near sheet room laid e free };
+        column_prices = record { enough = omega (arith, right.column_prices_size); within = (right_within_ten n (solved_costs laid) K a right).1 };
         feasible = record { under = λ i j hi hj h. rw (row_price sheet room laid e free i hi) (feasible.under i j hi hj h) };
       }
 
   passed : Passes (slip_tests m n laid.costs laid.bars slip)
   passed =
       rw (columns_are sheet room laid e free, row_prices_are sheet room laid e free, column_prices_are sheet room laid e free)
-      (let tight = night-tight sheet (length room) laid e free in
-      (proof_tests_iff m n laid.costs laid.bars cols prices_of_rows a.prices_of_columns (cols-size sheet room laid e free) (row_prices_size sheet room laid e free)
+      (let tight = night_tight sheet (length room) laid e free in
+      (proof_tests_iff m n laid.costs laid.bars cols prices_of_rows a.prices_of_columns (cols_size sheet room laid e free) (row_prices_size sheet room laid e free)
       right.column_prices_size).1 (
-        night-pairing sheet (length room) laid e free,
+        night_pairing sheet (length room) laid e free,
         fair,
         record { met = λ i l. rw (row_price sheet room laid e free i l) (tight.met i l) },
-        night-spares sheet (length room) laid e free,
+        night_spares sheet (length room) laid e free,
       ))
 
   -- "it accepts every slip that the sheet entry wrote".
-  pub slip-holds : audit sheet slip ≡ Holds n a.total
-  slip-holds =
-      accepted-holds sheet slip laid (read_larger (length room) sheet laid e) like passed (slip_states_total sheet room laid e free)
+  pub slip_holds : audit sheet slip ≡ Holds n a.total
+  slip_holds =
+      accepted_holds sheet slip laid (read_larger (length room) sheet laid e) like passed (slip_states_total sheet room laid e free)
       ∙ ap (Holds n) (total_is sheet room laid e free)

@@ -29,16 +29,16 @@ module _ (n : ℕ) (costs : List ℤ) (cols rows : List ℕ) (us vs : List ℤ) 
     sizes = record {
       small = f.sizes.small;
       squared = f.sizes.squared;
-      columns-listed = omega (arith, length-append cols c);
-      rows-listed = omega (arith, length-append rows r);
+      columns_listed = omega (arith, length-append cols c);
+      rows_listed = omega (arith, length-append rows r);
     };
     within = f.within;
     named = record {
       inside = λ i l. rw (column i l) (f.named.inside i l);
       back = λ i l. ap (at (rows ++ r)) (column i l) ∙ at_front n rows r size-rows (at cols i) (f.named.inside i l) ∙ f.named.back i l;
     };
-    row-prices = prices_front n us u size-us f.row-prices;
-    column-prices = prices_front n vs v size-vs f.column-prices;
+    row_prices = prices_front n us u size-us f.row_prices;
+    column_prices = prices_front n vs v size-vs f.column_prices;
     feasible = record { under = λ i j l m e. rw (price_front n us u size-us i l, price_front n vs v size-vs j m) (f.feasible.under i j l m e) };
     tight = record {
       met = λ i l. ap₂ ◌+ℤ◌ (price_front n us u size-us i l)

@@ -35,7 +35,7 @@ use Rattle.sheet.specs.Settle.{solved_costs, found, barred_row, rows_shown, Deli
 use Rattle.sheet.proofs.Sheets.{below_word}
 use Rattle.sheet.proofs.Editions.{barred_uncounted}
 use Rattle.sheet.proofs.Pairing.{Readable}
-use Rattle.sheet.proofs.Nights.{sheet_night, readable, owed, costs-near, night-pairing}
+use Rattle.sheet.proofs.Nights.{sheet_night, readable, owed, costs-near, night_pairing}
 
 -- Costs within an edition's limit leave K far above, where the edition has bars.
 margin : (n : ℕ) → n ≤ 64 → pos (barred_most + n * (2 * barred_most)) <ℤ pos K
@@ -78,8 +78,8 @@ module _ (sheet room : List ℕ) (laid : Laid) (e : read (length room) sheet ≡
   square_there : barred_row laid < n → m ≡ n
   square_there h = fits.square (barred_uncounted laid.edition (bars_there h))
 
-  barred-small : barred_row laid < n → (k : ℕ) → k < n * n → Within barred_most (signed_at laid.costs k)
-  barred-small h k l =
+  barred_small : barred_row laid < n → (k : ℕ) → k < n * n → Within barred_most (signed_at laid.costs k)
+  barred_small h k l =
       let there : k < length laid.costs = omega (arith, fits.filled, ap (λ (i : ℕ). i * n) (square_there h)) in
       subst (λ (c : ℕ). Within c (signed_at laid.costs k)) (ap (λ (u : Bool). cond u barred_most K) (bars_there h)) (costs-near sheet (length room) laid e k there)
 
@@ -90,13 +90,13 @@ module _ (sheet room : List ℕ) (laid : Laid) (e : read (length room) sheet ≡
   pub barred_none : (barred_row laid < n) ↔ None
   barred_none = (
     λ h. subst (λ (x : Night). (other : List ℕ) → Pairing x other → ⊥) (its_square h)
-        ((barred_iff n (pos K) laid.costs laid.bars barred_most (barred-small h) (margin n fits.few) a.prices_of_rows a.prices_of_columns right.feasible a.cols right.pairing right.tight).0 h),
+        ((barred_iff n (pos K) laid.costs laid.bars barred_most (barred_small h) (margin n fits.few) a.prices_of_rows a.prices_of_columns right.feasible a.cols right.pairing right.tight).0 h),
     λ none. by none (dec_lt (barred_row laid) n),
   )
     where
       by : None → Dec (barred_row laid < n) → barred_row laid < n
       by none (yes h) = h
-      by none (no h) = absurd (none (take m a.cols) (night-pairing sheet (length room) laid e (omega arith)))
+      by none (no h) = absurd (none (take m a.cols) (night_pairing sheet (length room) laid e (omega arith)))
 
   delivered : {t : Bool} → ltb (barred_row laid) n ≡ t → pair sheet room ≡ cond t (blocked_as room laid) (slip_as room laid)
   unfolding pair
@@ -138,12 +138,12 @@ module _ (sheet room : List ℕ) (laid : Laid) (e : read (length room) sheet ≡
     twenty_shows =
         subst (λ (rows : ℕ). Blocked its (bit_of rows)) (sym shown_is)
         (subst (λ (x : Night). Blocked x (bit_of (rows_shown laid))) (its_square h)
-        (shown_blocked n (pos K) laid.costs laid.bars barred_most (barred-small h) (margin n fits.few) a.prices_of_rows a.prices_of_columns right.feasible a.cols right.pairing right.tight h))
+        (shown_blocked n (pos K) laid.costs laid.bars barred_most (barred_small h) (margin n fits.few) a.prices_of_rows a.prices_of_columns right.feasible a.cols right.pairing right.tight h))
 
     pub twenty_ones : ones (columns_mask n laid.bars shown) < ones shown
     twenty_ones =
         subst (λ (rows : ℕ). ones (columns_mask n laid.bars rows) < ones rows) (sym shown_is)
-        (shown_ones n (pos K) laid.costs laid.bars barred_most (barred-small h) (margin n fits.few) a.prices_of_rows a.prices_of_columns right.feasible a.cols right.pairing right.tight clear h)
+        (shown_ones n (pos K) laid.costs laid.bars barred_most (barred_small h) (margin n fits.few) a.prices_of_rows a.prices_of_columns right.feasible a.cols right.pairing right.tight clear h)
 
     pub twenty_rest : drop 8 slip ≡ drop 8 room
     twenty_rest = ap (drop 8) slip_is ∙ drop_at (bytes_of 8 (rows_shown laid)) (drop 8 room) 8 (length-bytes_of 8 (rows_shown laid))

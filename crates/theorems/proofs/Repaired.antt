@@ -28,7 +28,7 @@ use Rattle.augmentation.specs.Augmentation.{pairs_of}
 use Rattle.checker.specs.Check.{check}
 use Rattle.checker.specs.Proven.{Proven}
 use Rattle.checker.proofs.Accepted.{accepted_proven, proven_accepted}
-use Rattle.checker.proofs.Least.{accepted-least}
+use Rattle.checker.proofs.Least.{accepted_least}
 use Rattle.lapjv.specs.Answers.{answer}
 use Rattle.lapjv.specs.Solve.{Lent, paired, solve}
 use Rattle.lapjv.specs.Solve as solving
@@ -69,28 +69,28 @@ module _ (n : ℕ) (costs : List ℤ) (row : ℕ) (lent : Lent) (r : Repairable 
   below_free = omega (arith, side-free, r.limits.small)
 
   within : (k : ℕ) → Within K (signed_at costs k)
-  within = within_everywhere K costs r.limits.costs-within
+  within = within_everywhere K costs r.limits.costs_within_lem
 
   near : (j : ℕ) → j < n → Within (7 * K) (signed_at vs j)
   near j l = rw (get_or-take n lent.prices_of_columns j (pos 0) l) (r.column_prices_near j l)
 
-  fair-but : FairBut n costs row (pairs_of cols rows) lent.prices_of_rows vs
-  fair-but = fair n costs row lent.cols lent.rows lent.prices_of_rows lent.prices_of_columns lent.indices lent.numbers r
+  fair_but : FairBut n costs row (pairs_of cols rows) lent.prices_of_rows vs
+  fair_but = fair n costs row lent.cols lent.rows lent.prices_of_rows lent.prices_of_columns lent.indices lent.numbers r
 
   gain : Gain n cost (record { pairs = record { cols = cols; rows = set rows (at cols row) free }; prices = vs; scanned = 0 }) row y
   unfolding mended
-  gain = mend_gain n costs row (pairs_of cols rows) lent.prices_of_rows vs below_free fair-but
+  gain = mend_gain n costs row (pairs_of cols rows) lent.prices_of_rows vs below_free fair_but
 
-  us-size : length us' ≡ n
-  us-size = length-table n (λ i. reduced cost (signed_at y.prices) i (at y.pairs.cols i))
+  us_size : length us' ≡ n
+  us_size = length-table n (λ i. reduced cost (signed_at y.prices) i (at y.pairs.cols i))
 
-  columns-between : (j : ℕ) → j < n → Between (7 * K + 2 * K) (7 * K) (signed_at y.prices j)
+  columns_between : (j : ℕ) → j < n → Between (7 * K + 2 * K) (7 * K) (signed_at y.prices j)
   unfolding mended
-  columns-between = mend_column_between n costs row (pairs_of cols rows) lent.prices_of_rows vs below_free fair-but K (7 * K) within near
+  columns_between = mend_column_between n costs row (pairs_of cols rows) lent.prices_of_rows vs below_free fair_but K (7 * K) within near
 
-  rows-within : (i : ℕ) → i < n → Within (K + 7 * K) (signed_at us' i)
+  rows_within : (i : ℕ) → i < n → Within (K + 7 * K) (signed_at us' i)
   unfolding mended
-  rows-within = mend_row_within n costs row (pairs_of cols rows) lent.prices_of_rows vs below_free fair-but K (7 * K) within near
+  rows_within = mend_row_within n costs row (pairs_of cols rows) lent.prices_of_rows vs below_free fair_but K (7 * K) within near
 
   mended_proven : Proven n costs y.pairs.cols y.pairs.rows us' y.prices
   unfolding mended
@@ -98,19 +98,19 @@ module _ (n : ℕ) (costs : List ℤ) (row : ℕ) (lent : Lent) (r : Repairable 
     sizes = record {
       small = r.limits.small;
       squared = r.limits.squared;
-      columns-listed = omega (arith, gain.agree.cols-size);
-      rows-listed = omega (arith, gain.agree.rows-size);
+      columns_listed = omega (arith, gain.agree.cols_size);
+      rows_listed = omega (arith, gain.agree.rows_size);
     };
-    within = r.limits.costs-within;
+    within = r.limits.costs_within_lem;
     named = all_named n costs y.pairs y.prices gain.agree gain.fair
-        (mend_paired n costs row (pairs_of cols rows) lent.prices_of_rows vs below_free fair-but);
-    row-prices = record { enough = omega (arith, us-size); within = λ i l. within_mono (omega arith) (rows-within i l) };
-    column-prices = record {
-      enough = omega (arith, gain.prices-size);
-      within = λ j l. let b = columns-between j l in record { low = omega (arith, b); high = omega (arith, b) };
+        (mend_paired n costs row (pairs_of cols rows) lent.prices_of_rows vs below_free fair_but);
+    row_prices = record { enough = omega (arith, us_size); within = λ i l. within_mono (omega arith) (rows_within i l) };
+    column_prices = record {
+      enough = omega (arith, gain.prices_size);
+      within = λ j l. let b = columns_between j l in record { low = omega (arith, b); high = omega (arith, b) };
     };
-    feasible = mend_feasible n costs row (pairs_of cols rows) lent.prices_of_rows vs below_free fair-but;
-    tight = mend_tight n costs row (pairs_of cols rows) lent.prices_of_rows vs below_free fair-but;
+    feasible = mend_feasible n costs row (pairs_of cols rows) lent.prices_of_rows vs below_free fair_but;
+    tight = mend_tight n costs row (pairs_of cols rows) lent.prices_of_rows vs below_free fair_but;
   }
 
   -- ---- what a caller finds
@@ -124,23 +124,23 @@ module _ (n : ℕ) (costs : List ℤ) (row : ℕ) (lent : Lent) (r : Repairable 
   repaired_proven : Proven n costs after.cols after.rows after.prices_of_rows after.prices_of_columns
   repaired_proven =
       subst (λ (o : Outcome). Proven n costs o.lent.cols o.lent.rows o.lent.prices_of_rows o.lent.prices_of_columns) (sym is)
-      (proven_front n costs y.pairs.cols y.pairs.rows us' y.prices gain.agree.cols-size gain.agree.rows-size us-size gain.prices-size
+      (proven_front n costs y.pairs.cols y.pairs.rows us' y.prices gain.agree.cols_size gain.agree.rows_size us_size gain.prices_size
       mended_proven (drop n lent.cols) (drop n lent.rows) (drop n lent.prices_of_rows) (drop n lent.prices_of_columns))
 
   -- The checker accepts what the repair leaves, on the new costs.
   pub checker_accepts_repair : check n costs after.cols after.rows after.prices_of_rows after.prices_of_columns ≡ Total (total (square n costs) after.cols)
   checker_accepts_repair = proven_accepted n costs after.cols after.rows after.prices_of_rows after.prices_of_columns repaired_proven
 
-  pub repaired-least : Least (square n costs) (take n after.cols)
-  repaired-least = accepted-least n costs after.cols after.rows after.prices_of_rows after.prices_of_columns checker_accepts_repair
+  pub repaired_least : Least (square n costs) (take n after.cols)
+  repaired_least = accepted_least n costs after.cols after.rows after.prices_of_rows after.prices_of_columns checker_accepts_repair
 
   -- The answer is the total, and it is the fresh run's.
-  pub repaired-answer : (repair n costs row lent).answer ≡ Total (answer n costs).total
-  repaired-answer =
-      let R = answer_owes n costs r.limits.small r.limits.costs-within in
-      let L = repaired-least in
+  pub repaired_answer : (repair n costs row lent).answer ≡ Total (answer n costs).total
+  repaired_answer =
+      let R = answer_owes n costs r.limits.small r.limits.costs_within_lem in
+      let L = repaired_least in
       let first : take n after.cols ≡ y.pairs.cols =
-      ap (λ (o : Outcome). take n o.lent.cols) is ∙ take_at y.pairs.cols (drop n lent.cols) n gain.agree.cols-size in
+      ap (λ (o : Outcome). take n o.lent.cols) is ∙ take_at y.pairs.cols (drop n lent.cols) n gain.agree.cols_size in
       let M : Least (square n costs) y.pairs.cols = subst (Least (square n costs)) first L in
       ap (λ (o : Outcome). o.answer) is
       ∙ ap Total (same (total (square n costs) y.pairs.cols) (total (square n costs) (answer n costs).cols) (answer n costs).total
@@ -154,16 +154,16 @@ module _ (n : ℕ) (costs : List ℤ) (row : ℕ) (lent : Lent) (r : Repairable 
   column_is : (j : ℕ) → j < n → signed_at after.prices_of_columns j ≡ signed_at y.prices j
   column_is j l =
       ap (λ (o : Outcome). signed_at o.lent.prices_of_columns j) is
-      ∙ get_or-append y.prices (drop n lent.prices_of_columns) (pos 0) j (omega (arith, gain.prices-size))
+      ∙ get_or-append y.prices (drop n lent.prices_of_columns) (pos 0) j (omega (arith, gain.prices_size))
 
   -- Column prices in -9K..7K, row prices in -8K..8K, "which 8 admits".
   pub repaired_columns_between : (j : ℕ) → j < n → Between (9 * K) (7 * K) (signed_at after.prices_of_columns j)
-  repaired_columns_between j l = rw (column_is j l) (let b = columns-between j l in record { low = omega (arith, b); high = omega (arith, b) })
+  repaired_columns_between j l = rw (column_is j l) (let b = columns_between j l in record { low = omega (arith, b); high = omega (arith, b) })
 
   pub repaired_rows_within : (i : ℕ) → i < n → Within (8 * K) (signed_at after.prices_of_rows i)
   repaired_rows_within i l =
-      rw (ap (λ (o : Outcome). signed_at o.lent.prices_of_rows i) is ∙ get_or-append us' (drop n lent.prices_of_rows) (pos 0) i (omega (arith, us-size)))
-      (within_mono (omega arith) (rows-within i l))
+      rw (ap (λ (o : Outcome). signed_at o.lent.prices_of_rows i) is ∙ get_or-append us' (drop n lent.prices_of_rows) (pos 0) i (omega (arith, us_size)))
+      (within_mono (omega arith) (rows_within i l))
 
   -- A repair never raises a column price.
   pub repaired_not_risen : (j : ℕ) → j < n → signed_at after.prices_of_columns j ≤ℤ signed_at lent.prices_of_columns j
@@ -192,18 +192,18 @@ pub solved_repairable : (n : ℕ) (old costs : List ℤ) (row : ℕ) (lent : Len
 solved_repairable n old costs row lent p q l c =
     let a = answer n old in
     let o = (solve n old lent).lent in
-    let R = answer_owes n old p.small p.costs-within in
+    let R = answer_owes n old p.small p.costs_within_lem in
     let is = passes_paired n old lent p in
     let limits : WithinLimits n costs (paired n lent a).lent = record {
       small = q.small;
       squared = q.squared;
-      cols-enough = omega (arith, length-append a.cols (drop n lent.cols), R.cols-size);
-      rows-enough = omega (arith, length-append a.rows (drop n lent.rows), R.rows-size);
+      cols_enough = omega (arith, length-append a.cols (drop n lent.cols), R.cols_size);
+      rows_enough = omega (arith, length-append a.rows (drop n lent.rows), R.rows_size);
       row_prices_enough = omega (arith, length-append a.prices_of_rows (drop n lent.prices_of_rows), R.row_prices_size);
       column_prices_enough = omega (arith, length-append a.prices_of_columns (drop n lent.prices_of_columns), R.column_prices_size);
-      indices-enough = omega (arith, length-append (replicate (4 * n) 0) (drop (4 * n) lent.indices), length-replicate {A = ℕ} (4 * n) 0);
-      numbers-enough = omega (arith, length-append (replicate n (pos 0)) (drop n lent.numbers), length-replicate n (pos 0));
-      costs-within = q.costs-within;
+      indices_enough = omega (arith, length-append (replicate (4 * n) 0) (drop (4 * n) lent.indices), length-replicate {A = ℕ} (4 * n) 0);
+      numbers_enough = omega (arith, length-append (replicate n (pos 0)) (drop n lent.numbers), length-replicate n (pos 0));
+      costs_within_lem = q.costs_within_lem;
     } in
     let rows-near : (i : ℕ) → i < n → Within (7 * K) (signed_at (paired n lent a).lent.prices_of_rows i) = λ i h.
     rw (get_or-append a.prices_of_rows (drop n lent.prices_of_rows) (pos 0) i (omega (arith, R.row_prices_size))) (wide (R.row_prices_between i h)) in

@@ -16,11 +16,11 @@ use Rattle.bars.proofs.Barred.{no_pair_barred}
 use Rattle.layout.specs.Slips.{slip_length}
 use Rattle.matrix.proofs.SmallLimits.{K_large}
 use Rattle.score.specs.ScoreSheet.{reference_count, reference, sheet_length, score_at, scores, score_sheet}
-use Rattle.score.proofs.Metric.{sum-small}
-use Rattle.score.proofs.Accepted.{accepted_lists, sheet-written}
+use Rattle.score.proofs.Metric.{sum_small}
+use Rattle.score.proofs.Accepted.{accepted_lists, sheet_written}
 use Rattle.sheet.specs.Reading.{Laid, Read, night, read, Printable, Layable}
 use Rattle.sheet.specs.Settle.{found, barred_row, blocked_as, slip_as, paired_as, pair}
-use Rattle.sheet.proofs.Sheets.{read-sheet}
+use Rattle.sheet.proofs.Sheets.{read_sheet}
 
 module _ (firsts seconds room : List ℕ) (e : (score_sheet firsts seconds room).number ≡ 0) where
   abbrev n : ℕ
@@ -44,7 +44,7 @@ module _ (firsts seconds room : List ℕ) (e : (score_sheet firsts seconds room)
     fewer = omega arith;
     square = λ h. refl;
     filled = size;
-    inside = λ k l. rw (get_d_table (n * n) (score_at n firsts seconds) (pos 0) k l) (within_mono (omega (arith, K_large)) (sum-small (reference (k / n) firsts) (reference (k % n) seconds)));
+    inside = λ k l. rw (get_d_table (n * n) (score_at n firsts seconds) (pos 0) k l) (within_mono (omega (arith, K_large)) (sum_small (reference (k / n) firsts) (reference (k % n) seconds)));
     rows = length-replicate n 0;
     clear = λ i l. rw (get_or-replicate {A = ℕ} n i 0 0 l) (pow_pos n);
     unbarred = λ h. refl;
@@ -54,7 +54,7 @@ module _ (firsts seconds room : List ℕ) (e : (score_sheet firsts seconds room)
   no_note = record { short = omega arith; printed = λ k l. absurd (omega arith) }
 
   pub scores-read : (slip : ℕ) → slip_length 1 n n ≤ slip → read slip sheet ≡ night laid
-  scores-read slip roomy = ap (read slip) (sheet-written firsts seconds room e) ∙ read-sheet [] laid slip no_note layable roomy
+  scores-read slip roomy = ap (read slip) (sheet_written firsts seconds room e) ∙ read_sheet [] laid slip no_note layable roomy
 
   pub scores-paired : (slip : List ℕ) → slip_length 1 n n ≤ length slip → (pair sheet slip).number ≡ 0
   unfolding pair

@@ -8,12 +8,12 @@ use lib.ListN.{replicate, length-replicate}
 use Rattle.layout.specs.Slips.{slip_length}
 use Rattle.layout.specs.Trailers.{edition_of, side_of}
 use Rattle.matrix.specs.Limits.{sheet_side}
-use Rattle.matrix.proofs.SmallLimits.{sheet_side-small}
+use Rattle.matrix.proofs.SmallLimits.{sheet_side_small}
 use Rattle.sheet.specs.Reading.{Laid, rows_of, sheet_tests, laid_at, distance_due, night_tested}
 use Rattle.sheet.proofs.Passing.{SheetPassed, tests_passed, laid_found}
 use Rattle.audit.specs.Audit.{audited_as}
 use Rattle.audit.specs.Values.{audited_values}
-use Rattle.audit.proofs.Checking.{part-size, zeros-part}
+use Rattle.audit.proofs.Checking.{part_size, zeros_part}
 use Rattle.audit.proofs.Nights.{sheet_fails, sheet_passes}
 use borrow.Author.Rules.{rules}
 use Rattle.audit.proofs.audit.Statement.{statement}
@@ -71,7 +71,7 @@ small : (c : tie.After-side-of) → c.side-of.result ≤ sheet_side
 small c = omega (arith, c.side-of.ensures.0, (passed (at_told c)).counted.small)
 
 few : (c : tie.After-side-of) → c.side-of.result ≤ 64
-few c = omega (arith, small c, sheet_side-small)
+few c = omega (arith, small c, sheet_side_small)
 
 places : (c : tie.After-side-of) → c.before.rows_of_lem.result * c.side-of.result ≤ 4096
 places c = let h : c.before.rows_of_lem.result ≤ 64 = omega (arith, fewer c, few c) in mul-le-mul h (few c)
@@ -105,8 +105,8 @@ audit-night-requires c κs =
       fewer s,
       small s,
       rw (s.before.before.edition-of.ensures, s.before.rows_of_lem.ensures.0, s.side-of.ensures.0) p.inside,
-      part-size 4096 (s.before.rows_of_lem.result * n) (replicate 4096 (pos 0)) (length-replicate 4096 (pos 0)) (places s),
-      zeros-part 64 n (few s),
+      part_size 4096 (s.before.rows_of_lem.result * n) (replicate 4096 (pos 0)) (length-replicate 4096 (pos 0)) (places s),
+      zeros_part 64 n (few s),
     )
 
 returns-2 : tie.Need-returns-2

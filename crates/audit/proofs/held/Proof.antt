@@ -16,10 +16,10 @@ use Rattle.matrix.specs.Asked.{ColumnsListed}
 use Rattle.matrix.specs.Cost.{total_of}
 use Rattle.matrix.specs.Limits.{side}
 use Rattle.matrix.specs.Verdicts.{Passes, fails_if}
-use Rattle.matrix.proofs.SmallLimits.{sheet_side-small, sheet_side-within}
+use Rattle.matrix.proofs.SmallLimits.{sheet_side_small, sheet_side_within}
 use Rattle.checker.specs.Tests.{differ}
 use Rattle.audit.specs.Audit.{SlipWrong, proof_tests, slip_tests, audited_by}
-use Rattle.audit.proofs.Checking.{said_size, columns-read, row_prices_read, column_prices_read, slip-least, slip_least_total, refused-slip, accepted-slip}
+use Rattle.audit.proofs.Checking.{said_size, columns_read, row_prices_read, column_prices_read, slip_least, slip_least_total, refused_slip, accepted_slip}
 use borrow.Author.Rules.{rules}
 use Rattle.audit.proofs.held.Statement.{statement}
 use Rattle.audit.proofs.held.Tie as tie
@@ -76,13 +76,13 @@ module _ (c : tie.After-proof-tests) where
   cols = (at-cols c).before.read-columns.new.1.1.0
 
   cols_are : cols ≡ slip_columns m slip
-  cols_are = (at-cols c).before.read-columns.ensures ∙ columns-read m n costs bars slip (start c).args.cols.now (start c).requires.1.cols-size
+  cols_are = (at-cols c).before.read-columns.ensures ∙ columns_read m n costs bars slip (start c).args.cols.now (start c).requires.1.cols_size
 
   us-are : (at-us c).before.read-prices.new.1.1.1.0 ≡ slip_row_prices m slip
-  us-are = (at-us c).before.read-prices.ensures ∙ row_prices_read m n costs bars slip (start c).args.us.now (start c).requires.1.us-size
+  us-are = (at-us c).before.read-prices.ensures ∙ row_prices_read m n costs bars slip (start c).args.us.now (start c).requires.1.us_size
 
   vs-are : (at_vs c).before.read-prices2.new.1.1.1.0 ≡ slip_column_prices m n slip
-  vs-are = (at_vs c).before.read-prices2.ensures ∙ column_prices_read m n costs bars slip (start c).args.vs.now (start c).requires.1.vs-size
+  vs-are = (at_vs c).before.read-prices2.ensures ∙ column_prices_read m n costs bars slip (start c).args.vs.now (start c).requires.1.vs_size
 
   tested : c.proof-tests.result ≡ slip_tests m n costs bars slip
   tested =
@@ -93,7 +93,7 @@ module _ (c : tie.After-proof-tests) where
   -- a slip that passes has a column below n for each row
   listed : Passes c.proof-tests.result → ColumnsListed m n cols
   listed e =
-      let p = (slip-least m n costs bars slip (sym tested ∙ e)).pairing in
+      let p = (slip_least m n costs bars slip (sym tested ∙ e)).pairing in
       subst (ColumnsListed m n) (sym cols_are) (record { listed = omega (arith, said_size m n costs bars slip); inside = p.inside })
 
 enum-known-refusal : tie.Need-enum-known-refusal
@@ -111,7 +111,7 @@ same-length-3 c = search rules
 returns : tie.Need-returns
 returns c =
     let k = c.before.before.before in
-    refused-slip (m k) (n k) (costs k) (bars k) (slip k) (sym (tested k) ∙ c.before.refusal.given.1)
+    refused_slip (m k) (n k) (costs k) (bars k) (slip k) (sym (tested k) ∙ c.before.refusal.given.1)
 
 enum_told : tie.Need-enum-told
 enum_told c = search rules
@@ -120,7 +120,7 @@ total-of-requires : tie.Need-total-of-requires
 total-of-requires c κs =
     let k = c.before.before.before in
     let p = (start k).requires.0 in
-    let within : n k ≤ side = le_trans p.small sheet_side-within in
+    let within : n k ≤ side = le_trans p.small sheet_side_within in
     (le_trans p.fewer within, within, omega (arith, p.filled), listed k c.before.enum_told.given.1)
 
 -- ---- the total of the pairing
@@ -142,7 +142,7 @@ compared-requires c κs =
     let t = c.before.before in
     let k = at-tests t in
     let p = (start k).pre in
-    (slip_least_total (m k) (n k) (costs k) (bars k) (slip k) (passed t) _ (total_is t), p.0.fewer, omega (arith, p.0.small, sheet_side-small), p.0.filled, p.1.list-size, (at-cols k).cols.given ∙ p.1.cols-size, p.2)
+    (slip_least_total (m k) (n k) (costs k) (bars k) (slip k) (passed t) _ (total_is t), p.0.fewer, omega (arith, p.0.small, sheet_side_small), p.0.filled, p.1.list_size, (at-cols k).cols.given ∙ p.1.cols_size, p.2)
 
 same-length-4 : tie.Need-same-length-4
 same-length-4 c = search rules
@@ -161,7 +161,7 @@ returns-2 c =
     let r = c.before.before.before.before in
     let t = r.before.before.before in
     let k = at-tests t in
-    accepted-slip (m k) (n k) (costs k) (bars k) (slip k) (passed t) _ (total_is t) r.compared.result r.compared.ensures
+    accepted_slip (m k) (n k) (costs k) (bars k) (slip k) (passed t) _ (total_is t) r.compared.result r.compared.ensures
 
 pub held_spec : {M : Type 1} → statement M
 held_spec =

@@ -1,13 +1,13 @@
 -- `held_apart` lends `held` the first entries of arrays of its own. Assumes nothing.
 use Prim.Native.Nat.{◌≤◌}
 use native.Mathlib.Omega.{arith}
-use Rattle.matrix.proofs.SmallLimits.{sheet_side-small}
+use Rattle.matrix.proofs.SmallLimits.{sheet_side_small}
 use borrow.Author.Rules.{rules}
 use Rattle.audit.proofs.held_apart.Statement.{statement}
 use Rattle.audit.proofs.held_apart.Tie as tie
 
 few : (c : tie.Start) → c.args.n ≤ 64
-few c = omega (arith, c.requires.0.small, sheet_side-small)
+few c = omega (arith, c.requires.0.small, sheet_side_small)
 
 fewer : (c : tie.Start) → c.args.m ≤ 64
 fewer c = omega (arith, c.requires.0.fewer, few c)

@@ -8,10 +8,10 @@ use mir.Syntax.{w64}
 use Rattle.ints.proofs.Bits.{read_back}
 use Rattle.matrix.specs.Tests.{costs_in}
 use Rattle.matrix.specs.Verdicts.{Passes, ◌then◌, fails_if}
-use Rattle.matrix.proofs.SmallLimits.{K-small, sheet_side-small}
+use Rattle.matrix.proofs.SmallLimits.{K_small, sheet_side_small}
 use Rattle.matrix.proofs.Verdicts.{then_iff, after, fails_if_iff}
 use Rattle.sheet.specs.Reading.{Laid, cost_most, night_tests}
-use Rattle.sheet.proofs.Editions.{cost_most-within}
+use Rattle.sheet.proofs.Editions.{cost_most_within}
 use Rattle.audit.specs.Audit.{SlipWrong, unlike}
 use Rattle.audit.proofs.Nights.{like_long, tests_fail, tests_pass}
 use borrow.Author.Rules.{rules}
@@ -24,10 +24,10 @@ cost-most-requires c κs = search rules
 costs-in-requires : tie.Need-costs-in-requires
 costs-in-requires c κs =
     rw (read_back w64 c.cost-most.result c.cost-most.type-inv, c.cost-most.ensures)
-    (omega (arith, K-small, cost_most-within c.before.before.before.args.edition))
+    (omega (arith, K_small, cost_most_within c.before.before.before.args.edition))
 
 bars-clear-requires : tie.Need-bars-clear-requires
-bars-clear-requires c κs = λ e. let p = c.before.before.before.before.requires in (omega (arith, p.small, sheet_side-small), omega (arith, p.rows))
+bars-clear-requires c κs = λ e. let p = c.before.before.before.before.requires in (omega (arith, p.small, sheet_side_small), omega (arith, p.rows))
 
 abbrev start : tie.After-bars-clear → tie.Start
 start c = c.before.before.before.before.before
@@ -36,16 +36,16 @@ abbrev laid : tie.After-bars-clear → Laid
 laid c = record { edition = (start c).args.edition; row_count = (start c).args.m; side = (start c).args.n; costs = (start c).args.costs.now; bars = (start c).args.bars.now }
 
 -- tests 5 and 22
-tested : (c : tie.After-bars-clear) → c.bars-clear.result ≡ night_tests (laid c)
+tested : (c : tie.After-bars-clear) → c.bars_clear_lem.result ≡ night_tests (laid c)
 unfolding ◌then◌
 tested c =
     let d = c.before in
     let m = d.before.cost-most in
-    after _ c.bars-clear.ensures
+    after _ c.bars_clear_lem.ensures
     (d.costs_in_lem.ensures ∙ ap (λ (z : ℤ). costs_in z (start c).args.costs.now) (read_back w64 m.result m.type-inv ∙ m.ensures))
 
 unlike-requires : tie.Need-unlike-requires
-unlike-requires c κs = let p = (start c).requires in (p.fewer, omega (arith, p.small, sheet_side-small))
+unlike-requires c κs = let p = (start c).requires in (p.fewer, omega (arith, p.small, sheet_side_small))
 
 fails-if-requires : tie.Need-fails-if-requires
 fails-if-requires c κs = search rules

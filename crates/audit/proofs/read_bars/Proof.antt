@@ -7,7 +7,7 @@ use lib.ListN.{length, replicate, length-replicate}
 use Rattle.layout.specs.Values.{value_of}
 use Rattle.layout.specs.Sheets.{bars_at}
 use Rattle.layout.proofs.Fields.{length_fields}
-use Rattle.matrix.proofs.SmallLimits.{sheet_side-small}
+use Rattle.matrix.proofs.SmallLimits.{sheet_side_small}
 use Rattle.sheet.specs.Reading.{has_bars}
 use Rattle.sheet.proofs.Editions.{with_bars, without_bars}
 use Rattle.audit.proofs.Checking.{read_whole}
@@ -30,7 +30,7 @@ size : (c : tie.Else1) → length (start c).args.bars.now ≡ (start c).args.n
 size c = ap length (start c).requires.2 ∙ length-replicate {A = ℕ} (start c).args.n 0
 
 few : (c : tie.Else1) → (start c).args.n ≤ 64
-few c = omega (arith, (start c).requires.0, sheet_side-small)
+few c = omega (arith, (start c).requires.0, sheet_side_small)
 
 -- what the bars take, where the edition has some
 due : (c : tie.Else1) → cond (has_bars (start c).args.edition) (8 * (start c).args.n) 0 ≡ 8 * (start c).args.n

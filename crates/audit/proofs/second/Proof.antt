@@ -5,7 +5,7 @@ use native.Mathlib.Omega.{arith}
 use mir.Syntax.{w64}
 use mir.Facts.{to_z-of_z}
 use mir.Val.{SFits}
-use Rattle.audit.proofs.Slips.{second-total}
+use Rattle.audit.proofs.Slips.{second_total}
 use borrow.Author.Rules.{rules}
 use Rattle.audit.proofs.second.Statement.{statement}
 use Rattle.audit.proofs.second.Tie as tie
@@ -40,7 +40,7 @@ returns-2 c =
     let g = c.before.least.given in
     let k = c.known-told.given in
     let f : SFits w64 g.0.0 = search rules in
-    to_z-of_z f ∙ second-total u.m u.n u.costs.now u.bars.now u.total s.requires.1 s.requires.0 _ s.requires.4 e.engine.result e.engine.ensures.0 g.0.0 g.1
+    to_z-of_z f ∙ second_total u.m u.n u.costs.now u.bars.now u.total s.requires.1 s.requires.0 _ s.requires.4 e.engine.result e.engine.ensures.0 g.0.0 g.1
 
 same-length-3 : tie.Need-same-length-3
 same-length-3 c = search rules

@@ -1,20 +1,20 @@
 -- `augment_row` gives a row its column: the column that is hit, or the one that a search finds, with the pairs flipped back. Assumes nothing.
 use native.Mathlib.Omega.{arith}
 use borrow.Author.Rules.{rules}
-use Rattle.matrix.proofs.SmallLimits.{side-small}
-use Rattle.augmentation.proofs.OneRow.{can-search, way_back, searched-row, hit_row}
+use Rattle.matrix.proofs.SmallLimits.{side_small}
+use Rattle.augmentation.proofs.OneRow.{can_search, way_back, searched_row, hit_row}
 use Rattle.augmentation.proofs.augment_row.Statement.{statement}
 use Rattle.augmentation.proofs.augment_row.Tie as tie
 
 hit-requires : tie.Need-hit-requires
-hit-requires c κs = can-search c.before.before.before.before.before.requires
+hit-requires c κs = can_search c.before.before.before.before.before.requires
 
 -- the start of a row for which a direct hit was looked for
 abbrev start : tie.After-hit → tie.Start
 start c = c.before.before.before.before.before.before
 
 cast-cols : tie.Need-overflow-cast-cols
-cast-cols c = omega (arith, side-small, (start c.before).requires.small, c.if1.true)
+cast-cols c = omega (arith, side_small, (start c.before).requires.small, c.if1.true)
 
 mul-cols : tie.Need-overflow-mul-cols
 mul-cols c = search rules
@@ -49,7 +49,7 @@ add-n3 c = search rules
 find-path-dense-requires : tie.Need-find-path-dense-requires
 find-path-dense-requires c κs =
     let p = (start c.before.before.before.before.before).requires in
-    (can-search p, p.distances-size, p.room-size)
+    (can_search p, p.distances_size, p.room_size)
 
 mul-flip-back : tie.Need-overflow-mul-flip-back
 mul-flip-back c = search rules
@@ -91,7 +91,7 @@ returns-2 : tie.Need-returns-2
 returns-2 c =
     let b = c.before.before.before.before in
     let x = b.before.before.before.before.before.before.before.before.before in
-    searched-row (start_of x).requires x.find-path-dense.ensures b.flip-back.ensures
+    searched_row (start_of x).requires x.find-path-dense.ensures b.flip-back.ensures
 
 pub augment-row-spec : {M : Type 1} → statement M
 augment-row-spec =

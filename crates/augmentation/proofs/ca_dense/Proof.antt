@@ -4,8 +4,8 @@ use Prim.Native.Nat.{◌-◌}
 use native.Mathlib.Omega.{arith}
 use borrow.Author.Rules.{rules}
 use lib.ListN.{length}
-use Rattle.matrix.proofs.SmallLimits.{side-small}
-use Rattle.augmentation.proofs.Augmentation.{Augmenting, first-turn, augmented, can_augment_row, next_turn}
+use Rattle.matrix.proofs.SmallLimits.{side_small}
+use Rattle.augmentation.proofs.Augmentation.{Augmenting, first_turn, augmented, can_augment_row, next_turn}
 use Rattle.augmentation.proofs.ca_dense.Statement.{statement}
 use Rattle.augmentation.proofs.ca_dense.Tie as tie
 
@@ -18,7 +18,7 @@ abbrev decreases-loop : tie.decreases-loop
 decreases-loop n costs left cols₀ rows₀ v₀ d₀ room₀ scanned₀ k₀ cols rows v d room scanned k = left - k
 
 loop-holds : tie.Need-loop-init invariant-loop decreases-loop
-loop-holds c = (first-turn c.before.before.before.requires, refl, refl, refl)
+loop-holds c = (first_turn c.before.before.before.requires, refl, refl, refl)
 
 mul-start : tie.Need-overflow-mul-start invariant-loop decreases-loop
 mul-start c = search rules
@@ -42,7 +42,7 @@ add-scanned : tie.Need-overflow-add-scanned invariant-loop decreases-loop
 add-scanned c =
     let x = row_of c in
     let A = (turn-of x).before.loop.inv.0 in
-    omega (arith, side-small, A.can.small, A.can.few, A.few, A.reach, x.augment-row.ensures.few)
+    omega (arith, side_small, A.can.small, A.can.few, A.few, A.reach, x.augment-row.ensures.few)
 
 add-k : tie.Need-overflow-add-k invariant-loop decreases-loop
 add-k c = search rules

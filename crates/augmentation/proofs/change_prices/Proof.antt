@@ -10,8 +10,8 @@ use mir.Val.{to_z}
 use Rattle.ints.proofs.Bits.{read_back}
 use Rattle.lists.specs.Permutations.{at}
 use Rattle.assignment.specs.Pairings.{signed_at}
-use Rattle.matrix.proofs.SmallLimits.{side-small}
-use Rattle.augmentation.proofs.Prices.{Changing, first_change, size, changed, column-below, sub_fits, add_fits, next}
+use Rattle.matrix.proofs.SmallLimits.{side_small}
+use Rattle.augmentation.proofs.Prices.{Changing, first_change, size, changed, column_below, sub_fits, add_fits, next}
 use Rattle.augmentation.proofs.change_prices.Statement.{statement}
 use Rattle.augmentation.proofs.change_prices.Tie as tie
 
@@ -25,19 +25,19 @@ mul-first : tie.Need-overflow-mul-first invariant-loop decreases-loop
 mul-first c = search rules
 
 shared-slice-read-first : tie.Need-shared-slice-read-first invariant-loop decreases-loop
-shared-slice-read-first c = omega (arith, c.before.requires.ready-below, c.before.requires.listed.size)
+shared-slice-read-first c = omega (arith, c.before.requires.ready_below, c.before.requires.listed.size)
 
 cast-first : tie.Need-overflow-cast-first invariant-loop decreases-loop
 cast-first c = omega (arith, c.shared-slice-known.given c.before.args.lo)
 
 first_below : (c : tie.After-shared-slice-known invariant-loop decreases-loop) → at c.before.args.list.now c.before.args.lo < length c.before.args.v.now
-first_below c = c.before.requires.listed.injective.below c.before.args.lo c.before.requires.ready-below
+first_below c = c.before.requires.listed.injective.below c.before.args.lo c.before.requires.ready_below
 
 mul-minimum : tie.Need-overflow-mul-minimum invariant-loop decreases-loop
 mul-minimum c = omega (arith, first_below c)
 
 shared-slice-copy-out-minimum : tie.Need-shared-slice-copy-out-minimum invariant-loop decreases-loop
-shared-slice-copy-out-minimum c = omega (arith, first_below c, c.before.requires.distances-size)
+shared-slice-copy-out-minimum c = omega (arith, first_below c, c.before.requires.distances_size)
 
 loop-holds : tie.Need-loop-init invariant-loop decreases-loop
 loop-holds c =
@@ -58,18 +58,18 @@ facts c =
     let l = c.before in
     let p = l.before.before.before.requires in
     record {
-      small = omega (arith, side-small, p.small);
-      column = column-below l.loop.invariant c.loop-test.true;
-      sizes = (p.distances-size, size l.loop.invariant);
+      small = omega (arith, side_small, p.small);
+      column = column_below l.loop.invariant c.loop-test.true;
+      sizes = (p.distances_size, size l.loop.invariant);
     }
 
 mul-j : tie.Need-overflow-mul-j invariant-loop decreases-loop
-mul-j c = let p = c.before.before.before.before.requires in omega (arith, side-small, p.small, p.ready-below, c.loop-test.true)
+mul-j c = let p = c.before.before.before.before.requires in omega (arith, side_small, p.small, p.ready_below, c.loop-test.true)
 
 shared-slice-read-j : tie.Need-shared-slice-read-j invariant-loop decreases-loop
 shared-slice-read-j c =
     let p = c.before.before.before.before.before.requires in
-    omega (arith, p.listed.size, p.ready-below, c.before.loop-test.true)
+    omega (arith, p.listed.size, p.ready_below, c.before.loop-test.true)
 
 cast-j : tie.Need-overflow-cast-j invariant-loop decreases-loop
 cast-j c = omega (arith, c.shared-slice-known2.given c.before.before.loop.k)

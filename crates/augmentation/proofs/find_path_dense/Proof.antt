@@ -62,14 +62,14 @@ part-find-dense-end : tie.Need-slice-bounds-find-dense-end invariant-loop decrea
 part-find-dense-end c =
     let h = c.before in
     let s = entry (begun h) in
-    omega (arith, laws.room-long _ _ _ _ _ s.pre.0 h.search.invariant)
+    omega (arith, laws.room_long_lem _ _ _ _ _ s.pre.0 h.search.invariant)
 
 find-dense-requires : tie.Need-find-dense-requires invariant-loop decreases-loop invariant-search decreases-search
 find-dense-requires c κs =
     let h = c.before.before in
     let s = entry (begun h) in
     let B = h.search.invariant in
-    (laws.lo_below _ _ _ _ _ s.pre.0 B, B.head.sound.distances-size, laws.lent-listed _ _ _ _ _ s.pre.0 B)
+    (laws.lo_below _ _ _ _ _ s.pre.0 B, B.head.sound.distances_size, laws.lent_listed _ _ _ _ _ s.pre.0 B)
 
 mul-last-free : tie.Need-overflow-mul-last-free invariant-loop decreases-loop invariant-search decreases-search
 mul-last-free c = search rules
@@ -85,7 +85,7 @@ part-last-free-end c =
     let f = c.before.before.before in
     let h = head f in
     let s = entry (begun h) in
-    omega (arith, laws.fresh-long _ _ _ _ _ s.pre.0 h.search.inv _ _ f.find-dense.ensures.0 f.find-dense.ensures.1)
+    omega (arith, laws.fresh_long _ _ _ _ _ s.pre.0 h.search.inv _ _ f.find-dense.ensures.0 f.find-dense.ensures.1)
 
 last-free-requires : tie.Need-last-free-requires invariant-loop decreases-loop invariant-search decreases-search
 last-free-requires c κs =
@@ -93,7 +93,7 @@ last-free-requires c κs =
     let h = head f in
     let s = entry (begun h) in
     let i = laws.hi_in _ _ _ _ _ s.pre.0 h.search.inv _ _ f.find-dense.ensures.0 f.find-dense.ensures.1 in
-    (omega arith, i.1, s.pre.0.rows-size, laws.fresh-listed _ _ _ _ _ s.pre.0 h.search.inv _ _ f.find-dense.ensures.0 f.find-dense.ensures.1)
+    (omega arith, i.1, s.pre.0.rows_size, laws.fresh_listed _ _ _ _ _ s.pre.0 h.search.inv _ _ f.find-dense.ensures.0 f.find-dense.ensures.1)
 
 enum-known-j : tie.Need-enum-known-j invariant-loop decreases-loop invariant-search decreases-search
 enum-known-j c = search rules
@@ -107,7 +107,7 @@ loop-holds c =
     let f = c.before.before.before.before.before.before.before in
     let h = head f in
     let s = entry (begun h) in
-    laws.first-scan _ _ _ _ _ s.pre.0 h.search.inv _ _ f.find-dense.ensures.0 f.find-dense.ensures.1 (sym e.enum_told.given.1 ∙ e.before.before.last-free.ensures)
+    laws.first_scan _ _ _ _ _ s.pre.0 h.search.inv _ _ f.find-dense.ensures.0 f.find-dense.ensures.1 (sym e.enum_told.given.1 ∙ e.before.before.last-free.ensures)
 
 add-next : tie.Need-overflow-add-next invariant-loop decreases-loop invariant-search decreases-search
 add-next c = search rules
@@ -119,7 +119,7 @@ scan-dense-requires : tie.Need-scan-dense-requires invariant-loop decreases-loop
 scan-dense-requires c κs =
     let l = c.before.before.before.before.before.before in
     let s = entry (begun (head l.before.before.before.before.before.before.before.before)) in
-    scans.can-scan _ _ _ _ _ s.pre.0 l.loop.invariant c.before.before.before.before.if1.true
+    scans.can_scan _ _ _ _ _ s.pre.0 l.loop.invariant c.before.before.before.before.if1.true
 
 enum-known-end : tie.Need-enum-known-end invariant-loop decreases-loop invariant-search decreases-search
 enum-known-end c = search rules
@@ -131,7 +131,7 @@ loop-again : tie.Need-loop-preserved invariant-loop decreases-loop invariant-sea
 loop-again c =
     let l = c.before.before.before.before.before.before.before.before.before.before.before.before.before in
     let s = entry (begun (head l.before.before.before.before.before.before.before.before)) in
-    scans.scan-on _ _ _ _ _ s.pre.0 l.loop.invariant c.before.before.before.before.before.before.before.before.before.before.before.if1.true _ c.before.end.given.1 c.before.before.before.before.before.before.scan-dense.ensures
+    scans.scan_on _ _ _ _ _ s.pre.0 l.loop.invariant c.before.before.before.before.before.before.before.before.before.before.before.if1.true _ c.before.end.given.1 c.before.before.before.before.before.before.scan-dense.ensures
 
 enum-known-free : tie.Need-enum-known-free invariant-loop decreases-loop invariant-search decreases-search
 enum-known-free c = search rules
@@ -165,7 +165,7 @@ exit c =
     leaving_at (laws.leave_fresh _ _ _ _ _ s.pre.0 h.search.inv _ _ f.find-dense.ensures.0 f.find-dense.ensures.1 _ (sym a.1.given.1 ∙ o)) a.3 a.4 lo a.6 a.7)
     (λ a.
     let lo : c.match.cursor.lo ≡ h.search.cursor.hi = omega (arith, ap (λ (x : Cursor). x.lo) a.18) in
-    let k = scans.scan-left _ _ _ _ _ s.pre.0 a.2.inv a.4.taken _ a.14.given.1 a.9.ensures in
+    let k = scans.scan_left _ _ _ _ _ s.pre.0 a.2.inv a.4.taken _ a.14.given.1 a.9.ensures in
     leaving_at (laws.leave_scan _ _ _ _ _ s.pre.0 h.search.inv _ _ f.find-dense.ensures.0 f.find-dense.ensures.1 (sym a.1.given.1 ∙ o) k.0 _ _ k.1 k.2 k.3 k.4)
     a.16 a.17 lo a.19 a.20)
     c.match.branch

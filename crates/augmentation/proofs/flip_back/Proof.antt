@@ -4,7 +4,7 @@ use Prim.Native.Nat.{ℕ, ◌^◌, ◌<◌}
 use native.Mathlib.Omega.{arith}
 use lib.ListN.{length, length-set}
 use Rattle.lists.specs.Permutations.{at}
-use Rattle.matrix.proofs.SmallLimits.{side-small}
+use Rattle.matrix.proofs.SmallLimits.{side_small}
 use Rattle.augmentation.specs.Augmentation.{open_at}
 use Rattle.augmentation.proofs.Flips.{togo, Flipping, first-flip, row_below, last-flip, next_flip, fewer}
 use Rattle.augmentation.proofs.flip_back.Statement.{statement}
@@ -33,10 +33,10 @@ facts : (c : tie.At-loop invariant-loop decreases-loop)
 facts c =
     let F = c.loop.invariant in
     record {
-      small = omega (arith, side-small, F.can.small);
-      column = F.column-below;
+      small = omega (arith, side_small, F.can.small);
+      column = F.column_below;
       row = row_below F;
-      sizes = (F.can.predecessors-size, F.cols-size, F.rows-size);
+      sizes = (F.can.predecessors_size, F.cols_size, F.rows_size);
     }
 
 mul-i : tie.Need-overflow-mul-i invariant-loop decreases-loop
@@ -83,12 +83,12 @@ loop-again c = next_flip c.before.before.before.loop.invariant c.if1.false
 same_length : tie.Need-same-length invariant-loop decreases-loop
 same_length c =
     let l = c.before.before.before in
-    length-set l.loop.cols _ _ ∙ l.loop.invariant.cols-size ∙ sym l.before.requires.cols-size
+    length-set l.loop.cols _ _ ∙ l.loop.invariant.cols_size ∙ sym l.before.requires.cols_size
 
 same-length-2 : tie.Need-same-length-2 invariant-loop decreases-loop
 same-length-2 c =
     let l = c.before.before.before in
-    length-set l.loop.rows _ _ ∙ l.loop.invariant.rows-size ∙ sym l.before.requires.rows-size
+    length-set l.loop.rows _ _ ∙ l.loop.invariant.rows_size ∙ sym l.before.requires.rows_size
 
 returns : tie.Need-returns invariant-loop decreases-loop
 returns c = last-flip c.before.before.before.loop.invariant c.if1.true

@@ -15,10 +15,10 @@ use Rattle.ints.proofs.Bits.{read_back}
 use Rattle.lists.specs.Permutations.{at}
 use Rattle.assignment.specs.Pairings.{signed_at}
 use Rattle.matrix.specs.Limits.{near}
-use Rattle.matrix.proofs.SmallLimits.{side-small}
+use Rattle.matrix.proofs.SmallLimits.{side_small}
 use Rattle.rules.specs.declared.ScanEnd.{ScanEnd}
 use Rattle.augmentation.specs.Scan.{ColumnsLowered}
-use Rattle.augmentation.proofs.Lowering.{Lowering, first_lowering, room-long, columns-lowered, column-below, pass_by, lower, swap_in, hit, lowering_at, same_equal, same_other}
+use Rattle.augmentation.proofs.Lowering.{Lowering, first_lowering, room_long_lem, columns_lowered, column_below, pass_by, lower, swap_in, hit, lowering_at, same_equal, same_other}
 use Rattle.augmentation.proofs.lower_columns.Statement.{statement}
 use Rattle.augmentation.proofs.lower_columns.Tie as tie
 
@@ -49,12 +49,12 @@ distance c =
     (read_back w64 (signed_at s.args.v.now j) c.before.lowered-arg2.given)
 
 add-n2 : tie.Need-overflow-add-n2 invariant-loop decreases-loop
-add-n2 c = omega (arith, side-small, c.before.before.requires.0.small)
+add-n2 c = omega (arith, side_small, c.before.before.requires.0.small)
 
 loop-holds : tie.Need-loop-init invariant-loop decreases-loop
 loop-holds c =
     let p = c.before.before.requires in
-    first_lowering _ _ _ _ _ _ _ _ _ _ p.0.room-size p.2 p.0.distances-size p.0.listed
+    first_lowering _ _ _ _ _ _ _ _ _ _ p.0.room_size p.2 p.0.distances_size p.0.listed
 
 -- what every index need asks of a turn
 record Facts (n k hi j row v rows d room : ℕ) : Type 0 where
@@ -72,10 +72,10 @@ facts c =
     let s = l.before.before.before in
     let L = l.loop.invariant in
     record {
-      small = omega (arith, side-small, s.requires.0.small);
+      small = omega (arith, side_small, s.requires.0.small);
       place = omega (arith, L.place, c.loop-test.true);
-      column = column-below _ _ _ _ _ _ _ _ _ _ L c.loop-test.true;
-      sizes = (s.requires.1, s.requires.0.prices-size, s.requires.0.rows-size, L.distances-size, room-long _ _ _ _ _ _ _ _ _ _ L);
+      column = column_below _ _ _ _ _ _ _ _ _ _ L c.loop-test.true;
+      sizes = (s.requires.1, s.requires.0.prices_size, s.requires.0.rows_size, L.distances_size, room_long_lem _ _ _ _ _ _ _ _ _ _ L);
     }
 
 add-j : tie.Need-overflow-add-j invariant-loop decreases-loop
@@ -106,7 +106,7 @@ lowered-requires : tie.Need-lowered-requires invariant-loop decreases-loop
 lowered-requires c κs =
     let s = c.before.before.before.before.before.before.before in
     let j = get_or c.before.before.before.before.loop.room (s.args.n + c.before.before.before.before.loop.k) 0 in (
-      subst (Within near) (sym (read_back w64 (signed_at s.args.v.now j) c.lowered-arg2.given)) (s.requires.0.prices-near j),
+      subst (Within near) (sym (read_back w64 (signed_at s.args.v.now j) c.lowered-arg2.given)) (s.requires.0.prices_near_lem j),
       subst (Within (4 * near)) (sym (to_z-of_z s.ranges.h)) s.requires.3,
     )
 
@@ -161,12 +161,12 @@ add-hi c = omega (arith, facts c.before.before.before.before.before.before.befor
 same_length : tie.Need-same-length invariant-loop decreases-loop
 same_length c =
     let l = c.before.before.before.before.before.before.before.before.before.before in
-    length-set l.loop.d _ _ ∙ l.loop.invariant.distances-size ∙ sym l.before.before.before.requires.0.distances-size
+    length-set l.loop.d _ _ ∙ l.loop.invariant.distances_size ∙ sym l.before.before.before.requires.0.distances_size
 
 same-length-2 : tie.Need-same-length-2 invariant-loop decreases-loop
 same-length-2 c =
     let l = c.before.before.before.before.before.before.before.before.before.before in
-    length-set l.loop.room _ _ ∙ room-long _ _ _ _ _ _ _ _ _ _ l.loop.invariant ∙ sym l.before.before.before.requires.0.room-size
+    length-set l.loop.room _ _ ∙ room_long_lem _ _ _ _ _ _ _ _ _ _ l.loop.invariant ∙ sym l.before.before.before.requires.0.room_size
 
 returns : tie.Need-returns invariant-loop decreases-loop
 returns c =
@@ -207,16 +207,16 @@ loop-again c =
     c.if1.branch
 
 same-length-3 : tie.Need-same-length-3 invariant-loop decreases-loop
-same-length-3 c = let l = c.before in l.loop.invariant.distances-size ∙ sym l.before.before.before.requires.0.distances-size
+same-length-3 c = let l = c.before in l.loop.invariant.distances_size ∙ sym l.before.before.before.requires.0.distances_size
 
 same-length-4 : tie.Need-same-length-4 invariant-loop decreases-loop
-same-length-4 c = let l = c.before in room-long _ _ _ _ _ _ _ _ _ _ l.loop.invariant ∙ sym l.before.before.before.requires.0.room-size
+same-length-4 c = let l = c.before in room_long_lem _ _ _ _ _ _ _ _ _ _ l.loop.invariant ∙ sym l.before.before.before.requires.0.room_size
 
 returns-2 : tie.Need-returns-2 invariant-loop decreases-loop
 returns-2 c =
     let l = c.before in
     let s = l.before.before.before in
-    told (to_z-of_z s.ranges.h) (to_z-of_z s.ranges.minimum) (columns-lowered _ _ _ _ _ _ _ _ _ _ l.loop.invariant (omega (arith, c.loop-test.false)))
+    told (to_z-of_z s.ranges.h) (to_z-of_z s.ranges.minimum) (columns_lowered _ _ _ _ _ _ _ _ _ _ l.loop.invariant (omega (arith, c.loop-test.false)))
 
 pub lower-columns-spec : {M : Type 1} → statement M
 lower-columns-spec =

@@ -7,7 +7,7 @@ use borrow.Author.Rules.{rules}
 use lib.ListN.{length, drop}
 use Rattle.lists.specs.Permutations.{table}
 use Rattle.lists.proofs.Tables.{filled_none, filled_more, filled-length, filled_all}
-use Rattle.matrix.proofs.SmallLimits.{side-small}
+use Rattle.matrix.proofs.SmallLimits.{side_small}
 use Rattle.augmentation.proofs.number_columns.Statement.{statement}
 use Rattle.augmentation.proofs.number_columns.Tie as tie
 
@@ -25,7 +25,7 @@ loop-holds : tie.Need-loop-init invariant-loop decreases-loop
 loop-holds c = (omega arith, filled_none _ _)
 
 cast-list : tie.Need-overflow-cast-list invariant-loop decreases-loop
-cast-list c = omega (arith, side-small, size c.before)
+cast-list c = omega (arith, side_small, size c.before)
 
 mul-list : tie.Need-overflow-mul-list invariant-loop decreases-loop
 mul-list c = search rules

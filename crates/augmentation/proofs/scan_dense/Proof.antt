@@ -13,8 +13,8 @@ use Rattle.ints.proofs.Ranges.{within_mono}
 use Rattle.lists.specs.Permutations.{at}
 use Rattle.assignment.specs.Pairings.{signed_at}
 use Rattle.matrix.specs.Limits.{near}
-use Rattle.matrix.proofs.SmallLimits.{side-small}
-use Rattle.augmentation.proofs.Scan.{row-length, spare_near, column-at, scanned}
+use Rattle.matrix.proofs.SmallLimits.{side_small}
+use Rattle.augmentation.proofs.Scan.{row_length, spare_near, column_at, scanned}
 use Rattle.augmentation.proofs.scan_dense.Statement.{statement}
 use Rattle.augmentation.proofs.scan_dense.Tie as tie
 
@@ -32,13 +32,13 @@ facts : (s : tie.Start)
     Facts u.n u.cursor.lo j (at u.rows.now j) (length u.v.now) (length u.rows.now) (length u.d.now) (length u.room.now) (length u.costs.now)
 facts s =
     let p = s.requires in
-    let e = column-at s.args.n s.args.room.now s.args.cursor.lo p.place.0 in
+    let e = column_at s.args.n s.args.room.now s.args.cursor.lo p.place.0 in
     record {
-      small = omega (arith, side-small, p.lent.small);
+      small = omega (arith, side_small, p.lent.small);
       place = p.place.0;
       column = omega (arith, e, p.lent.listed.injective.below s.args.cursor.lo p.place.0);
       row = subst (λ (j : ℕ). at s.args.rows.now j < s.args.n) (sym e) p.taken;
-      sizes = (p.lent.prices-size, p.lent.rows-size, p.lent.distances-size, p.lent.room-size, p.costs-size);
+      sizes = (p.lent.prices_size, p.lent.rows_size, p.lent.distances_size, p.lent.room_size, p.costs_size);
     }
 
 add-j : tie.Need-overflow-add-j
@@ -74,16 +74,16 @@ row-requires c κs = let f = facts c.before.before.before.before.before in (f.ro
 mul-lowered : tie.Need-overflow-mul-lowered
 mul-lowered c = omega (arith, facts c.before.before.before.before.before.before)
 
-row-size : (c : tie.After-row) → length c.row.result.now ≡ c.before.before.before.before.before.before.args.n
-row-size c =
+row_size : (c : tie.After-row) → length c.row.result.now ≡ c.before.before.before.before.before.before.args.n
+row_size c =
     let f = facts c.before.before.before.before.before.before in
-    ap length c.row.ensures ∙ row-length _ _ _ f.row f.sizes.4
+    ap length c.row.ensures ∙ row_length _ _ _ f.row f.sizes.4
 
 -- the block's minimum, at the column as code reads it
 minimum-near : (s : tie.Start) → let u = s.args in Within (2 * near) (signed_at u.d.now (get_or u.room.now (u.n + u.cursor.lo) 0))
 minimum-near s =
     subst (λ (j : ℕ). Within (2 * near) (signed_at s.args.d.now j))
-    (sym (column-at s.args.n s.args.room.now s.args.cursor.lo s.requires.place.0)) s.requires.minimum-near
+    (sym (column_at s.args.n s.args.room.now s.args.cursor.lo s.requires.place.0)) s.requires.minimum-near
 
 -- what the row has to spare, as the definition has it
 spare : (c : tie.After-lowered)
@@ -99,7 +99,7 @@ spare c =
     (read_back w64 (signed_at s.args.v.now j) c.before.lowered-arg2.given)
 
 shared-slice-copy-out-lowered : tie.Need-shared-slice-copy-out-lowered
-shared-slice-copy-out-lowered c = omega (arith, facts c.before.before.before.before.before.before, row-size c)
+shared-slice-copy-out-lowered c = omega (arith, facts c.before.before.before.before.before.before, row_size c)
 
 mul-lowered-2 : tie.Need-overflow-mul-lowered-2
 mul-lowered-2 c = omega (arith, facts c.before.before.before.before.before.before.before)
@@ -111,7 +111,7 @@ lowered-requires : tie.Need-lowered-requires
 lowered-requires c κs =
     let s = c.before.before.before.before.before.before.before.before in
     let j = get_or s.args.room.now (s.args.n + s.args.cursor.lo) 0 in (
-      subst (Within near) (sym (read_back w64 (signed_at s.args.v.now j) c.lowered-arg2.given)) (s.requires.lent.prices-near j),
+      subst (Within near) (sym (read_back w64 (signed_at s.args.v.now j) c.lowered-arg2.given)) (s.requires.lent.prices_near_lem j),
       subst (Within (4 * near)) (sym (read_back w64 (signed_at s.args.d.now j) c.before.before.before.minimum.given))
           (within_mono (omega arith) (minimum-near s)),
     )
@@ -123,11 +123,11 @@ lower-columns-requires c κs =
     let j = get_or s.args.room.now (s.args.n + s.args.cursor.lo) 0 in
     let m : to_z w64 (of_z w64 (signed_at s.args.d.now j)) ≡ signed_at s.args.d.now j = read_back w64 (signed_at s.args.d.now j) w.before.before.before.before.minimum.given in (
       s.requires.lent,
-      row-size w.before.before.before,
+      row_size w.before.before.before,
       s.requires.place.1,
       subst (Within (4 * near)) (sym (spare w))
           (spare_near (signed_at w.before.before.before.row.result.now j) (signed_at s.args.v.now j) (to_z w64 (of_z w64 (signed_at s.args.d.now j)))
-          (record { sfits = w.before.before.lowered-arg.given }) (s.requires.lent.prices-near j) (subst (Within (2 * near)) (sym m) (minimum-near s))),
+          (record { sfits = w.before.before.lowered-arg.given }) (s.requires.lent.prices_near_lem j) (subst (Within (2 * near)) (sym m) (minimum-near s))),
     )
 
 same_length : tie.Need-same-length
@@ -141,7 +141,7 @@ returns c =
     let w = c.before.before.before.before.before.before in
     let s = w.before.before.before.before.before.before.before.before.before in
     let j = get_or s.args.room.now (s.args.n + s.args.cursor.lo) 0 in
-    scanned _ _ _ _ _ _ _ _ j _ _ _ _ (column-at s.args.n s.args.room.now s.args.cursor.lo s.requires.place.0) (facts s).column refl
+    scanned _ _ _ _ _ _ _ _ j _ _ _ _ (column_at s.args.n s.args.room.now s.args.cursor.lo s.requires.place.0) (facts s).column refl
     w.before.before.before.row.ensures (read_back w64 (signed_at s.args.d.now j) w.before.before.before.before.minimum.given) (spare w)
     c.before.before.before.lower-columns.ensures
 

@@ -4,7 +4,7 @@ use mathlib.Core.Path.{ap, ◌∙◌}
 use borrow.Author.Rules.{rules}
 use lib.ListN.{length}
 use Rattle.augmentation.proofs.Start.{started}
-use Rattle.augmentation.proofs.Scan.{row-length}
+use Rattle.augmentation.proofs.Scan.{row_length}
 use Rattle.augmentation.proofs.start_search.Statement.{statement}
 use Rattle.augmentation.proofs.start_search.Tie as tie
 
@@ -15,12 +15,12 @@ add-n3 : tie.Need-overflow-add-n3
 add-n3 c = search rules
 
 row-requires : tie.Need-row-requires
-row-requires c κs = let s = c.before in (s.requires.start_below, s.requires.costs-size)
+row-requires c κs = let s = c.before in (s.requires.start_below, s.requires.costs_size)
 
 first-distances-requires : tie.Need-first-distances-requires
 first-distances-requires c κs =
     let p = c.before.before.before.requires in
-    (ap length c.before.row.ensures ∙ row-length _ _ _ p.start_below p.costs-size, p.prices-size, p.distances-size, p.prices-near)
+    (ap length c.before.row.ensures ∙ row_length _ _ _ p.start_below p.costs_size, p.prices_size, p.distances_size, p.prices_near_lem)
 
 mul-number-columns : tie.Need-overflow-mul-number-columns
 mul-number-columns c = search rules
@@ -62,7 +62,7 @@ returns : tie.Need-returns
 returns c =
     let r = c.before.before.before.before.before.before.before.before.before.before.before in
     let s = r.before.before in
-    started _ _ _ _ _ s.requires.room-size _ c.before.before.before.before.before.before.number-columns.ensures _ _ _ r.row.ensures
+    started _ _ _ _ _ s.requires.room_size _ c.before.before.before.before.before.before.number-columns.ensures _ _ _ r.row.ensures
     c.before.before.before.before.before.before.before.before.before.first-distances.ensures c.before.before.fill.ensures
 
 pub start-search-spec : {M : Type 1} → statement M

@@ -28,13 +28,13 @@ mul-has : tie.Need-overflow-mul-has invariant-loop decreases-loop
 mul-has c = search rules
 
 shared-slice-read-has : tie.Need-shared-slice-read-has invariant-loop decreases-loop
-shared-slice-read-has c = omega (arith, c.before.loop-test.true, c.before.before.before.before.before.requires.bars-long)
+shared-slice-read-has c = omega (arith, c.before.loop-test.true, c.before.before.before.before.before.requires.bars_long)
 
 mul-has-2 : tie.Need-overflow-mul-has-2 invariant-loop decreases-loop
 mul-has-2 c = search rules
 
 shared-slice-read-has-2 : tie.Need-shared-slice-read-has-2 invariant-loop decreases-loop
-shared-slice-read-has-2 c = omega (arith, c.before.before.loop-test.true, c.before.before.before.before.before.before.requires.cols-long)
+shared-slice-read-has-2 c = omega (arith, c.before.before.loop-test.true, c.before.before.before.before.before.before.requires.cols_long)
 
 cast-has : tie.Need-overflow-cast-has invariant-loop decreases-loop
 cast-has c = omega (arith, c.shared-slice-known4.given c.before.before.before.loop.i)

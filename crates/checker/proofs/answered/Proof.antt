@@ -4,7 +4,7 @@ use borrow.Author.Rules.{rules}
 use mir.Syntax.{w64}
 use Rattle.ints.proofs.Bits.{read_back}
 use Rattle.matrix.specs.Answers.{values_of}
-use Rattle.matrix.proofs.Verdicts.{fails_totalled, passed-totalled}
+use Rattle.matrix.proofs.Verdicts.{fails_totalled, passed_totalled}
 use Rattle.checker.proofs.answered.Statement.{statement}
 use Rattle.checker.proofs.answered.Tie as tie
 
@@ -23,7 +23,7 @@ total-of-requires c κs = c.before.before.before.requires c.enum_told.given.1
 returns-2 : tie.Need-returns-2
 returns-2 c =
     let d = c.before in
-    ap values_of (passed-totalled d.enum_told.given.1 (read_back w64 c.total_of.result c.total_of.type-inv ∙ c.total_of.ensures))
+    ap values_of (passed_totalled d.enum_told.given.1 (read_back w64 c.total_of.result c.total_of.type-inv ∙ c.total_of.ensures))
 
 pub answered-spec : {M : Type 1} → statement M
 answered-spec = tie.close (tie.spec enum-known-verdict returns enum_told total-of-requires returns-2)

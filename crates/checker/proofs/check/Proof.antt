@@ -16,7 +16,7 @@ checked-requires c κs = search rules
 answered-requires : tie.Need-answered-requires
 answered-requires c κs = λ e.
     let f = (checks_iff _ _ _ _ _ _).0 (sym c.checked.ensures ∙ e) in
-    (f.sizes.small, f.sizes.small, omega (arith, f.sizes.squared), record { listed = f.sizes.columns-listed; inside = f.named.inside })
+    (f.sizes.small, f.sizes.small, omega (arith, f.sizes.squared), record { listed = f.sizes.columns_listed; inside = f.named.inside })
 
 returns : tie.Need-returns
 unfolding check

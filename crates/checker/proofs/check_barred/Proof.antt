@@ -6,7 +6,7 @@ use borrow.Author.Rules.{rules}
 use Rattle.assignment.specs.Pairings.{total}
 use Rattle.matrix.specs.Answers.{values_of, totalled}
 use Rattle.matrix.specs.declared.Verdict.{Verdict}
-use Rattle.matrix.proofs.SmallLimits.{sheet_side-within}
+use Rattle.matrix.proofs.SmallLimits.{sheet_side_within}
 use Rattle.bars.specs.Barred.{barred}
 use Rattle.checker.specs.Check.{check_barred}
 use Rattle.checker.proofs.Barred.{checks_barred_iff}
@@ -19,8 +19,8 @@ checked-barred-requires c κs = search rules
 answered-requires : tie.Need-answered-requires
 answered-requires c κs = λ e.
     let f = ((checks_barred_iff _ _ _ _ _ _ _).0 (sym c.checked-barred.ensures ∙ e)).0 in
-    let small = le_trans f.small sheet_side-within in
-    (small, small, omega (arith, f.squared), record { listed = f.columns-listed; inside = f.named.inside })
+    let small = le_trans f.small sheet_side_within in
+    (small, small, omega (arith, f.squared), record { listed = f.columns_listed; inside = f.named.inside })
 
 returns : tie.Need-returns
 unfolding check_barred

@@ -7,7 +7,7 @@ use borrow.Author.Rules.{rules}
 use Rattle.assignment.specs.Pairings.{total}
 use Rattle.matrix.specs.Answers.{values_of, totalled}
 use Rattle.matrix.specs.declared.Verdict.{Verdict}
-use Rattle.matrix.proofs.SmallLimits.{sheet_side-within}
+use Rattle.matrix.proofs.SmallLimits.{sheet_side_within}
 use Rattle.bars.specs.Barred.{night_of}
 use Rattle.checker.specs.Check.{check_oblong}
 use Rattle.checker.proofs.Oblong.{checks_oblong_iff}
@@ -20,8 +20,8 @@ checked-oblong-requires c κs = search rules
 answered-requires : tie.Need-answered-requires
 answered-requires c κs = λ e.
     let f = ((checks_oblong_iff _ _ _ _ _ _).0 (sym c.checked-oblong.ensures ∙ e)).0 in
-    let small = le_trans f.small sheet_side-within in
-    (le_trans f.fits small, small, omega (arith, f.filled), record { listed = f.columns-listed; inside = f.inside })
+    let small = le_trans f.small sheet_side_within in
+    (le_trans f.fits small, small, omega (arith, f.filled), record { listed = f.columns_listed; inside = f.inside })
 
 returns : tie.Need-returns
 unfolding check_oblong

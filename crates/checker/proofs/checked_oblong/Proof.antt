@@ -8,9 +8,9 @@ use lib.ListN.{length}
 use Rattle.matrix.specs.Asked.{ColumnsListed}
 use Rattle.matrix.specs.Limits.{sheet_side}
 use Rattle.matrix.specs.Verdicts.{Passes}
-use Rattle.matrix.proofs.SmallLimits.{sheet_side-within}
+use Rattle.matrix.proofs.SmallLimits.{sheet_side_within}
 use Rattle.matrix.proofs.Verdicts.{then_iff, after}
-use Rattle.matrix.proofs.Passed.{columns-inside}
+use Rattle.matrix.proofs.Passed.{columns_inside_lem}
 use Rattle.checker.specs.Check.{checks_oblong}
 use Rattle.checker.proofs.Oblong.{shaped_oblong_iff}
 use Rattle.checker.proofs.checked_oblong.Statement.{statement}
@@ -29,7 +29,7 @@ chosen : (c : tie.After-paired-oblong) → let u = c.before.before.before.args i
 chosen c e =
     let u = c.before.before.before.args in
     let t = (then_iff _ _).0 (sym c.paired-oblong.ensures ∙ e) in
-    (t.0, record { listed = (shape c.before t.0).3; inside = (columns-inside u.m u.n u.cols.now).0 ((then_iff _ _).0 ((then_iff _ _).0 t.1).0).1 })
+    (t.0, record { listed = (shape c.before t.0).3; inside = (columns_inside_lem u.m u.n u.cols.now).0 ((then_iff _ _).0 ((then_iff _ _).0 t.1).0).1 })
 
 shaped-oblong-requires : tie.Need-shaped-oblong-requires
 shaped-oblong-requires c κs = search rules
@@ -44,7 +44,7 @@ priced-requires : tie.Need-priced-requires
 priced-requires c κs = λ e.
     let h = chosen c.before e in
     let s = shape c.before.before h.0 in
-    let small = le_trans s.0 sheet_side-within in
+    let small = le_trans s.0 sheet_side_within in
     (le_trans s.1 small, small, s.2, h.1, s.4, s.5, λ i set. absurd (set refl))
 
 spares-not-below-requires : tie.Need-spares-not-below-requires

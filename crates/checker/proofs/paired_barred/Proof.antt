@@ -6,26 +6,26 @@ use lib.ListN.{length}
 use Rattle.lists.specs.Permutations.{at}
 use Rattle.matrix.specs.Verdicts.{Passes}
 use Rattle.matrix.proofs.Verdicts.{then_iff, then_assoc, after}
-use Rattle.matrix.proofs.Passed.{columns-inside}
+use Rattle.matrix.proofs.Passed.{columns_inside_lem}
 use Rattle.checker.proofs.paired_barred.Statement.{statement}
 use Rattle.checker.proofs.paired_barred.Tie as tie
 
 -- past 5, past 22 and past 6
-sizes : (c : tie.After-costs-small) → let u = c.before.before.before.before.args in Passes c.costs-small.result
+sizes : (c : tie.After-costs-small) → let u = c.before.before.before.before.args in Passes c.costs_small_lem.result
     → (u.n ≤ 64) × (u.n ≤ length u.cols.now) × (u.n ≤ length u.rows.now) × (u.n ≤ length u.bars.now)
-sizes c e = c.before.before.before.before.requires ((then_iff _ _).0 (sym c.costs-small.ensures ∙ e)).0
+sizes c e = c.before.before.before.before.requires ((then_iff _ _).0 (sym c.costs_small_lem.ensures ∙ e)).0
 
-clear : (c : tie.After-bars-clear) → let u = c.before.before.before.before.before.args in Passes c.bars-clear.result
+clear : (c : tie.After-bars-clear) → let u = c.before.before.before.before.before.args in Passes c.bars_clear_lem.result
     → (u.n ≤ 64) × (u.n ≤ length u.cols.now) × (u.n ≤ length u.rows.now) × (u.n ≤ length u.bars.now)
-clear c e = sizes c.before ((then_iff _ _).0 (sym c.bars-clear.ensures ∙ e)).0
+clear c e = sizes c.before ((then_iff _ _).0 (sym c.bars_clear_lem.ensures ∙ e)).0
 
-inside : (c : tie.After-columns-inside) → let u = c.before.before.before.before.before.before.args in Passes c.columns-inside.result
+inside : (c : tie.After-columns-inside) → let u = c.before.before.before.before.before.before.args in Passes c.columns_inside_lem.result
     → (u.n ≤ 64) × (u.n ≤ length u.cols.now) × (u.n ≤ length u.rows.now) × (u.n ≤ length u.bars.now) × ((i : ℕ) → i < u.n → at u.cols.now i < u.n)
 inside c e =
     let u = c.before.before.before.before.before.before.args in
-    let t = (then_iff _ _).0 (sym c.columns-inside.ensures ∙ e) in
+    let t = (then_iff _ _).0 (sym c.columns_inside_lem.ensures ∙ e) in
     let s = clear c.before t.0 in
-    (s.0, s.1, s.2, s.3, (columns-inside u.n u.n u.cols.now).0 t.1)
+    (s.0, s.1, s.2, s.3, (columns_inside_lem u.n u.n u.cols.now).0 t.1)
 
 costs-small-requires : tie.Need-costs-small-requires
 costs-small-requires c κs = search rules
@@ -42,15 +42,15 @@ rows-named-requires c κs = λ e. let s = inside c e in (s.1, s.2, s.4)
 unbarred-requires : tie.Need-unbarred-requires
 unbarred-requires c κs = λ e.
     let s = inside c.before ((then_iff _ _).0 (sym c.rows_named.ensures ∙ e)).0 in
-    record { small = s.0; bars-long = s.3; cols-long = s.1; inside = s.4 }
+    record { small = s.0; bars_long = s.3; cols_long = s.1; inside = s.4 }
 
 returns : tie.Need-returns
 returns c =
     let d = c.before in
     after _ c.unbarred.ensures
     (after _ d.rows_named.ensures
-    (after _ d.before.columns-inside.ensures
-    (after _ d.before.before.bars-clear.ensures d.before.before.before.costs-small.ensures ∙ then_assoc _ _ _)
+    (after _ d.before.columns_inside_lem.ensures
+    (after _ d.before.before.bars_clear_lem.ensures d.before.before.before.costs_small_lem.ensures ∙ then_assoc _ _ _)
     ∙ then_assoc _ _ _)
     ∙ then_assoc _ _ _)
     ∙ then_assoc _ _ _

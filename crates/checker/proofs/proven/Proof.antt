@@ -7,31 +7,31 @@ use Rattle.assignment.specs.Pairings.{Night, square}
 use Rattle.matrix.specs.Verdicts.{Passes, ◌then◌}
 use Rattle.matrix.specs.Asked.{Shaped, Listed}
 use Rattle.matrix.proofs.Verdicts.{then_iff, then_assoc, after}
-use Rattle.matrix.proofs.Passed.{columns-inside}
+use Rattle.matrix.proofs.Passed.{columns_inside_lem}
 use Rattle.bars.proofs.Passed.{square-unbarred}
 use Rattle.checker.specs.Check.{price_tests}
 use Rattle.checker.proofs.proven.Statement.{statement}
 use Rattle.checker.proofs.proven.Tie as tie
 
 -- past 5, and past 6
-shape : (c : tie.After-costs-within) → let u = c.before.before.before.args in Passes c.costs-within.result
+shape : (c : tie.After-costs-within) → let u = c.before.before.before.args in Passes c.costs_within_lem.result
     → Shaped u.n u.costs.now (length u.cols.now) (length u.rows.now) (length u.us.now) (length u.vs.now)
-shape c e = c.before.before.before.requires ((then_iff _ _).0 (sym c.costs-within.ensures ∙ e)).0
+shape c e = c.before.before.before.requires ((then_iff _ _).0 (sym c.costs_within_lem.ensures ∙ e)).0
 
-listed : (c : tie.After-columns-inside) → let u = c.before.before.before.before.args in Passes c.columns-inside.result
+listed : (c : tie.After-columns-inside) → let u = c.before.before.before.before.args in Passes c.columns_inside_lem.result
     → Shaped u.n u.costs.now (length u.cols.now) (length u.rows.now) (length u.us.now) (length u.vs.now)
     × Listed u.n u.costs.now u.n u.cols.now
 listed c e =
     let u = c.before.before.before.before.args in
-    let t = (then_iff _ _).0 (sym c.columns-inside.ensures ∙ e) in
+    let t = (then_iff _ _).0 (sym c.columns_inside_lem.ensures ∙ e) in
     let s = shape c.before t.0 in (
       s,
       record {
         small = s.small;
         squared = s.squared;
         rows = le_refl u.n;
-        listed = s.long.first-long;
-        inside = (columns-inside u.n u.n u.cols.now).0 t.1;
+        listed = s.long.first_long;
+        inside = (columns_inside_lem u.n u.n u.cols.now).0 t.1;
       },
     )
 
@@ -39,10 +39,10 @@ costs-within-requires : tie.Need-costs-within-requires
 costs-within-requires c κs = search rules
 
 columns-inside-requires : tie.Need-columns-inside-requires
-columns-inside-requires c κs = λ e. (shape c e).long.first-long
+columns-inside-requires c κs = λ e. (shape c e).long.first_long
 
 rows-named-requires : tie.Need-rows-named-requires
-rows-named-requires c κs = λ e. let h = listed c e in (h.0.long.first-long, h.0.long.second-long, h.1.inside)
+rows-named-requires c κs = λ e. let h = listed c e in (h.0.long.first_long, h.0.long.second_long, h.1.inside)
 
 slice-aggregate-priced : tie.Need-slice-aggregate-priced
 slice-aggregate-priced c = search rules
@@ -72,7 +72,7 @@ returns c =
     let d = c.before.before in
     after _ (plain c)
     (after _ d.rows_named.ensures
-    (after _ d.before.columns-inside.ensures d.before.before.costs-within.ensures ∙ then_assoc _ _ _)
+    (after _ d.before.columns_inside_lem.ensures d.before.before.costs_within_lem.ensures ∙ then_assoc _ _ _)
     ∙ then_assoc _ _ _)
     ∙ then_assoc _ _ _
 

@@ -5,14 +5,14 @@ use native.Mathlib.Nat.{le_trans}
 use borrow.Author.Rules.{rules}
 use Rattle.matrix.specs.Limits.{sheet_side}
 use Rattle.matrix.specs.Tests.{side_within}
-use Rattle.matrix.proofs.SmallLimits.{sheet_side-within}
+use Rattle.matrix.proofs.SmallLimits.{sheet_side_within}
 use Rattle.matrix.proofs.Verdicts.{after}
-use Rattle.matrix.proofs.Passed.{side-within}
+use Rattle.matrix.proofs.Passed.{side_within_lem}
 use Rattle.checker.proofs.shaped_barred.Statement.{statement}
 use Rattle.checker.proofs.shaped_barred.Tie as tie
 
-sized : (c : tie.After-side-within) → c.side-within.result ≡ side_within sheet_side c.before.before.args.n
-sized c = c.side-within.ensures ∙ ap (λ (limit : ℕ). side_within limit c.before.before.args.n) c.before.sheet-side.ensures
+sized : (c : tie.After-side-within) → c.side_within_lem.result ≡ side_within sheet_side c.before.before.args.n
+sized c = c.side_within_lem.ensures ∙ ap (λ (limit : ℕ). side_within limit c.before.before.args.n) c.before.sheet_side_lem.ensures
 
 sheet-side-requires : tie.Need-sheet-side-requires
 sheet-side-requires c κs = search rules
@@ -21,7 +21,7 @@ side-within-requires : tie.Need-side-within-requires
 side-within-requires c κs = search rules
 
 costs-fill-requires : tie.Need-costs-fill-requires
-costs-fill-requires c κs = λ e. let h = le_trans ((side-within sheet_side _).0 (sym (sized c) ∙ e)) sheet_side-within in (h, h)
+costs-fill-requires c κs = λ e. let h = le_trans ((side_within_lem sheet_side _).0 (sym (sized c) ∙ e)) sheet_side_within in (h, h)
 
 lists-long-requires : tie.Need-lists-long-requires
 lists-long-requires c κs = search rules
@@ -31,7 +31,7 @@ list-long-requires c κs = search rules
 
 returns : tie.Need-returns
 returns c =
-    after _ c.list-long.ensures
+    after _ c.list_long_lem.ensures
     (after _ c.before.lists_long_lem.ensures (after _ c.before.before.costs_fill_lem.ensures (sized c.before.before.before)))
 
 pub shaped-barred-spec : {M : Type 1} → statement M

@@ -5,15 +5,15 @@ use native.Mathlib.Nat.{le_trans}
 use borrow.Author.Rules.{rules}
 use Rattle.matrix.specs.Limits.{sheet_side}
 use Rattle.matrix.specs.Tests.{side_within}
-use Rattle.matrix.proofs.SmallLimits.{sheet_side-within}
+use Rattle.matrix.proofs.SmallLimits.{sheet_side_within}
 use Rattle.matrix.proofs.Verdicts.{then_iff, after}
-use Rattle.matrix.proofs.Passed.{side-within}
+use Rattle.matrix.proofs.Passed.{side_within_lem}
 use Rattle.checker.proofs.Tests.{rows_fit_lem}
 use Rattle.checker.proofs.shaped_oblong.Statement.{statement}
 use Rattle.checker.proofs.shaped_oblong.Tie as tie
 
-sized : (c : tie.After-side-within) → c.side-within.result ≡ side_within sheet_side c.before.before.args.n
-sized c = c.side-within.ensures ∙ ap (λ (limit : ℕ). side_within limit c.before.before.args.n) c.before.sheet-side.ensures
+sized : (c : tie.After-side-within) → c.side_within_lem.result ≡ side_within sheet_side c.before.before.args.n
+sized c = c.side_within_lem.ensures ∙ ap (λ (limit : ℕ). side_within limit c.before.before.args.n) c.before.sheet_side_lem.ensures
 
 sheet-side-requires : tie.Need-sheet-side-requires
 sheet-side-requires c κs = search rules
@@ -27,7 +27,7 @@ rows-fit-requires c κs = search rules
 costs-fill-requires : tie.Need-costs-fill-requires
 costs-fill-requires c κs = λ e.
     let t = (then_iff _ _).0 (sym c.rows_fit.ensures ∙ e) in
-    let h = le_trans ((side-within sheet_side _).0 (sym (sized c.before) ∙ t.0)) sheet_side-within in
+    let h = le_trans ((side_within_lem sheet_side _).0 (sym (sized c.before) ∙ t.0)) sheet_side_within in
     (le_trans ((rows_fit_lem _ _).0 t.1) h, h)
 
 list-long-requires : tie.Need-list-long-requires
@@ -46,7 +46,7 @@ returns c =
     let filled = first.before in
     after _ c.list-long3.ensures
     (after _ third.list-long2.ensures
-    (after _ first.list-long.ensures (after _ filled.costs_fill_lem.ensures (after _ filled.before.rows_fit.ensures (sized filled.before.before)))))
+    (after _ first.list_long_lem.ensures (after _ filled.costs_fill_lem.ensures (after _ filled.before.rows_fit.ensures (sized filled.before.before)))))
 
 pub shaped-oblong-spec : {M : Type 1} → statement M
 shaped-oblong-spec =

@@ -1,6 +1,6 @@
 -- The program lends what it read, and writes as many bytes as there are lines. Assumes nothing.
 use borrow.Author.Rules.{rules}
-use Rattle.lines.proofs.Printed.{count-within}
+use Rattle.lines.proofs.Printed.{count_within}
 use Rattle.desk.proofs.main.Statement.{statement}
 use Rattle.desk.proofs.main.Tie as tie
 
@@ -41,7 +41,7 @@ part-write-all-start : tie.Need-slice-bounds-write-all-start
 part-write-all-start c = search rules
 
 part-write-all-end : tie.Need-slice-bounds-write-all-end
-part-write-all-end c = count-within _ _ _ c.before.print.ensures
+part-write-all-end c = count_within _ _ _ c.before.print.ensures
 
 write-all-requires : tie.Need-write-all-requires
 write-all-requires c κs = search rules

@@ -5,7 +5,7 @@ use borrow.Author.Rules.{rules}
 use Rattle.audit.specs.Asked.{TellableAudited}
 use Rattle.audit.specs.Audit.{audit}
 use Rattle.audit.proofs.Determined.{audited_values_determine}
-use Rattle.audit.proofs.Codes.{audit-places}
+use Rattle.audit.proofs.Codes.{audit_places}
 use Rattle.face.specs.Face.{audit_told}
 use Rattle.face.proofs.bristlefrost_audit.Statement.{statement}
 use Rattle.face.proofs.bristlefrost_audit.Tie as tie
@@ -18,7 +18,7 @@ told-audited-requires c κs =
     let k = c.before.before in
     let u = k.before.args in
     subst TellableAudited (sym (audited_values_determine c.audit.result (audit u.sheet.now u.slip.now) c.audit.ensures))
-    (audit-places u.sheet.now u.slip.now (λ i l. omega (arith, k.shared-slice-known.given i)))
+    (audit_places u.sheet.now u.slip.now (λ i l. omega (arith, k.shared-slice-known.given i)))
 
 returns : tie.Need-returns
 returns c = c.told-audited.ensures ∙ ap audit_told c.before.audit.ensures

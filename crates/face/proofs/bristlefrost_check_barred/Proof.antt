@@ -16,8 +16,8 @@ told-checked-requires : tie.Need-told-checked-requires
 told-checked-requires c κs =
     let u = c.before.before.before.before.args in
     subst TellableIn
-    (sym (values_determine c.check-barred.result (check_barred u.n u.costs.now u.cols.now u.rows.now u.row-prices.now u.col-prices.now u.bars.now) c.check-barred.ensures))
-    (check_barred_places u.n u.costs.now u.cols.now u.rows.now u.row-prices.now u.col-prices.now u.bars.now)
+    (sym (values_determine c.check-barred.result (check_barred u.n u.costs.now u.cols.now u.rows.now u.row_prices.now u.col-prices.now u.bars.now) c.check-barred.ensures))
+    (check_barred_places u.n u.costs.now u.cols.now u.rows.now u.row_prices.now u.col-prices.now u.bars.now)
 
 returns : tie.Need-returns
 returns c = c.told-checked.ensures ∙ ap checked c.before.check-barred.ensures

@@ -28,8 +28,8 @@ told-any-requires : tie.Need-told-any-requires
 told-any-requires c κs =
     let u = c.before.before.args in
     subst NumberedIn
-    (sym (values_determine c.check-oblong.result (check_oblong u.m u.n u.costs.now u.cols.now u.row-prices.now u.col-prices.now) c.check-oblong.ensures))
-    (numbered u.m u.n u.costs.now u.cols.now u.row-prices.now u.col-prices.now)
+    (sym (values_determine c.check-oblong.result (check_oblong u.m u.n u.costs.now u.cols.now u.row_prices.now u.col-prices.now) c.check-oblong.ensures))
+    (numbered u.m u.n u.costs.now u.cols.now u.row_prices.now u.col-prices.now)
 
 returns : tie.Need-returns
 returns c = c.told-any.ensures ∙ ap checked_any c.before.check-oblong.ensures

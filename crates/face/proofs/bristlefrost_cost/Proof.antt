@@ -3,7 +3,7 @@ use mathlib.Core.Path.{sym, ap, ◌∙◌, subst}
 use borrow.Author.Rules.{rules}
 use Rattle.matrix.specs.Cost.{cost}
 use Rattle.matrix.specs.Asked.{TellableIn}
-use Rattle.matrix.proofs.Codes.{cost-places}
+use Rattle.matrix.proofs.Codes.{cost_places}
 use Rattle.matrix.proofs.Determined.{values_determine}
 use Rattle.face.specs.Face.{totalled}
 use Rattle.face.proofs.bristlefrost_cost.Statement.{statement}
@@ -15,7 +15,7 @@ cost-requires c κs = search rules
 told-requires : tie.Need-told-requires
 told-requires c κs =
     let u = c.before.before.args in
-    subst TellableIn (sym (values_determine c.cost.result (cost u.n u.costs.now u.listed.now) c.cost.ensures)) (cost-places u.n u.costs.now u.listed.now)
+    subst TellableIn (sym (values_determine c.cost.result (cost u.n u.costs.now u.listed.now) c.cost.ensures)) (cost_places u.n u.costs.now u.listed.now)
 
 returns : tie.Need-returns
 returns c = c.told.ensures ∙ ap totalled c.before.cost.ensures

@@ -7,7 +7,7 @@ use Rattle.matrix.specs.Answers.{values_of}
 use Rattle.matrix.specs.Asked.{TellableIn}
 use Rattle.matrix.specs.declared.Answer.{Answer}
 use Rattle.plain.specs.Engine.{plain}
-use Rattle.plain.proofs.Codes.{plain-places}
+use Rattle.plain.proofs.Codes.{plain_places}
 use Rattle.face.specs.declared.Totalled.{Totalled}
 use Rattle.face.specs.Face.{totalled}
 use Rattle.face.proofs.bristlefrost_plain.Statement.{statement}
@@ -20,7 +20,7 @@ told-requires : tie.Need-told-requires
 told-requires c κs =
     let p = c.before.before in
     let u = p.before.before.before.args in
-    subst TellableIn (sym (ap (λ (x : Answer × List ℕ). x.0) p.plain.ensures)) (plain-places u.n u.costs.now u.cols.now)
+    subst TellableIn (sym (ap (λ (x : Answer × List ℕ). x.0) p.plain.ensures)) (plain_places u.n u.costs.now u.cols.now)
 
 same_length : tie.Need-same-length
 same_length c = search rules

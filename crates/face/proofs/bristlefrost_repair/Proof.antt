@@ -6,7 +6,7 @@ use Rattle.matrix.proofs.Determined.{values_determine}
 use Rattle.lapjv.specs.Solve.{Lent, lent_of}
 use Rattle.repair.specs.Repair.{repair}
 use Rattle.repair.specs.Values.{Told}
-use Rattle.repair.proofs.Codes.{repair-places}
+use Rattle.repair.proofs.Codes.{repair_places}
 use Rattle.face.specs.declared.Checked.{Checked}
 use Rattle.face.specs.Face.{checked}
 use Rattle.face.proofs.bristlefrost_repair.Statement.{statement}
@@ -19,10 +19,10 @@ told-checked-requires : tie.Need-told-checked-requires
 told-checked-requires c κs =
     let u = c.before.before.before.before.before.before.before.before.before.before.before.before.before.before.before.before.before.before.before.args in
     let r = c.before.before.before.before.before.before.before.before.before.repair in
-    let lent = lent_of u.cols.now u.rows.now u.row-prices.now u.col-prices.now u.indices.now u.numbers.now in
+    let lent = lent_of u.cols.now u.rows.now u.row_prices.now u.col-prices.now u.indices.now u.numbers.now in
     subst TellableIn
     (sym (values_determine r.result (repair u.n u.costs.now u.row lent).answer (ap (λ (t : Told). t.values) r.ensures)))
-    (repair-places u.n u.costs.now u.row lent)
+    (repair_places u.n u.costs.now u.row lent)
 
 same_length : tie.Need-same-length
 same_length c = search rules

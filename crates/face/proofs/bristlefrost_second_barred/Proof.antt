@@ -2,7 +2,7 @@
 use borrow.Author.Rules.{rules}
 use Rattle.swaps.specs.Entries.{lent_of, second_barred}
 use Rattle.swaps.proofs.Codes.{second_barred_places}
-use Rattle.face.proofs.Seconds.{second-numbered, second-handed}
+use Rattle.face.proofs.Seconds.{second_numbered, second_handed}
 use Rattle.face.proofs.bristlefrost_second_barred.Statement.{statement}
 use Rattle.face.proofs.bristlefrost_second_barred.Tie as tie
 
@@ -17,8 +17,8 @@ told-second-requires : tie.Need-told-second-requires
 told-second-requires c κs =
     let s = c.before.before.before.before.before in
     let u = (start s).args in
-    second-numbered (second_barred u.n u.costs.now u.cols.now u.rows.now u.row-prices.now u.col-prices.now u.bars.now (lent_of u.list.now u.indices.now u.numbers.now)) s.second-barred.result _ s.second-barred.ensures
-    (λ r e. (second_barred_places u.n u.costs.now u.cols.now u.rows.now u.row-prices.now u.col-prices.now u.bars.now (lent_of u.list.now u.indices.now u.numbers.now) e).0)
+    second_numbered (second_barred u.n u.costs.now u.cols.now u.rows.now u.row_prices.now u.col-prices.now u.bars.now (lent_of u.list.now u.indices.now u.numbers.now)) s.second-barred.result _ s.second-barred.ensures
+    (λ r e. (second_barred_places u.n u.costs.now u.cols.now u.rows.now u.row_prices.now u.col-prices.now u.bars.now (lent_of u.list.now u.indices.now u.numbers.now) e).0)
 
 same_length : tie.Need-same-length
 same_length c = search rules
@@ -33,8 +33,8 @@ returns : tie.Need-returns
 returns c =
     let s = c.before.before.before.before.before.before in
     let u = (start s).args in
-    second-handed (second_barred u.n u.costs.now u.cols.now u.rows.now u.row-prices.now u.col-prices.now u.bars.now (lent_of u.list.now u.indices.now u.numbers.now)) s.second-barred.result _ s.second-barred.ensures _ c.told-second.ensures
-    (λ r e. second_barred_places u.n u.costs.now u.cols.now u.rows.now u.row-prices.now u.col-prices.now u.bars.now (lent_of u.list.now u.indices.now u.numbers.now) e)
+    second_handed (second_barred u.n u.costs.now u.cols.now u.rows.now u.row_prices.now u.col-prices.now u.bars.now (lent_of u.list.now u.indices.now u.numbers.now)) s.second-barred.result _ s.second-barred.ensures _ c.told-second.ensures
+    (λ r e. second_barred_places u.n u.costs.now u.cols.now u.rows.now u.row_prices.now u.col-prices.now u.bars.now (lent_of u.list.now u.indices.now u.numbers.now) e)
 
 pub bristlefrost-second-barred-spec : {M : Type 1} → statement M
 bristlefrost-second-barred-spec =

@@ -4,7 +4,7 @@ use borrow.Author.Rules.{rules}
 use Rattle.lapjv.specs.Solve.{Lent, lent_of, solve}
 use Rattle.lapjv.specs.Values.{Told}
 use Rattle.lapjv.specs.Asked.{TellableSolved}
-use Rattle.lapjv.proofs.Codes.{solve-places}
+use Rattle.lapjv.proofs.Codes.{solve_places}
 use Rattle.lapjv.proofs.Determined.{solved_values_determine}
 use Rattle.face.specs.declared.Solution.{Solution}
 use Rattle.face.specs.Face.{solution}
@@ -18,10 +18,10 @@ told-solved-requires : tie.Need-told-solved-requires
 told-solved-requires c κs =
     let u = c.before.before.before.before.before.before.before.before.before.before.before.before.before.before.before.before.before.before.before.args in
     let r = c.before.before.before.before.before.before.before.before.before.solve in
-    let lent = lent_of u.cols.now u.rows.now u.row-prices.now u.col-prices.now u.indices.now u.numbers.now in
+    let lent = lent_of u.cols.now u.rows.now u.row_prices.now u.col-prices.now u.indices.now u.numbers.now in
     subst TellableSolved
     (sym (solved_values_determine r.result (solve u.n u.costs.now lent).answer (ap (λ (t : Told). t.values) r.ensures)))
-    (solve-places u.n u.costs.now lent)
+    (solve_places u.n u.costs.now lent)
 
 same_length : tie.Need-same-length
 same_length c = search rules

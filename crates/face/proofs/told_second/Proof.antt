@@ -33,11 +33,11 @@ with-total t also = record { refusal = 0; total = t; slack = pos 0; also = also 
 abbrev with-refusal : ℕ → ℤ → Second
 with-refusal code slack = record { refusal = code; total = pos 0; slack = slack; also = 0 }
 
-total-fits : (c : tie.After-struct-told) → SFits w64 c.before.before.before.answer.given.0.0.total
-total-fits c = search rules
+total_fits : (c : tie.After-struct-told) → SFits w64 c.before.before.before.answer.given.0.0.total
+total_fits c = search rules
 
 returns : tie.Need-returns
-returns c = rw c.before.before.before.answer.given.1 (ap₂ with-total (to_z-of_z (total-fits c)) c.before.flag.ensures)
+returns c = rw c.before.before.before.answer.given.1 (ap₂ with-total (to_z-of_z (total_fits c)) c.before.flag.ensures)
 
 returns-2 : tie.Need-returns-2
 returns-2 c =

@@ -30,13 +30,13 @@ with-total counts t = solution (solved_values (Paired (record { total = t; count
 abbrev with-refusal : ℕ → Solution
 with-refusal code = record { refusal = code; total = pos 0; free_rows = 0; looks_one = 0; left_one = 0; looks_two = 0; rows_left = 0; columns_scanned = 0 }
 
-total-fits : (c : tie.After-struct-told) → SFits w64 c.before.before.before.answer.given.0.0.total
-total-fits c = search rules
+total_fits : (c : tie.After-struct-told) → SFits w64 c.before.before.before.answer.given.0.0.total
+total_fits c = search rules
 
 returns : tie.Need-returns
 returns c =
     let a = c.before.before.before.answer in
-    rw a.given.1 (ap (with-total a.given.0.0.counts) (to_z-of_z (total-fits c)))
+    rw a.given.1 (ap (with-total a.given.0.0.counts) (to_z-of_z (total_fits c)))
 
 returns-2 : tie.Need-returns-2
 returns-2 c = rw c.before.before.answer2.given.1 (ap with-refusal c.code.ensures)

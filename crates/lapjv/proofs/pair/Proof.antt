@@ -48,7 +48,7 @@ ca-dense-requires c κs =
     let x = c.before.before.before.before.before.before.before.before.before.before.before.before.before in
     let s = start x in
     let a = x.reduce in
-    pairing.can-augment s.args.n s.args.costs.now s.pre.0 _ _ _ _ a.result a.ensures a.new.1.1.1.1.1.1.0 (omega (arith, a.auto, s.pre.3))
+    pairing.can_augment s.args.n s.args.costs.now s.pre.0 _ _ _ _ a.result a.ensures a.new.1.1.1.1.1.1.0 (omega (arith, a.auto, s.pre.3))
 
 write-row-prices-requires : tie.Need-write-row-prices-requires
 write-row-prices-requires c κs =
@@ -57,7 +57,7 @@ write-row-prices-requires c κs =
     let a = (reduction x).reduce in
     let b = x.ca-dense in
     pairing.can_price s.args.n s.args.costs.now s.pre.0 _ _ _ _ a.result a.ensures _ _ _ _ b.result b.ensures
-    s.args.row-prices.now s.pre.2
+    s.args.row_prices.now s.pre.2
 
 total-requires : tie.Need-total-requires
 total-requires c κs =
@@ -65,7 +65,7 @@ total-requires c κs =
     let s = start (reduction x) in
     let a = (reduction x).reduce in
     let b = x.ca-dense in
-    pairing.can-total s.args.n s.args.costs.now s.pre.0 _ _ _ _ a.result a.ensures _ _ _ _ b.result b.ensures
+    pairing.can_total s.args.n s.args.costs.now s.pre.0 _ _ _ _ a.result a.ensures _ _ _ _ b.result b.ensures
 
 fill-requires : tie.Need-fill-requires
 fill-requires c κs = search rules
@@ -80,12 +80,12 @@ augmented c = augmentation (pricing (summing (clearing c)))
 same_length : tie.Need-same-length
 same_length c =
     let x = augmented c.before in
-    (sizes x).0 ∙ sym (start (reduction x)).requires.1.cols-size
+    (sizes x).0 ∙ sym (start (reduction x)).requires.1.cols_size
 
 same-length-2 : tie.Need-same-length-2
 same-length-2 c =
     let x = augmented c.before in
-    (sizes x).1 ∙ sym (start (reduction x)).requires.1.rows-size
+    (sizes x).1 ∙ sym (start (reduction x)).requires.1.rows_size
 
 same-length-3 : tie.Need-same-length-3
 same-length-3 c = omega arith
@@ -93,7 +93,7 @@ same-length-3 c = omega arith
 same-length-4 : tie.Need-same-length-4
 same-length-4 c =
     let x = augmented c.before in
-    (sizes x).2 ∙ sym (start (reduction x)).requires.1.prices-size
+    (sizes x).2 ∙ sym (start (reduction x)).requires.1.prices_size
 
 same-length-5 : tie.Need-same-length-5
 same-length-5 c = omega arith
@@ -113,7 +113,7 @@ returns c =
     let f = c.before.clear-numbers in
     pairing.paired_by s.args.n s.args.costs.now s.pre.0 _ _ _ _ a.result a.ensures _ _ _ b.last.1.1.1.1.1.1.1.0 b.result b.ensures
     _ _ b.last.1.1.1.1.1.1.0 _ _ u.ensures (read_back w64 t.result t.ok ∙ t.ensures) (e.ensures ∙ table_constant _ 0)
-    (omega (arith, b.kept, a.ensures.room-size)) f.ensures (omega (arith, b.kept, a.kept, s.pre.3))
+    (omega (arith, b.kept, a.ensures.room_size)) f.ensures (omega (arith, b.kept, a.kept, s.pre.3))
 
 pub pair_spec : {M : Type 1} → statement M
 pair_spec =

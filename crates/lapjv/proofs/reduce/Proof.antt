@@ -23,15 +23,15 @@ ccrrt-dense-requires : tie.Need-ccrrt-dense-requires
 ccrrt-dense-requires c κs =
     let s = c.before.before.before.before.before.before.before in
     let z = s.requires.1 in
-    rule_three s.args.n s.args.costs.now s.requires.0 _ _ _ _ z.cols-size z.rows-size z.prices-size z.room-size
+    rule_three s.args.n s.args.costs.now s.requires.0 _ _ _ _ z.cols_size z.rows_size z.prices_size z.room_size
 
 carr-dense-requires : tie.Need-carr-dense-requires
 carr-dense-requires c κs =
     let x = c.before.before.before.before.before.before.before.before.before.before.before.before in
     let s = start x in
     let a = x.ccrrt-dense in (
-      reducing.first-pass s.args.n s.args.costs.now s.pre.0 _ _ _ a.new.1.1.1.1.1.0 a.result a.ensures.0 _ (λ h. omega arith),
-      omega (arith, a.auto, s.pre.1.room-size),
+      reducing.first_pass s.args.n s.args.costs.now s.pre.0 _ _ _ a.new.1.1.1.1.1.0 a.result a.ensures.0 _ (λ h. omega arith),
+      omega (arith, a.auto, s.pre.1.room_size),
       s.pre.2,
     )
 
@@ -41,9 +41,9 @@ carr-dense-requires-2 c κs =
     let s = start (columns x) in
     let a = (columns x).ccrrt-dense in
     let b = x.carr-dense in (
-      reducing.second-pass s.args.n s.args.costs.now s.pre.0 _ _ _ a.last.1.1.1.1.1.0 a.result a.ensures.0
+      reducing.second_pass s.args.n s.args.costs.now s.pre.0 _ _ _ a.last.1.1.1.1.1.0 a.result a.ensures.0
           _ _ _ _ b.new.1.1.1.1.1.0 b.result b.ensures _ (λ h. (omega arith, omega arith)),
-      omega (arith, b.auto, a.kept, s.pre.1.room-size),
+      omega (arith, b.auto, a.kept, s.pre.1.room_size),
       omega (arith, b.auto, s.pre.2),
     )
 
@@ -73,7 +73,7 @@ returns c =
     let d = x.carr-dense2 in
     reducing.reduced_by s.args.n s.args.costs.now s.pre.0 _ _ _ a.last.1.1.1.1.1.0 a.result a.ensures.0
     _ _ _ _ b.last.1.1.1.1.1.0 b.result b.ensures _ _ _ _ d.last.1.1.1.1.1.0 d.result d.ensures (omega arith) (omega arith)
-    (omega (arith, d.kept, b.kept, a.kept, s.pre.1.room-size))
+    (omega (arith, d.kept, b.kept, a.kept, s.pre.1.room_size))
 
 pub reduce-spec : {M : Type 1} → statement M
 reduce-spec =

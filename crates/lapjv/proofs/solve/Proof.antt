@@ -3,7 +3,7 @@
 use mathlib.Core.Path.{sym, ap, ◌∙◌}
 use native.Mathlib.Omega.{arith}
 use borrow.Author.Rules.{rules}
-use Rattle.matrix.proofs.SmallLimits.{side-small}
+use Rattle.matrix.proofs.SmallLimits.{side_small}
 use Rattle.lapjv.specs.declared.Sums.{Sums}
 use Rattle.lapjv.specs.declared.Solved.TheVariants.{Paired}
 use Rattle.lapjv.specs.Solve.{lent_of, outcome_of, tested}
@@ -41,16 +41,16 @@ same-length-6 c = search rules
 returns : tie.Need-returns
 returns c =
     let u = c.before.before.before.before.before.before.before.before.before.before.before.before.before.args in
-    ap told_of (sym (fails_refused u.n u.costs.now (lent_of u.cols.now u.rows.now u.row-prices.now u.col-prices.now u.indices.now u.numbers.now) _ (sym c.before.before.before.tested.ensures ∙ c.before.refusal.given.1)))
+    ap told_of (sym (fails_refused u.n u.costs.now (lent_of u.cols.now u.rows.now u.row_prices.now u.col-prices.now u.indices.now u.numbers.now) _ (sym c.before.before.before.tested.ensures ∙ c.before.refusal.given.1)))
 
 enum_told : tie.Need-enum-told
 enum_told c = search rules
 
 -- Past the tests the input can be paired.
-passes : (c : tie.After-enum-told) → let u = c.before.before.before.before.before.before.before.before.before.before.before.before.args in WithinLimits u.n u.costs.now (lent_of u.cols.now u.rows.now u.row-prices.now u.col-prices.now u.indices.now u.numbers.now)
+passes : (c : tie.After-enum-told) → let u = c.before.before.before.before.before.before.before.before.before.before.before.before.args in WithinLimits u.n u.costs.now (lent_of u.cols.now u.rows.now u.row_prices.now u.col-prices.now u.indices.now u.numbers.now)
 passes c =
     let u = c.before.before.before.before.before.before.before.before.before.before.before.before.args in
-    (tested_iff u.n u.costs.now (lent_of u.cols.now u.rows.now u.row-prices.now u.col-prices.now u.indices.now u.numbers.now)).0 (sym c.before.before.tested.ensures ∙ c.enum_told.given.1)
+    (tested_iff u.n u.costs.now (lent_of u.cols.now u.rows.now u.row_prices.now u.col-prices.now u.indices.now u.numbers.now)).0 (sym c.before.before.tested.ensures ∙ c.enum_told.given.1)
 
 nothing-requires : tie.Need-nothing-requires
 nothing-requires c κs = search rules
@@ -77,11 +77,11 @@ returns-2 : tie.Need-returns-2
 returns-2 c =
     let u = c.before.before.before.before.before.before.before.before.before.before.before.before.before.before.args in
     ap told_of
-    (ap (λ (night : Sums). outcome_of (Paired night) (lent_of u.cols.now u.rows.now u.row-prices.now u.col-prices.now u.indices.now u.numbers.now)) c.nothing.ensures
-    ∙ solving.solved_nothing u.n u.costs.now u.cols.now u.rows.now u.row-prices.now u.col-prices.now u.indices.now u.numbers.now (passes c.before.before) c.before.if1.true)
+    (ap (λ (night : Sums). outcome_of (Paired night) (lent_of u.cols.now u.rows.now u.row_prices.now u.col-prices.now u.indices.now u.numbers.now)) c.nothing.ensures
+    ∙ solving.solved_nothing u.n u.costs.now u.cols.now u.rows.now u.row_prices.now u.col-prices.now u.indices.now u.numbers.now (passes c.before.before) c.before.if1.true)
 
 mul-n4 : tie.Need-overflow-mul-n4
-mul-n4 c = omega (arith, side-small, (passes c.before).small)
+mul-n4 c = omega (arith, side_small, (passes c.before).small)
 
 sub-pair : tie.Need-overflow-sub-pair
 sub-pair c = search rules
@@ -90,7 +90,7 @@ part-pair-start : tie.Need-slice-bounds-pair-start
 part-pair-start c = search rules
 
 part-pair-end : tie.Need-slice-bounds-pair-end
-part-pair-end c = omega (arith, (passes c.before).cols-enough)
+part-pair-end c = omega (arith, (passes c.before).cols_enough)
 
 sub-pair-2 : tie.Need-overflow-sub-pair-2
 sub-pair-2 c = search rules
@@ -99,7 +99,7 @@ part-pair-start-2 : tie.Need-slice-bounds-pair-start-2
 part-pair-start-2 c = search rules
 
 part-pair-end-2 : tie.Need-slice-bounds-pair-end-2
-part-pair-end-2 c = omega (arith, (passes c.before.before).rows-enough)
+part-pair-end-2 c = omega (arith, (passes c.before.before).rows_enough)
 
 sub-pair-3 : tie.Need-overflow-sub-pair-3
 sub-pair-3 c = search rules
@@ -126,7 +126,7 @@ part-pair-start-5 : tie.Need-slice-bounds-pair-start-5
 part-pair-start-5 c = search rules
 
 part-pair-end-5 : tie.Need-slice-bounds-pair-end-5
-part-pair-end-5 c = omega (arith, (passes c.before.before.before.before.before).indices-enough)
+part-pair-end-5 c = omega (arith, (passes c.before.before.before.before.before).indices_enough)
 
 sub-pair-6 : tie.Need-overflow-sub-pair-6
 sub-pair-6 c = search rules
@@ -135,14 +135,14 @@ part-pair-start-6 : tie.Need-slice-bounds-pair-start-6
 part-pair-start-6 c = search rules
 
 part-pair-end-6 : tie.Need-slice-bounds-pair-end-6
-part-pair-end-6 c = omega (arith, (passes c.before.before.before.before.before.before).numbers-enough)
+part-pair-end-6 c = omega (arith, (passes c.before.before.before.before.before.before).numbers_enough)
 
 pair-requires : tie.Need-pair-requires
 pair-requires c κs =
     let u = c.before.before.before.before.before.before.before.before.before.before.before.before.before.before.before.before.before.before.before.args in
     let p = passes c.before.before.before.before.before.before.before in
-    let others = solving.others_sized u.n u.costs.now u.cols.now u.rows.now u.row-prices.now u.col-prices.now u.indices.now u.numbers.now p in
-    (solving.pairable u.n u.costs.now u.cols.now u.rows.now u.row-prices.now u.col-prices.now u.indices.now u.numbers.now p c.before.before.before.before.before.before.if1.false, solving.sized u.n u.costs.now u.cols.now u.rows.now u.row-prices.now u.col-prices.now u.indices.now u.numbers.now p, others.0, others.1)
+    let others = solving.others_sized u.n u.costs.now u.cols.now u.rows.now u.row_prices.now u.col-prices.now u.indices.now u.numbers.now p in
+    (solving.pairable u.n u.costs.now u.cols.now u.rows.now u.row_prices.now u.col-prices.now u.indices.now u.numbers.now p c.before.before.before.before.before.before.if1.false, solving.sized u.n u.costs.now u.cols.now u.rows.now u.row_prices.now u.col-prices.now u.indices.now u.numbers.now p, others.0, others.1)
 
 same-length-13 : tie.Need-same-length-13
 same-length-13 c = search rules
@@ -165,7 +165,7 @@ same-length-18 c = search rules
 returns-3 : tie.Need-returns-3
 returns-3 c =
     let u = c.before.before.before.before.before.before.before.before.before.before.before.before.before.before.before.before.before.before.before.before.before.before.before.before.before.before.before.before.before.args in
-    ap told_of (solving.solved_by u.n u.costs.now u.cols.now u.rows.now u.row-prices.now u.col-prices.now u.indices.now u.numbers.now (passes c.before.before.before.before.before.before.before.before.before.before.before.before.before.before.before.before.before) _ _ _ _ _ _ c.before.before.before.before.before.before.before.before.before.pair.result c.before.before.before.before.before.before.before.before.before.pair.ensures)
+    ap told_of (solving.solved_by u.n u.costs.now u.cols.now u.rows.now u.row_prices.now u.col-prices.now u.indices.now u.numbers.now (passes c.before.before.before.before.before.before.before.before.before.before.before.before.before.before.before.before.before) _ _ _ _ _ _ c.before.before.before.before.before.before.before.before.before.pair.result c.before.before.before.before.before.before.before.before.before.pair.ensures)
 
 pub solve-spec : {M : Type 1} → statement M
 solve-spec =

@@ -14,14 +14,14 @@ shaped-requires c κs = search rules
 rooms-long-requires : tie.Need-rooms-long-requires
 rooms-long-requires c κs = λ e.
     let u = c.before.before.before.before.args in
-    ((shaped_iff u.n u.costs.now (length u.cols.now) (length u.rows.now) (length u.row-prices.now) (length u.col-prices.now)).0 (sym c.shaped.ensures ∙ e)).small
+    ((shaped_iff u.n u.costs.now (length u.cols.now) (length u.rows.now) (length u.row_prices.now) (length u.col-prices.now)).0 (sym c.shaped.ensures ∙ e)).small
 
 costs-within-requires : tie.Need-costs-within-requires
 costs-within-requires c κs = search rules
 
 returns : tie.Need-returns
 unfolding tested
-returns c = after _ c.costs-within.ensures (after _ c.before.rooms_long_lem.ensures c.before.before.shaped.ensures)
+returns c = after _ c.costs_within_lem.ensures (after _ c.before.rooms_long_lem.ensures c.before.before.shaped.ensures)
 
 pub tested-spec : {M : Type 1} → statement M
 tested-spec = tie.close (tie.spec shaped-requires rooms-long-requires costs-within-requires returns)

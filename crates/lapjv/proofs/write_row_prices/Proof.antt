@@ -13,7 +13,7 @@ use Rattle.ints.proofs.Bits.{read_back}
 use Rattle.lists.specs.Permutations.{at, table}
 use Rattle.lists.proofs.Tables.{filled_none, filled_more, filled-length, filled_all}
 use Rattle.assignment.specs.Pairings.{signed_at, square}
-use Rattle.matrix.proofs.SmallLimits.{side-small}
+use Rattle.matrix.proofs.SmallLimits.{side_small}
 use Rattle.matrix.proofs.Places.{place-below}
 use Rattle.rules.specs.Lowest.{reduced}
 use Rattle.lapjv.proofs.write_row_prices.Statement.{statement}
@@ -48,7 +48,7 @@ turn n costs cols v us₀ us start i r l e f small small₂ is fits =
 loop-holds : tie.Need-loop-init invariant-loop decreases-loop
 loop-holds c =
     let u = c.before.args in
-    (search rules, omega arith, filled_none (rowPrice u.n u.costs.now u.cols.now u.v.now) u.row-prices.now)
+    (search rules, omega arith, filled_none (rowPrice u.n u.costs.now u.cols.now u.v.now) u.row_prices.now)
 
 mul-j : tie.Need-overflow-mul-j invariant-loop decreases-loop
 mul-j c = search rules
@@ -63,7 +63,7 @@ record Facts (n i j start m k h g : ℕ) : Type 0 where
 
 facts : (c : tie.In-loop invariant-loop decreases-loop) →
     let u = c.before.before.before.args in let l = c.before.loop in
-    Facts u.n l.i (at u.cols.now l.i) l.start (length u.costs.now) (length u.cols.now) (length u.v.now) (length l.row-prices)
+    Facts u.n l.i (at u.cols.now l.i) l.start (length u.costs.now) (length u.cols.now) (length u.v.now) (length l.row_prices)
 facts c =
     let s = c.before.before.before in
     let u = s.args in
@@ -75,8 +75,8 @@ facts c =
       row = row;
       column = column;
       place = omega (arith, l.invariant.1);
-      small = omega (arith, side-small, s.requires.small);
-      sizes = (s.requires.squared, s.requires.cols-size, s.requires.v-size, ap length l.invariant.2 ∙ filled-length l.i (rowPrice u.n u.costs.now u.cols.now u.v.now) u.row-prices.now (omega (arith, s.requires.us-size)) ∙ s.requires.us-size);
+      small = omega (arith, side_small, s.requires.small);
+      sizes = (s.requires.squared, s.requires.cols_size, s.requires.v_size, ap length l.invariant.2 ∙ filled-length l.i (rowPrice u.n u.costs.now u.cols.now u.v.now) u.row_prices.now (omega (arith, s.requires.us_size)) ∙ s.requires.us_size);
     }
 
 shared-slice-read-j : tie.Need-shared-slice-read-j invariant-loop decreases-loop
@@ -104,7 +104,7 @@ reduced-cost-requires : tie.Need-reduced-cost-requires invariant-loop decreases-
 reduced-cost-requires c κs =
     let s = c.before.before.before.before.before.before in
     let j = at s.args.cols.now c.before.before.before.before.loop.i in
-    rw (read_back w64 (signed_at s.args.v.now j) c.reduced-cost-arg2.given) (s.requires.prices-near j (facts c.before.before.before).column)
+    rw (read_back w64 (signed_at s.args.v.now j) c.reduced-cost-arg2.given) (s.requires.prices_near_lem j (facts c.before.before.before).column)
 
 mul-t20 : tie.Need-overflow-mul-t20 invariant-loop decreases-loop
 mul-t20 c = omega (arith, facts c.before.before.before.before)
@@ -129,7 +129,7 @@ loop-again c =
     let f = facts c.before.before.before.before in (
       omega (arith, f),
       omega (arith, l.invariant.1),
-      turn u.n u.costs.now u.cols.now u.v.now u.row-prices.now l.row-prices l.start l.i c.reduced-cost.result (omega (arith, f, s.requires.us-size)) l.invariant.1 l.invariant.2
+      turn u.n u.costs.now u.cols.now u.v.now u.row_prices.now l.row_prices l.start l.i c.reduced-cost.result (omega (arith, f, s.requires.us_size)) l.invariant.1 l.invariant.2
           c.before.before.reduced-cost-arg.given c.before.reduced-cost-arg2.given c.reduced-cost.ensures c.reduced-cost.type-inv,
     )
 
@@ -140,14 +140,14 @@ same_length : tie.Need-same-length invariant-loop decreases-loop
 same_length c =
     let s = c.before.before.before in
     let l = c.before.loop in
-    ap length l.invariant.2 ∙ filled-length l.i (priceIn c) s.args.row-prices.now (omega (arith, s.requires.us-size, l.invariant.0))
+    ap length l.invariant.2 ∙ filled-length l.i (priceIn c) s.args.row_prices.now (omega (arith, s.requires.us_size, l.invariant.0))
 
 returns : tie.Need-returns invariant-loop decreases-loop
 returns c =
     let s = c.before.before.before in
     let l = c.before.loop in
-    let e : l.i ≡ length s.args.row-prices.now = omega (arith, s.requires.us-size) in
-    l.invariant.2 ∙ filled_all l.i (priceIn c) s.args.row-prices.now e ∙ ap (λ (m : ℕ). table m (priceIn c)) s.requires.us-size
+    let e : l.i ≡ length s.args.row_prices.now = omega (arith, s.requires.us_size) in
+    l.invariant.2 ∙ filled_all l.i (priceIn c) s.args.row_prices.now e ∙ ap (λ (m : ℕ). table m (priceIn c)) s.requires.us_size
 
 pub write-row-prices-spec : {M : Type 1} → statement M
 write-row-prices-spec =

@@ -7,7 +7,7 @@ use native.Mathlib.Omega.{arith}
 use borrow.Author.Rules.{rules}
 use lib.ListN.{length}
 use Rattle.lines.specs.Decimal.{decimal}
-use Rattle.lines.proofs.Decimal.{decimal-small, decimal_more, length_more}
+use Rattle.lines.proofs.Decimal.{decimal_small, decimal_more, length_more}
 use Rattle.lines.proofs.Put.{put_then, put_as}
 use borrow.Fn.Kinds.{In}
 use borrow.Fn.PlainCycle.{Measures, is, falls, and}
@@ -36,7 +36,7 @@ put-decimal-digit-requires t c κs = search rules
 put-decimal-put-byte-requires : (t : ℕ) → put-decimal-lts.Need-put-byte-requires (digit-reads.Asked, digit-reads.Learnt, put-byte-reads.Asked, put-byte-reads.Learnt, put-decimal-below t, put-decimal.Post) (put-decimal-at t) put-decimal.Post
 put-decimal-put-byte-requires t c κs =
     let start = c.before.before.before.before in
-    omega (arith, ap length (decimal-small start.args.x c.before.before.if1.true), start.requires.1)
+    omega (arith, ap length (decimal_small start.args.x c.before.before.if1.true), start.requires.1)
 
 put-decimal-put-decimal-requires : (t : ℕ) → put-decimal-lts.Need-put-decimal-requires (digit-reads.Asked, digit-reads.Learnt, put-byte-reads.Asked, put-byte-reads.Learnt, put-decimal-below t, put-decimal.Post) (put-decimal-at t) put-decimal.Post
 put-decimal-put-decimal-requires t c κs =
@@ -62,7 +62,7 @@ put-decimal-returns : (t : ℕ) → put-decimal-lts.Need-returns (digit-reads.As
 put-decimal-returns t c =
     let put = c.before.before in
     let small = put.before.before.before in
-    put_as (ap (λ (d : ℕ). d ∷ []) put.before.digit.ensures ∙ sym (decimal-small small.before.before.args.x small.if1.true)) put.put_byte.ensures
+    put_as (ap (λ (d : ℕ). d ∷ []) put.before.digit.ensures ∙ sym (decimal_small small.before.before.args.x small.if1.true)) put.put_byte.ensures
 
 put-decimal-same-length-2 : (t : ℕ) → put-decimal-lts.Need-same-length-2 (digit-reads.Asked, digit-reads.Learnt, put-byte-reads.Asked, put-byte-reads.Learnt, put-decimal-below t, put-decimal.Post) (put-decimal-at t) put-decimal.Post
 put-decimal-same-length-2 t c = search rules

@@ -75,13 +75,13 @@ find-second-requires c κs =
     (record {
       small = h.small;
       filled = length-take-le (s.args.m * s.args.n) s.args.costs.now costs-long;
-      row-prices = h.row-prices;
-      column-prices = h.column-prices;
+      row_prices = h.row_prices;
+      column_prices = h.column_prices;
       listed = h.listed;
       shown = h.shown;
-      list-long = omega (arith, h.fewer, h.few, a6.find-second-arg6.given.0);
-      indices-long = omega (arith, h.few, c.before.find-second-arg7.given.0);
-      numbers-long = omega (arith, h.few, c.find-second-arg8.given.0);
+      list_long_lem = omega (arith, h.fewer, h.few, a6.find-second-arg6.given.0);
+      indices_long = omega (arith, h.few, c.before.find-second-arg7.given.0);
+      numbers_long = omega (arith, h.few, c.find-second-arg8.given.0);
     })
 
 returns : tie.Need-returns

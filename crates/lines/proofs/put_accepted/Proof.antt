@@ -12,7 +12,7 @@ use mir.Facts.{to_z-of_z}
 use Rattle.lines.specs.Decimal.{decimal, signed_decimal}
 use Rattle.lines.specs.Lines.{accepted_text, total_text, feed, accepted_line}
 use Rattle.lines.proofs.Decimal.{length-decimal, length-signed_decimal}
-use Rattle.lines.proofs.Put.{put_as, Line, line_start, line-fits, line_then}
+use Rattle.lines.proofs.Put.{put_as, Line, line_start, line_fits, line_then}
 use Rattle.lines.proofs.put_accepted.Statement.{statement}
 use Rattle.lines.proofs.put_accepted.Tie as tie
 
@@ -70,26 +70,26 @@ slice-aggregate-put-text : tie.Need-slice-aggregate-put-text
 slice-aggregate-put-text c = search rules
 
 put-text-requires : tie.Need-put-text-requires
-put-text-requires c κs = let s = c.before.before.before in line-fits 9 (line_start 0 s.args.out.now s.requires) (omega arith)
+put-text-requires c κs = let s = c.before.before.before in line_fits 9 (line_start 0 s.args.out.now s.requires) (omega arith)
 
 put-decimal-requires : tie.Need-put-decimal-requires
 put-decimal-requires c κs =
     let w = c.before.before.before in
-    omega (arith, line-fits 20 (after-word w) (omega arith), side-short (from-word w))
+    omega (arith, line_fits 20 (after-word w) (omega arith), side-short (from-word w))
 
 slice-aggregate-put-text-2 : tie.Need-slice-aggregate-put-text-2
 slice-aggregate-put-text-2 c = search rules
 
 put-text-requires-2 : tie.Need-put-text-requires-2
-put-text-requires-2 c κs = line-fits 7 (after-side c.before.before.before.before) (omega arith)
+put-text-requires-2 c κs = line_fits 7 (after-side c.before.before.before.before) (omega arith)
 
 put-signed-requires : tie.Need-put-signed-requires
 put-signed-requires c κs =
     let w = c.before.before.before in
-    omega (arith, line-fits 20 (after-total w) (omega arith), total-short (from-total w))
+    omega (arith, line_fits 20 (after-total w) (omega arith), total-short (from-total w))
 
 put-byte-requires : tie.Need-put-byte-requires
-put-byte-requires c κs = omega (arith, line-fits 1 (after-number c.before.before.before) (omega arith))
+put-byte-requires c κs = omega (arith, line_fits 1 (after-number c.before.before.before) (omega arith))
 
 same_length : tie.Need-same-length
 same_length c = search rules

@@ -15,7 +15,7 @@ use Rattle.swaps.specs.Second.{Answer, Right, second}
 use Rattle.swaps.proofs.Shown.{shown_right}
 use Rattle.lines.specs.Lines.{accepted_line, row_lines, spare_lines, second_line}
 use Rattle.lines.proofs.Put.{put_then, put_as}
-use Rattle.lines.proofs.Columns.{answer-read, columns-short}
+use Rattle.lines.proofs.Columns.{answer-read, columns_short}
 use Rattle.lines.proofs.put_night.Statement.{statement}
 use Rattle.lines.proofs.put_night.Tie as tie
 
@@ -72,7 +72,7 @@ put-second-requires c κs =
     let s = from-accepted first in
     let h = s.pre.searchable in (
       omega (arith, h.fewer, h.few),
-      columns-short (the-night s) (firsts s) (the_second s) (right s) (replicate 64 0) f.find-arrays.ensures.0 f.find-arrays.ensures.1 h.few,
+      columns_short (the-night s) (firsts s) (the_second s) (right s) (replicate 64 0) f.find-arrays.ensures.0 f.find-arrays.ensures.1 h.few,
       omega (arith, s.pre.rows.roomy, first.put-accepted.ensures.1, first.put-accepted.kept.0, rows.put-arrays.ensures.1, rows.put-arrays.kept.0),
     )
 

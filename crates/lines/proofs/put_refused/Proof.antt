@@ -8,7 +8,7 @@ use lib.ListN.{length}
 use Rattle.lines.specs.Decimal.{decimal}
 use Rattle.lines.specs.Lines.{refused_text, place_text, feed, refused_line}
 use Rattle.lines.proofs.Decimal.{length-decimal}
-use Rattle.lines.proofs.Put.{put_as, Line, line_start, line-fits, line_then}
+use Rattle.lines.proofs.Put.{put_as, Line, line_start, line_fits, line_then}
 use Rattle.lines.proofs.put_refused.Statement.{statement}
 use Rattle.lines.proofs.put_refused.Tie as tie
 
@@ -58,28 +58,28 @@ slice-aggregate-put-text : tie.Need-slice-aggregate-put-text
 slice-aggregate-put-text c = search rules
 
 put-text-requires : tie.Need-put-text-requires
-put-text-requires c κs = let s = c.before.before.before in line-fits 8 (line_start 0 s.args.out.now s.requires) (omega arith)
+put-text-requires c κs = let s = c.before.before.before in line_fits 8 (line_start 0 s.args.out.now s.requires) (omega arith)
 
 number-requires : tie.Need-number-requires
 number-requires c κs = search rules
 
 put-decimal-requires : tie.Need-put-decimal-requires
-put-decimal-requires c κs = omega (arith, line-fits 20 (after-word c.before.before.before.before) (omega arith), number_short c)
+put-decimal-requires c κs = omega (arith, line_fits 20 (after-word c.before.before.before.before) (omega arith), number_short c)
 
 slice-aggregate-put-text-2 : tie.Need-slice-aggregate-put-text-2
 slice-aggregate-put-text-2 c = search rules
 
 put-text-requires-2 : tie.Need-put-text-requires-2
-put-text-requires-2 c κs = line-fits 7 (after-number c.before.before.before.before) (omega arith)
+put-text-requires-2 c κs = line_fits 7 (after-number c.before.before.before.before) (omega arith)
 
 place-requires : tie.Need-place-requires
 place-requires c κs = search rules
 
 put-decimal-requires-2 : tie.Need-put-decimal-requires-2
-put-decimal-requires-2 c κs = omega (arith, line-fits 20 (after-place c.before.before.before.before) (omega arith), place_short c)
+put-decimal-requires-2 c κs = omega (arith, line_fits 20 (after-place c.before.before.before.before) (omega arith), place_short c)
 
 put-byte-requires : tie.Need-put-byte-requires
-put-byte-requires c κs = omega (arith, line-fits 1 (after_both c.before.before.before) (omega arith))
+put-byte-requires c κs = omega (arith, line_fits 1 (after_both c.before.before.before) (omega arith))
 
 same_length : tie.Need-same-length
 same_length c = search rules

@@ -12,7 +12,7 @@ use Rattle.ints.proofs.Bits.{read_wide, wide_fits}
 use Rattle.lines.specs.Decimal.{decimal, signed_decimal}
 use Rattle.lines.specs.Lines.{blank, feed, row_line}
 use Rattle.lines.proofs.Decimal.{length-decimal, length-signed_decimal}
-use Rattle.lines.proofs.Put.{put_as, Line, line_start, line-fits, line_then}
+use Rattle.lines.proofs.Put.{put_as, Line, line_start, line_fits, line_then}
 use Rattle.lines.proofs.put_row.Statement.{statement}
 use Rattle.lines.proofs.put_row.Tie as tie
 
@@ -38,8 +38,8 @@ from-cost c = from-second-blank c.before.before.before.before
 row-short : (c : tie.Start) → length (decimal c.args.row) ≤ 20
 row-short c = length-decimal c.args.row c.ranges.row.fits
 
-column-short : (c : tie.Start) → length (decimal c.args.column) ≤ 20
-column-short c = length-decimal c.args.column (omega (arith, c.ranges.column))
+column_short : (c : tie.Start) → length (decimal c.args.column) ≤ 20
+column_short c = length-decimal c.args.column (omega (arith, c.ranges.column))
 
 -- the cost as the code hands it on
 abbrev near : tie.Start → ℤ
@@ -68,7 +68,7 @@ after-column : (c : tie.After-put-decimal2) → let u = (from-column c).args in
     Line u.place 41 u.out.now (λ q. decimal u.row ++ (blank ++ (decimal u.column ++ q))) c.put-decimal2.new.0 c.put-decimal2.result
 after-column c =
     let s = from-column c in
-    line_then (decimal s.args.column) 20 (after-blank c.before.before.before.before) c.put-decimal2.ensures c.put-decimal2.auto.0 (column-short s)
+    line_then (decimal s.args.column) 20 (after-blank c.before.before.before.before) c.put-decimal2.ensures c.put-decimal2.auto.0 (column_short s)
 
 after-second-blank : (c : tie.After-put-byte2) → let u = (from-second-blank c).args in
     Line u.place 42 u.out.now (λ q. decimal u.row ++ (blank ++ (decimal u.column ++ (blank ++ q)))) c.put-byte2.new.0 c.put-byte2.result
@@ -84,18 +84,18 @@ after-cost c =
 put-decimal-requires : tie.Need-put-decimal-requires
 put-decimal-requires c κs =
     let s = c.before.before in
-    omega (arith, line-fits 20 (line_start s.args.place s.args.out.now s.requires) (omega arith), row-short s)
+    omega (arith, line_fits 20 (line_start s.args.place s.args.out.now s.requires) (omega arith), row-short s)
 
 put-byte-requires : tie.Need-put-byte-requires
-put-byte-requires c κs = omega (arith, line-fits 1 (after-row c.before.before.before) (omega arith))
+put-byte-requires c κs = omega (arith, line_fits 1 (after-row c.before.before.before) (omega arith))
 
 put-decimal-requires-2 : tie.Need-put-decimal-requires-2
 put-decimal-requires-2 c κs =
     let s = from-blank c.before.before.before in
-    omega (arith, line-fits 20 (after-blank c.before.before.before) (omega arith), column-short s)
+    omega (arith, line_fits 20 (after-blank c.before.before.before) (omega arith), column_short s)
 
 put-byte-requires-2 : tie.Need-put-byte-requires-2
-put-byte-requires-2 c κs = omega (arith, line-fits 1 (after-column c.before.before.before) (omega arith))
+put-byte-requires-2 c κs = omega (arith, line_fits 1 (after-column c.before.before.before) (omega arith))
 
 cast-put-signed : tie.Need-overflow-cast-put-signed
 cast-put-signed c = let s = from-second-blank c.before.before.before in wide_fits s.args.cost s.fits.cost.sfits
@@ -103,10 +103,10 @@ cast-put-signed c = let s = from-second-blank c.before.before.before in wide_fit
 put-signed-requires : tie.Need-put-signed-requires
 put-signed-requires c κs =
     let s = from-second-blank c.before.before.before in
-    omega (arith, line-fits 20 (after-second-blank c.before.before.before) (omega arith), cost-short s)
+    omega (arith, line_fits 20 (after-second-blank c.before.before.before) (omega arith), cost-short s)
 
 put-byte-requires-3 : tie.Need-put-byte-requires-3
-put-byte-requires-3 c κs = omega (arith, line-fits 1 (after-cost c.before.before.before) (omega arith))
+put-byte-requires-3 c κs = omega (arith, line_fits 1 (after-cost c.before.before.before) (omega arith))
 
 same_length : tie.Need-same-length
 same_length c = search rules

@@ -9,7 +9,7 @@ use lib.ListN.{take}
 use Rattle.swaps.specs.Second.{only, also}
 use Rattle.lines.specs.Lines.{also_text, feed, columns_text, second_line}
 use Rattle.lines.proofs.Put.{put_then, put_as}
-use Rattle.lines.proofs.Columns.{columns-first}
+use Rattle.lines.proofs.Columns.{columns_first}
 use Rattle.lines.proofs.put_second.Statement.{statement}
 use Rattle.lines.proofs.put_second.Tie as tie
 
@@ -60,7 +60,7 @@ returns c =
     let cols = columns_text u.list.now u.m in
     let rest = put_then cols feed k.put-columns.ensures.0 b.put_byte.ensures in
     let all = put_then also_text (cols ++ feed) w.put-text.ensures rest in
-    let same = ap (λ (l : List ℕ). also_text ++ (l ++ feed)) (columns-first u.m u.list.now (omega (arith, s.pre.0, w.before.before.before.cols.given.0))) in
+    let same = ap (λ (l : List ℕ). also_text ++ (l ++ feed)) (columns_first u.m u.list.now (omega (arith, s.pre.0, w.before.before.before.cols.given.0))) in
     (put_as (same ∙ line_as (take u.m u.list.now) w.before.before.before.before.if1.true) all, omega (arith, w.put-text.ensures.past, k.put-columns.ensures.1, b.put_byte.ensures.past))
 
 slice-aggregate-put-text-2 : tie.Need-slice-aggregate-put-text-2

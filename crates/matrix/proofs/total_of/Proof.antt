@@ -16,7 +16,7 @@ use Rattle.lists.specs.Permutations.{at}
 use Rattle.lists.proofs.Sums.{sum_none, sum-last}
 use Rattle.assignment.specs.Pairings.{signed_at}
 use Rattle.matrix.specs.Cost.{total_of}
-use Rattle.matrix.proofs.SmallLimits.{side-small}
+use Rattle.matrix.proofs.SmallLimits.{side_small}
 use Rattle.matrix.proofs.Places.{place_in}
 use borrow.Author.Rules.{rules}
 use Rattle.matrix.proofs.total_of.Statement.{statement}
@@ -69,10 +69,10 @@ shared-slice-copy-out-plus c = omega (arith, reached c)
 
 plus-requires : tie.Need-plus-requires invariant-loop decreases-loop
 plus-requires c κs =
-    omega (arith, side-small, c.before.before.before.before.before.requires.0, c.before.before.before.loop.invariant.3)
+    omega (arith, side_small, c.before.before.before.before.before.requires.0, c.before.before.before.loop.invariant.3)
 
 add_start : tie.Need-overflow-add-start invariant-loop decreases-loop
-add_start c = omega (arith, reached c.before.before, side-small, c.before.before.before.before.before.before.requires.1)
+add_start c = omega (arith, reached c.before.before, side_small, c.before.before.before.before.before.before.requires.1)
 
 add-i : tie.Need-overflow-add-i invariant-loop decreases-loop
 add-i c = search rules

@@ -9,7 +9,7 @@ use Rattle.sheet.specs.Reading.{sheet_most}
 use Rattle.pieces.specs.declared.Held.TheVariants.{Taking}
 use Rattle.pieces.specs.Kept.{Kept, kept, held}
 use Rattle.pieces.specs.Calls.{taken}
-use Rattle.pieces.proofs.Calls.{taking_few, piece-over, piece-ended, piece-long, piece-fits}
+use Rattle.pieces.proofs.Calls.{taking_few, piece-over, piece-ended, piece_long, piece_fits}
 use Rattle.pieces.proofs.take_piece.Statement.{statement}
 use Rattle.pieces.proofs.take_piece.Tie as tie
 
@@ -61,7 +61,7 @@ returns : tie.Need-returns
 returns c =
     let x = c.before in
     let r = x.before.before.before in
-    sym (piece-long (sent r) (begun r) (many x) (taking x) (omega (arith, few x, r.before.before.before.before.before.before.requires.0)))
+    sym (piece_long (sent r) (begun r) (many x) (taking x) (omega (arith, few x, r.before.before.before.before.before.before.requires.0)))
 
 copy-in-requires : tie.Need-copy-in-requires
 copy-in-requires c κs =
@@ -96,7 +96,7 @@ returns-4 c =
     let x = y.before.before.before in
     let r = x.before.before.before in
     ap (λ (bytes : List ℕ). taken 0 (kept bytes (set (begun r).state 0 (many x + length (sent r))))) y.copy-in.ensures
-    ∙ sym (piece-fits (sent r) (begun r) (many x) (taking x) (omega (arith, few x, r.before.before.before.before.before.before.requires.0)))
+    ∙ sym (piece_fits (sent r) (begun r) (many x) (taking x) (omega (arith, few x, r.before.before.before.before.before.before.requires.0)))
 
 pub take-piece-spec : {M : Type 1} → statement M
 take-piece-spec =

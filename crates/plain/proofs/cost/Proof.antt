@@ -28,7 +28,7 @@ use Rattle.matrix.proofs.First.{Clear, clear_start, clear_more}
 use Rattle.plain.specs.Engine.{taken}
 use Rattle.plain.specs.declared.Found.TheVariants.{Costs}
 use Rattle.plain.proofs.Pairings.{wrong, wrong_fails, right_passes}
-use Rattle.plain.proofs.Answers.{cost-passed, cost_failed}
+use Rattle.plain.proofs.Answers.{cost_passed, cost_failed}
 use borrow.Author.Rules.{rules}
 use Rattle.plain.proofs.cost.Statement.{statement}
 use Rattle.plain.proofs.cost.Tie as tie
@@ -44,8 +44,8 @@ module _ (t : ℕ) (x : ℤ) (small : mag x < 2 ^ 31) where
   added_is : Within (2 ^ 62) (to_z w64 t) → to_z w64 (of_z w64 added) ≡ to_z w64 t +ℤ x
   added_is w = to_z-of_z (added-fits w) ∙ ap (λ (z : ℤ). to_z w64 t +ℤ z) (read_wide x small)
 
-  added-within : (i : ℕ) → i < 8 → Within (i * 2 ^ 31) (to_z w64 t) → Within ((i + 1) * 2 ^ 31) (to_z w64 (of_z w64 added))
-  added-within i h w = rw (added_is (omega arith)) (omega (zlin, sum (to_z w64 t) x, told w32 x small))
+  added_within : (i : ℕ) → i < 8 → Within (i * 2 ^ 31) (to_z w64 t) → Within ((i + 1) * 2 ^ 31) (to_z w64 (of_z w64 added))
+  added_within i h w = rw (added_is (omega arith)) (omega (zlin, sum (to_z w64 t) x, told w32 x small))
 
 -- whether a row of a night with bars is wrong
 module _ (bars cols : List ℕ) (i : ℕ) where
@@ -168,7 +168,7 @@ loop-again c =
           (row-right u.bars.now u.cols.now l.i h.before.bits_at.result h.before.bits_at.ensures
           (sym h.has.ensures ∙ d.before.before.if1.false) (sym d.before.taken.ensures ∙ d.if2.false)),
       rw (add-one, sum-last) (added_is l.total (added-cost r) c.total.given (omega (arith, l.inv.3)) ∙ ap (λ (z : ℤ). z +ℤ added-cost r) l.inv.2),
-      added-within l.total (added-cost r) c.total.given l.i i l.inv.3,
+      added_within l.total (added-cost r) c.total.given l.i i l.inv.3,
     )
 
 returns-2 : tie.Need-returns-2 invariant-loop decreases-loop
@@ -178,7 +178,7 @@ returns-2 c =
     let night = night_of (length u.cols.now) u.n u.costs.now u.bars.now in
     let e : l.i ≡ length u.cols.now = omega (arith, l.invariant.0, c.loop-test.false) in
     ap Costs (l.invariant.2 ∙ ap (λ (m : ℕ). total_of u.n u.costs.now m u.cols.now) e)
-    ∙ sym (cost-passed night u.cols.now (right_passes night u.cols.now (λ k h. l.invariant.1 k (omega arith))))
+    ∙ sym (cost_passed night u.cols.now (right_passes night u.cols.now (λ k h. l.invariant.1 k (omega arith))))
 
 pub cost-spec : {M : Type 1} → statement M
 cost-spec =

@@ -10,7 +10,7 @@ use mir.Syntax.{w64}
 use mir.Facts.{to_z-of_z}
 use mir.Val.{SFits}
 use Rattle.matrix.specs.declared.Answer.TheVariants.{Total}
-use Rattle.matrix.proofs.Passed.{side-within}
+use Rattle.matrix.proofs.Passed.{side_within_lem}
 use Rattle.matrix.proofs.Verdicts.{after}
 use Rattle.plain.specs.Engine.{plain_tests}
 use Rattle.plain.proofs.Pairings.{eight_within}
@@ -23,7 +23,7 @@ side-within-requires : tie.Need-side-within-requires
 side-within-requires c κs = search rules
 
 costs-fill-requires : tie.Need-costs-fill-requires
-costs-fill-requires c κs = λ e. let h = le_trans ((side-within 8 _).0 (sym c.side-within.ensures ∙ e)) eight_within in (h, h)
+costs-fill-requires c κs = λ e. let h = le_trans ((side_within_lem 8 _).0 (sym c.side_within_lem.ensures ∙ e)) eight_within in (h, h)
 
 list-long-requires : tie.Need-list-long-requires
 list-long-requires c κs = search rules
@@ -35,11 +35,11 @@ abbrev start : tie.After-costs-within → tie.Start
 start c = c.before.before.before.before.before
 
 -- the tests, one after the other
-tested : (c : tie.After-costs-within) → c.costs-within.result ≡ plain_tests (start c).args.n (start c).args.costs.now (start c).args.cols.now
+tested : (c : tie.After-costs-within) → c.costs_within_lem.result ≡ plain_tests (start c).args.n (start c).args.costs.now (start c).args.cols.now
 unfolding plain_tests
 tested c =
     let l = c.before in
-    after _ c.costs-within.ensures (after _ l.list-long.ensures (after _ l.before.costs_fill_lem.ensures l.before.before.side-within.ensures))
+    after _ c.costs_within_lem.ensures (after _ l.list_long_lem.ensures (after _ l.before.costs_fill_lem.ensures l.before.before.side_within_lem.ensures))
 
 fit : (c : tie.After-enum-told) → Fit (start c.before.before).args.n (start c.before.before).args.costs.now (start c.before.before).args.cols.now
 fit c = (tests_fit _ _ _).0 (sym (tested c.before.before) ∙ c.enum_told.given.1)

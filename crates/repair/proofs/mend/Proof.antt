@@ -4,9 +4,9 @@ use native.Mathlib.Omega.{arith}
 use borrow.Author.Rules.{rules}
 use lib.ListN.{length-set}
 use Rattle.lists.specs.Permutations.{at}
-use Rattle.matrix.proofs.SmallLimits.{side-small}
+use Rattle.matrix.proofs.SmallLimits.{side_small}
 use Rattle.rules.specs.Columns.{free}
-use Rattle.repair.proofs.Mending.{can-augment, mended_by}
+use Rattle.repair.proofs.Mending.{can_augment, mended_by}
 use Rattle.repair.proofs.mend.Statement.{statement}
 use Rattle.repair.proofs.mend.Tie as tie
 
@@ -31,16 +31,16 @@ slice-read-given : tie.Need-slice-read-given
 slice-read-given c = search rules
 
 cast-given : tie.Need-overflow-cast-given
-cast-given c = let x = start c in omega (arith, given_below x, x.pre.small, side-small)
+cast-given c = let x = start c in omega (arith, given_below x, x.pre.small, side_small)
 
 mul-rows : tie.Need-overflow-mul-rows
-mul-rows c = let x = start c in omega (arith, given_below x, x.pre.small, side-small)
+mul-rows c = let x = start c in omega (arith, given_below x, x.pre.small, side_small)
 
 slice-write-rows : tie.Need-slice-write-rows
-slice-write-rows c = let x = start c in omega (arith, given_below x, x.pre.fair.rows-size)
+slice-write-rows c = let x = start c in omega (arith, given_below x, x.pre.fair.rows_size)
 
 cast-room : tie.Need-overflow-cast-room
-cast-room c = let x = start c in omega (arith, x.pre.fair.row_below, x.pre.small, side-small)
+cast-room c = let x = start c in omega (arith, x.pre.fair.row_below, x.pre.small, side_small)
 
 slice-write-room : tie.Need-slice-write-room
 slice-write-room c = search rules
@@ -50,7 +50,7 @@ unfolding free
 ca-dense-requires c κs =
     let x = start c.before.before.before.before.before in
     let u = x.args in
-    can-augment u.n u.costs.now u.row u.cols.now u.rows.now u.v.now u.room.now u.d.now x.pre
+    can_augment u.n u.costs.now u.row u.cols.now u.rows.now u.v.now u.room.now u.d.now x.pre
 
 same_length : tie.Need-same-length
 same_length c = search rules

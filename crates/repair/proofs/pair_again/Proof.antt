@@ -34,14 +34,14 @@ write-row-prices-requires c κs =
     let s = start y in
     let u = s.args in
     mending.can_price u.n u.costs.now u.row u.cols.now u.rows.now u.v.now u.room.now u.d.now s.pre.0 _ _ _ _ y.mend.ensures
-    u.row-prices.now s.pre.1
+    u.row_prices.now s.pre.1
 
 total-requires : tie.Need-total-requires
 total-requires c κs =
     let y = search-of c.before.before in
     let s = start y in
     let u = s.args in
-    mending.can-total u.n u.costs.now u.row u.cols.now u.rows.now u.v.now u.room.now u.d.now s.pre.0 _ _ _ _ y.mend.ensures
+    mending.can_total u.n u.costs.now u.row u.cols.now u.rows.now u.v.now u.room.now u.d.now s.pre.0 _ _ _ _ y.mend.ensures
 
 fill-requires : tie.Need-fill-requires
 fill-requires c κs = search rules
@@ -78,7 +78,7 @@ returns c =
     let u = s.args in
     mending.repaired_by_lem u.n u.costs.now u.row u.cols.now u.rows.now u.v.now u.room.now u.d.now s.pre.0 _ _ _ _ y.mend.ensures
     _ y.mend.last.1.1.1.1.1.1.0 _ y.mend.last.1.1.1.1.1.1.1.0 _ _ p.write-row-prices.ensures (read_back w64 t.total.result t.total.ok ∙ t.total.ensures)
-    (e.fill.ensures ∙ table_constant _ 0) (omega (arith, y.mend.kept, s.pre.0.room-size)) f.ensures (omega (arith, y.mend.kept, s.pre.0.distances-size))
+    (e.fill.ensures ∙ table_constant _ 0) (omega (arith, y.mend.kept, s.pre.0.room_size)) f.ensures (omega (arith, y.mend.kept, s.pre.0.distances_size))
 
 pub pair-again-spec : {M : Type 1} → statement M
 pair-again-spec =

@@ -8,7 +8,7 @@ use Rattle.ints.proofs.Bits.{read_back}
 use Rattle.matrix.specs.Refusals.{PriceFar}
 use Rattle.matrix.specs.Tests.{prices_in}
 use Rattle.matrix.specs.Verdicts.{◌then◌}
-use Rattle.matrix.proofs.SmallLimits.{K-small}
+use Rattle.matrix.proofs.SmallLimits.{K_small}
 use Rattle.repair.proofs.prices_near.Statement.{statement}
 use Rattle.repair.proofs.prices_near.Tie as tie
 
@@ -18,7 +18,7 @@ near-bound-requires c κs = search rules
 prices-in-requires : tie.Need-prices-in-requires
 prices-in-requires c κs =
     let b = c.near-bound in
-    (rw (read_back w64 b.result b.type-inv, b.ensures) (omega (arith, K-small)), λ e. let p = c.before.requires e in (p.0, p.0, p.1, p.2))
+    (rw (read_back w64 b.result b.type-inv, b.ensures) (omega (arith, K_small)), λ e. let p = c.before.requires e in (p.0, p.0, p.1, p.2))
 
 returns : tie.Need-returns
 returns c =

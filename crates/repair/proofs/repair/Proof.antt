@@ -5,7 +5,7 @@ use native.Mathlib.Omega.{arith}
 use borrow.Author.Rules.{rules}
 use mir.Syntax.{w64}
 use Rattle.ints.proofs.Bits.{read_back}
-use Rattle.matrix.proofs.SmallLimits.{side-small}
+use Rattle.matrix.proofs.SmallLimits.{side_small}
 use Rattle.lapjv.specs.Solve.{Lent, lent_of}
 use Rattle.repair.specs.Values.{told_of}
 use Rattle.repair.specs.Repairable.{Repairable}
@@ -19,7 +19,7 @@ abbrev start : tie.After-tested → tie.Start
 start c = c.before.before.before.before.before.before.before.before.before.before
 
 abbrev lent : tie.Start → Lent
-lent s = let u = s.args in lent_of u.cols.now u.rows.now u.row-prices.now u.col-prices.now u.indices.now u.numbers.now
+lent s = let u = s.args in lent_of u.cols.now u.rows.now u.row_prices.now u.col-prices.now u.indices.now u.numbers.now
 
 tested-requires : tie.Need-tested-requires
 tested-requires c κs = search rules
@@ -62,7 +62,7 @@ passes c =
     (repair_tests_iff s.args.n s.args.costs.now s.args.row (lent s)).0 (sym t.tested.ensures ∙ c.enum_told.given.1)
 
 mul-n4 : tie.Need-overflow-mul-n4
-mul-n4 c = omega (arith, side-small, (passes c).limits.small)
+mul-n4 c = omega (arith, side_small, (passes c).limits.small)
 
 sub-pair-again : tie.Need-overflow-sub-pair-again
 sub-pair-again c = search rules
@@ -71,7 +71,7 @@ part-pair-again-start : tie.Need-slice-bounds-pair-again-start
 part-pair-again-start c = search rules
 
 part-pair-again-end : tie.Need-slice-bounds-pair-again-end
-part-pair-again-end c = omega (arith, (passes c).limits.cols-enough)
+part-pair-again-end c = omega (arith, (passes c).limits.cols_enough)
 
 sub-pair-again-2 : tie.Need-overflow-sub-pair-again-2
 sub-pair-again-2 c = search rules
@@ -80,7 +80,7 @@ part-pair-again-start-2 : tie.Need-slice-bounds-pair-again-start-2
 part-pair-again-start-2 c = search rules
 
 part-pair-again-end-2 : tie.Need-slice-bounds-pair-again-end-2
-part-pair-again-end-2 c = omega (arith, (passes c.before).limits.rows-enough)
+part-pair-again-end-2 c = omega (arith, (passes c.before).limits.rows_enough)
 
 sub-pair-again-3 : tie.Need-overflow-sub-pair-again-3
 sub-pair-again-3 c = search rules
@@ -107,7 +107,7 @@ part-pair-again-start-5 : tie.Need-slice-bounds-pair-again-start-5
 part-pair-again-start-5 c = search rules
 
 part-pair-again-end-5 : tie.Need-slice-bounds-pair-again-end-5
-part-pair-again-end-5 c = omega (arith, (passes c.before.before.before.before).limits.indices-enough)
+part-pair-again-end-5 c = omega (arith, (passes c.before.before.before.before).limits.indices_enough)
 
 sub-pair-again-6 : tie.Need-overflow-sub-pair-again-6
 sub-pair-again-6 c = search rules
@@ -116,7 +116,7 @@ part-pair-again-start-6 : tie.Need-slice-bounds-pair-again-start-6
 part-pair-again-start-6 c = search rules
 
 part-pair-again-end-6 : tie.Need-slice-bounds-pair-again-end-6
-part-pair-again-end-6 c = omega (arith, (passes c.before.before.before.before.before).limits.numbers-enough)
+part-pair-again-end-6 c = omega (arith, (passes c.before.before.before.before.before).limits.numbers_enough)
 
 -- the tests, from the repair of the fronts
 abbrev told_of : tie.After-pair-again-arg6 → tie.After-enum-told
@@ -126,8 +126,8 @@ pair-again-requires : tie.Need-pair-again-requires
 pair-again-requires c κs =
     let e = told_of c in
     let u = (start e.before.before).args in (
-      repairing.can_mend u.n u.costs.now u.row u.cols.now u.rows.now u.row-prices.now u.col-prices.now u.indices.now u.numbers.now (passes e),
-      repairing.row_prices_sized u.n u.costs.now u.row u.cols.now u.rows.now u.row-prices.now u.col-prices.now u.indices.now u.numbers.now (passes e),
+      repairing.can_mend u.n u.costs.now u.row u.cols.now u.rows.now u.row_prices.now u.col-prices.now u.indices.now u.numbers.now (passes e),
+      repairing.row_prices_sized u.n u.costs.now u.row u.cols.now u.rows.now u.row_prices.now u.col-prices.now u.indices.now u.numbers.now (passes e),
     )
 
 same-length-7 : tie.Need-same-length-7
@@ -153,7 +153,7 @@ returns-2 c =
     let p = c.before.before.before.before.before.before.before.before.before in
     let e = told_of p.before in
     let u = (start e.before.before).args in
-    ap told_of (repairing.repaired_by_lem u.n u.costs.now u.row u.cols.now u.rows.now u.row-prices.now u.col-prices.now u.indices.now u.numbers.now (passes e) _ _ _ _ _ _ _ _ (read_back w64 p.pair-again.result p.pair-again.type-inv) p.pair-again.ensures)
+    ap told_of (repairing.repaired_by_lem u.n u.costs.now u.row u.cols.now u.rows.now u.row_prices.now u.col-prices.now u.indices.now u.numbers.now (passes e) _ _ _ _ _ _ _ _ (read_back w64 p.pair-again.result p.pair-again.type-inv) p.pair-again.ensures)
 
 pub repair-spec : {M : Type 1} → statement M
 repair-spec =

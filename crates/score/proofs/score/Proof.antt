@@ -7,9 +7,9 @@ use mir.Syntax.{w64}
 use mir.Facts.{to_z_pos}
 use Rattle.ints.proofs.Shapes.{zlin}
 use Rattle.matrix.specs.Answers.{values_of}
-use Rattle.matrix.proofs.Verdicts.{fails_totalled, passed-totalled}
+use Rattle.matrix.proofs.Verdicts.{fails_totalled, passed_totalled}
 use Rattle.score.specs.Score.{score}
-use Rattle.score.proofs.Metric.{sum-small}
+use Rattle.score.proofs.Metric.{sum_small}
 use Rattle.score.proofs.Scores.{tests_iff}
 use Rattle.score.proofs.score.Statement.{statement}
 use Rattle.score.proofs.score.Tie as tie
@@ -43,7 +43,7 @@ total-requires c κs =
 small : (c : tie.After-total) → c.total.result ≤ 108
 small c =
     let u = c.before.before.before.before.before.before.before.before.args in
-    omega (zlin, c.total.ensures, sum-small u.first.now u.second.now)
+    omega (zlin, c.total.ensures, sum_small u.first.now u.second.now)
 
 cast-t10 : tie.Need-overflow-cast-t10
 cast-t10 c = omega (zlin, small c)
@@ -53,7 +53,7 @@ unfolding score
 returns-2 c =
     let d = c.before.before.before in
     ap values_of
-    (passed-totalled (sym d.before.before.score-tested.ensures ∙ d.enum_told.given.1) (to_z_pos w64 (omega (arith, small c)) ∙ c.total.ensures))
+    (passed_totalled (sym d.before.before.score-tested.ensures ∙ d.enum_told.given.1) (to_z_pos w64 (omega (arith, small c)) ∙ c.total.ensures))
 
 pub score-spec : {M : Type 1} → statement M
 score-spec =

@@ -12,7 +12,7 @@ use Rattle.lists.specs.Sums.{sum}
 use Rattle.lists.proofs.Sums.{sum_none, sum-last}
 use Rattle.score.specs.Characters.{character_cost}
 use Rattle.score.specs.Score.{score_of}
-use Rattle.score.proofs.CharacterCosts.{cost-small}
+use Rattle.score.proofs.CharacterCosts.{cost_small}
 use Rattle.score.proofs.total.Statement.{statement}
 use Rattle.score.proofs.total.Tie as tie
 
@@ -49,7 +49,7 @@ small : (c : tie.After-cost invariant-loop decreases-loop) → c.cost.result ≤
 small c =
     let l = c.before.before.before.before in
     let u = l.before.before.before.before.args in
-    omega (arith, c.cost.ensures, cost-small (at u.first.now l.loop.k) (at u.second.now l.loop.k))
+    omega (arith, c.cost.ensures, cost_small (at u.first.now l.loop.k) (at u.second.now l.loop.k))
 
 add_total : tie.Need-overflow-add-total invariant-loop decreases-loop
 add_total c = omega (arith, small c)

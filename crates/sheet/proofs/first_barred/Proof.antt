@@ -7,7 +7,7 @@ use Rattle.sheet.proofs.first_barred.Tie as tie
 first-barred-requires : tie.Need-first-barred-requires
 first-barred-requires c κs =
     let p = c.before.before.requires in
-    record { small = p.0; bars-long = omega (arith, p.0, c.before.barred.given.0); cols-long = omega (arith, p.0, c.columns.given.0); inside = p.1 }
+    record { small = p.0; bars_long = omega (arith, p.0, c.before.barred.given.0); cols_long = omega (arith, p.0, c.columns.given.0); inside = p.1 }
 
 returns : tie.Need-returns
 returns c = search rules

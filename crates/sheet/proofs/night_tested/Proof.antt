@@ -11,10 +11,10 @@ use mir.Syntax.{w64}
 use Rattle.ints.proofs.Bits.{read_back}
 use Rattle.matrix.specs.Verdicts.{◌then◌}
 use Rattle.matrix.specs.Tests.{costs_in}
-use Rattle.matrix.proofs.SmallLimits.{K-small}
+use Rattle.matrix.proofs.SmallLimits.{K_small}
 use Rattle.matrix.proofs.Verdicts.{after}
 use Rattle.sheet.specs.Reading.{cost_most}
-use Rattle.sheet.proofs.Editions.{cost_most-within}
+use Rattle.sheet.proofs.Editions.{cost_most_within}
 use Rattle.sheet.proofs.night_tested.Statement.{statement}
 use Rattle.sheet.proofs.night_tested.Tie as tie
 
@@ -41,7 +41,7 @@ part-costs-in-end c =
 costs-in-requires : tie.Need-costs-in-requires
 costs-in-requires c κs =
     let d = c.before in
-    rw (read_back w64 d.cost-most.result d.cost-most.type-inv, d.cost-most.ensures) (omega (arith, K-small, cost_most-within d.before.before.before.args.edition))
+    rw (read_back w64 d.cost-most.result d.cost-most.type-inv, d.cost-most.ensures) (omega (arith, K_small, cost_most_within d.before.before.before.args.edition))
 
 bars-clear-requires : tie.Need-bars-clear-requires
 bars-clear-requires c κs = λ e. search rules
@@ -55,7 +55,7 @@ inside c =
     ∙ ap₂ (λ (z : ℤ) (m : ℕ). costs_in z (take m u.costs.now)) (read_back w64 d.cost-most.result d.cost-most.type-inv ∙ d.cost-most.ensures) (sub-zero (u.m * u.n))
 
 returns : tie.Need-returns
-returns c = after _ c.bars-clear.ensures (inside c.before)
+returns c = after _ c.bars_clear_lem.ensures (inside c.before)
 
 pub night-tested-spec : {M : Type 1} → statement M
 night-tested-spec = tie.close (tie.spec mul-count cost-most-requires sub-costs-in part-costs-in-start part-costs-in-end costs-in-requires bars-clear-requires returns)

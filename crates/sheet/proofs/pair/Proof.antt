@@ -25,7 +25,7 @@ sized : (c : tie.After-settle) → Sized c.settle.result.state
 sized c =
     let fields = c.settle.type-inv.1.1.1.0.1.1 in
     record {
-      cols-size = sym (length-map c.settle.result.state.cols _) ∙ fields.1.1.0.1.0.1;
+      cols_size = sym (length-map c.settle.result.state.cols _) ∙ fields.1.1.0.1.0.1;
       row_prices_size = sym (length-map c.settle.result.state.row_prices _) ∙ fields.1.1.1.1.0.1.0.1;
       column_prices_size = sym (length-map c.settle.result.state.col_prices _) ∙ fields.1.1.1.1.1.0.1.0.1;
     }

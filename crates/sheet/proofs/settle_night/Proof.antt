@@ -5,14 +5,14 @@ use native.Mathlib.Omega.{arith}
 use mathlib.Core.Path.{ap, ◌∙◌}
 use Prim.Native.Nat.{ℕ}
 use borrow.Author.Rules.{rules}
-use Rattle.matrix.proofs.SmallLimits.{sheet_side-small}
+use Rattle.matrix.proofs.SmallLimits.{sheet_side_small}
 use Rattle.sheet.specs.Steps.{read_into}
 use Rattle.sheet.proofs.Solver.{state_settles}
 use Rattle.sheet.proofs.settle_night.Statement.{statement}
 use Rattle.sheet.proofs.settle_night.Tie as tie
 
 few : (c : tie.Start) → c.args.n ≤ 64
-few c = omega (arith, c.requires.1, sheet_side-small)
+few c = omega (arith, c.requires.1, sheet_side_small)
 
 places : (c : tie.Start) → c.args.m * c.args.n ≤ 4096
 places c = let h : c.args.m ≤ 64 = omega (arith, c.requires.0, few c) in mul-le-mul h (few c)

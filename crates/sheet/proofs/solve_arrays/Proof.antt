@@ -29,7 +29,7 @@ returns : tie.Need-returns
 returns c =
     let u = c.before.before.before.before.before.before.before.before.before.args in
     told_determines _ _ c.solve.ensures
-    ∙ ap (λ (m : ℕ). solve u.n (take m u.costs.now) (lent_of u.cols.now u.rows.now u.row-prices.now u.col-prices.now u.indices.now u.numbers.now)) (sub-zero (u.n * u.n))
+    ∙ ap (λ (m : ℕ). solve u.n (take m u.costs.now) (lent_of u.cols.now u.rows.now u.row_prices.now u.col-prices.now u.indices.now u.numbers.now)) (sub-zero (u.n * u.n))
 
 pub solve-arrays-spec : {M : Type 1} → statement M
 solve-arrays-spec = tie.close (tie.spec mul-count sub-solve part-solve-start part-solve-end solve-requires returns)

@@ -16,7 +16,7 @@ use Rattle.sheet.specs.declared.Settled.{Settled}
 use Rattle.sheet.specs.declared.Reply.TheVariants.{Accepted}
 use Rattle.sheet.specs.Settle.{lent, state_of}
 use Rattle.sheet.specs.Steps.{unless_barred, settled_by, solved_in}
-use Rattle.sheet.proofs.Columns.{paired-inside}
+use Rattle.sheet.proofs.Columns.{paired_inside}
 use Rattle.sheet.proofs.solve_night.Statement.{statement}
 use Rattle.sheet.proofs.solve_night.Tie as tie
 
@@ -57,7 +57,7 @@ unless-barred-requires c κs =
     let d = c.before.before.before.before in
     let u = (start d).args in
     let night = c.before.before.night.given in
-    ((start d).requires, paired-inside u.n (take (u.n * u.n) u.state.costs) (lent u.state) night.0.0 (left d) (ap (λ (a : Solved). outcome_of a (left d)) (sym night.1) ∙ d.solve-arrays.ensures))
+    ((start d).requires, paired_inside u.n (take (u.n * u.n) u.state.costs) (lent u.state) night.0.0 (left d) (ap (λ (a : Solved). outcome_of a (left d)) (sym night.1) ∙ d.solve-arrays.ensures))
 
 returns : tie.Need-returns
 returns c =

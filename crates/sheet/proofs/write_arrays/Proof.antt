@@ -62,7 +62,7 @@ returns c =
     let start = lent.before.before in
     let u = start.args in
     c.before.before.write-slip.ensures
-    ∙ fronts u.slip.now u.edition u.m u.n u.cols.now u.row-prices.now u.col-prices.now (to_z-of_z start.ranges.total) (omega (arith, lent.all-cols.given.0, start.requires.0, start.requires.1)) (omega (arith, prices.all-col-prices.given.0, start.requires.1))
+    ∙ fronts u.slip.now u.edition u.m u.n u.cols.now u.row_prices.now u.col-prices.now (to_z-of_z start.ranges.total) (omega (arith, lent.all-cols.given.0, start.requires.0, start.requires.1)) (omega (arith, prices.all-col-prices.given.0, start.requires.1))
 
 pub write-arrays-spec : {M : Type 1} → statement M
 write-arrays-spec =

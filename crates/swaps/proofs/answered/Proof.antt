@@ -6,7 +6,7 @@ use mir.Syntax.{w64}
 use Rattle.ints.proofs.Bits.{read_back}
 use Rattle.swaps.specs.Entries.{lent_of, told_of}
 use Rattle.swaps.specs.Found.{CanFindIn}
-use Rattle.swaps.proofs.Entering.{can-total, refused-outcome, told-outcome}
+use Rattle.swaps.proofs.Entering.{can_total, refused-outcome, told_outcome}
 use Rattle.swaps.proofs.answered.Statement.{statement}
 use Rattle.swaps.proofs.answered.Tie as tie
 
@@ -33,7 +33,7 @@ enum_told c = search rules
 total-of-requires : tie.Need-total-of-requires
 total-of-requires c κs =
     let u = (start c).args in
-    can-total u.m u.n u.costs.now u.bars.now u.cols.now u.us.now u.vs.now (lent_of u.list.now u.indices.now u.numbers.now) (can c)
+    can_total u.m u.n u.costs.now u.bars.now u.cols.now u.us.now u.vs.now (lent_of u.list.now u.indices.now u.numbers.now) (can c)
 
 find-second-requires : tie.Need-find-second-requires
 find-second-requires c κs = can c.before.before.before.before
@@ -53,7 +53,7 @@ returns-2 c =
     let t = f.before.before.before.before in
     let u = (start t.before).args in
     ap told_of
-    (told-outcome u.m u.n u.costs.now u.bars.now u.cols.now u.us.now u.vs.now (lent_of u.list.now u.indices.now u.numbers.now) t.before.enum_told.given.1
+    (told_outcome u.m u.n u.costs.now u.bars.now u.cols.now u.us.now u.vs.now (lent_of u.list.now u.indices.now u.numbers.now) t.before.enum_told.given.1
     (read_back w64 t.total_of.result t.total_of.type-inv ∙ t.total_of.ensures) f.find-second.ensures)
 
 pub answered-spec : {M : Type 1} → statement M

@@ -9,10 +9,10 @@ list-long-requires : tie.Need-list-long-requires
 list-long-requires c κs = search rules
 
 rooms-long-requires : tie.Need-rooms-long-requires
-rooms-long-requires c κs = λ e. c.before.before.before.requires (passed_first _ _ (sym c.list-long.ensures ∙ e))
+rooms-long-requires c κs = λ e. c.before.before.before.requires (passed_first _ _ (sym c.list_long_lem.ensures ∙ e))
 
 returns : tie.Need-returns
-returns c = after _ c.rooms_long_lem.ensures c.before.list-long.ensures ∙ then_assoc _ _ _
+returns c = after _ c.rooms_long_lem.ensures c.before.list_long_lem.ensures ∙ then_assoc _ _ _
 
 pub lent-long-spec : {M : Type 1} → statement M
 lent-long-spec = tie.close (tie.spec list-long-requires rooms-long-requires returns)

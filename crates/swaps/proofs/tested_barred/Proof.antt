@@ -6,9 +6,9 @@ use borrow.Author.Rules.{rules}
 use lib.ListN.{length}
 use Rattle.matrix.specs.Limits.{sheet_side}
 use Rattle.matrix.specs.Verdicts.{Passes}
-use Rattle.matrix.proofs.SmallLimits.{sheet_side-small, sheet_side-within}
+use Rattle.matrix.proofs.SmallLimits.{sheet_side_small, sheet_side_within}
 use Rattle.matrix.proofs.Verdicts.{then_iff, passed_first, after}
-use Rattle.checker.proofs.Barred.{shaped_barred_iff, paired-inside}
+use Rattle.checker.proofs.Barred.{shaped_barred_iff, paired_inside}
 use Rattle.swaps.specs.Entries.{second_barred_tests}
 use Rattle.swaps.proofs.tested_barred.Statement.{statement}
 use Rattle.swaps.proofs.tested_barred.Tie as tie
@@ -27,24 +27,24 @@ shaped-barred-requires : tie.Need-shaped-barred-requires
 shaped-barred-requires c κs = search rules
 
 lent-long-requires : tie.Need-lent-long-requires
-lent-long-requires c κs = λ e. le_trans (shape c e).0 sheet_side-within
+lent-long-requires c κs = λ e. le_trans (shape c e).0 sheet_side_within
 
 paired-barred-requires : tie.Need-paired-barred-requires
-paired-barred-requires c κs = λ e. let s = shape c.before (roomy c e) in (le_trans s.0 sheet_side-small, s.2, s.3, s.6)
+paired-barred-requires c κs = λ e. let s = shape c.before (roomy c e) in (le_trans s.0 sheet_side_small, s.2, s.3, s.6)
 
 priced-requires : tie.Need-priced-requires
 priced-requires c κs = λ e.
     let u = c.before.before.before.before.before.before.before.before.args in
     let t = (then_iff _ _).0 (sym c.paired-barred.ensures ∙ e) in
     let s = shape c.before.before (roomy c.before t.0) in
-    let small = le_trans s.0 sheet_side-within in (
+    let small = le_trans s.0 sheet_side_within in (
       small,
       small,
       s.1,
-      record { listed = s.2; inside = paired-inside u.n u.costs.now u.cols.now u.rows.now u.bars.now t.1 },
+      record { listed = s.2; inside = paired_inside u.n u.costs.now u.cols.now u.rows.now u.bars.now t.1 },
       s.4,
       s.5,
-      λ i set. le_trans s.0 sheet_side-small,
+      λ i set. le_trans s.0 sheet_side_small,
     )
 
 returns : tie.Need-returns

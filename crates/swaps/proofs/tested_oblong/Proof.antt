@@ -8,9 +8,9 @@ use lib.ListN.{length}
 use Rattle.matrix.specs.Asked.{ColumnsListed}
 use Rattle.matrix.specs.Limits.{sheet_side}
 use Rattle.matrix.specs.Verdicts.{Passes}
-use Rattle.matrix.proofs.SmallLimits.{sheet_side-within}
+use Rattle.matrix.proofs.SmallLimits.{sheet_side_within}
 use Rattle.matrix.proofs.Verdicts.{then_iff, passed_first, after}
-use Rattle.matrix.proofs.Passed.{columns-inside}
+use Rattle.matrix.proofs.Passed.{columns_inside_lem}
 use Rattle.checker.proofs.Oblong.{shaped_oblong_iff}
 use Rattle.swaps.specs.Entries.{second_oblong_tests}
 use Rattle.swaps.proofs.tested_oblong.Statement.{statement}
@@ -32,13 +32,13 @@ chosen c e =
     let u = c.before.before.before.before.before.before.args in
     let t = (then_iff _ _).0 (sym c.paired-oblong.ensures ∙ e) in
     let r = roomy c.before t.0 in
-    (r, record { listed = (shape c.before.before r).3; inside = (columns-inside u.m u.n u.cols.now).0 ((then_iff _ _).0 ((then_iff _ _).0 t.1).0).1 })
+    (r, record { listed = (shape c.before.before r).3; inside = (columns_inside_lem u.m u.n u.cols.now).0 ((then_iff _ _).0 ((then_iff _ _).0 t.1).0).1 })
 
 shaped-oblong-requires : tie.Need-shaped-oblong-requires
 shaped-oblong-requires c κs = search rules
 
 lent-long-requires : tie.Need-lent-long-requires
-lent-long-requires c κs = λ e. le_trans (shape c e).0 sheet_side-within
+lent-long-requires c κs = λ e. le_trans (shape c e).0 sheet_side_within
 
 paired-oblong-requires : tie.Need-paired-oblong-requires
 paired-oblong-requires c κs = λ e. (shape c.before (roomy c e)).3
@@ -50,7 +50,7 @@ priced-requires : tie.Need-priced-requires
 priced-requires c κs = λ e.
     let h = chosen c.before e in
     let s = shape c.before.before.before h.0 in
-    let small = le_trans s.0 sheet_side-within in
+    let small = le_trans s.0 sheet_side_within in
     (le_trans s.1 small, small, s.2, h.1, s.4, s.5, λ i set. absurd (set refl))
 
 spares-not-below-requires : tie.Need-spares-not-below-requires

@@ -26,7 +26,7 @@ returns c =
     sym (rw (lt-ltb (at u.rows.now u.j) u.n c.if1.true))
 
 reduced-at-requires : tie.Need-reduced-at-requires
-reduced-at-requires c κs = let p = c.before.before.before.requires in (p.0.priced, omega (arith, p.0.row-size, p.1))
+reduced-at-requires c κs = let p = c.before.before.before.requires in (p.0.priced, omega (arith, p.0.row_size, p.1))
 
 returns-2 : tie.Need-returns-2
 returns-2 c =

@@ -30,10 +30,10 @@ loop-holds c =
     (omega arith, c.with-bit.ensures ∙ or_zero_l (2 ^ a.i) ∙ sym (upward_none 0 0 (grows a.n a.bars.now a.cols.now) (2 ^ a.i) (omega arith)))
 
 columns-mask-requires : tie.Need-columns-mask-requires invariant-loop decreases-loop
-columns-mask-requires c κs = let p = c.before.before.before.before.before.requires in (p.0.small, p.0.bars-long)
+columns-mask-requires c κs = let p = c.before.before.before.before.before.requires in (p.0.small, p.0.bars_long)
 
 paired-mask-requires : tie.Need-paired-mask-requires invariant-loop decreases-loop
-paired-mask-requires c κs = let p = c.before.before.before.before.before.before.requires in (p.0.small, p.0.cols-long, λ k l. omega (arith, p.0.small, p.0.inside k l))
+paired-mask-requires c κs = let p = c.before.before.before.before.before.before.requires in (p.0.small, p.0.cols_long, λ k l. omega (arith, p.0.small, p.0.inside k l))
 
 add-round : tie.Need-overflow-add-round invariant-loop decreases-loop
 add-round c = search rules

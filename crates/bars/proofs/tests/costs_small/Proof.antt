@@ -7,8 +7,8 @@ use mir.Syntax.{w64}
 use Rattle.ints.proofs.Bits.{read_back}
 use Rattle.matrix.specs.Verdicts.{◌then◌}
 use Rattle.matrix.specs.Tests.{costs_in}
-use Rattle.matrix.proofs.SmallLimits.{K-small}
-use Rattle.bars.proofs.Passed.{barred_most-small}
+use Rattle.matrix.proofs.SmallLimits.{K_small}
+use Rattle.bars.proofs.Passed.{barred_most_small}
 use Rattle.bars.proofs.tests.costs_small.Statement.{statement}
 use Rattle.bars.proofs.tests.costs_small.Tie as tie
 
@@ -16,7 +16,7 @@ barred-most-requires : tie.Need-barred-most-requires
 barred-most-requires c κs = search rules
 
 costs-in-requires : tie.Need-costs-in-requires
-costs-in-requires c κs = rw (read_back w64 c.barred-most.result c.barred-most.type-inv, c.barred-most.ensures) (omega (arith, K-small, barred_most-small))
+costs-in-requires c κs = rw (read_back w64 c.barred-most.result c.barred-most.type-inv, c.barred-most.ensures) (omega (arith, K_small, barred_most_small))
 
 returns : tie.Need-returns
 returns c =

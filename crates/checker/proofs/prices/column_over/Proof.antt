@@ -8,7 +8,7 @@ use lib.ListN.{length}
 use mir.Syntax.{w64}
 use Rattle.ints.proofs.Bits.{read_back}
 use Rattle.assignment.specs.Pairings.{signed_at}
-use Rattle.matrix.proofs.SmallLimits.{side-small}
+use Rattle.matrix.proofs.SmallLimits.{side_small}
 use Rattle.matrix.proofs.RowParts.{row_of_length}
 use Rattle.checker.proofs.Places.{row_first}
 use Rattle.checker.proofs.prices.column_over.Statement.{statement}
@@ -21,16 +21,16 @@ row-of-requires : tie.Need-row-of-requires
 row-of-requires c κs = inside c.before
 
 mul-first-over : tie.Need-overflow-mul-first-over
-mul-first-over c = omega (arith, side-small, c.before.before.requires.0, c.before.before.requires.1.rows-small)
+mul-first-over c = omega (arith, side_small, c.before.before.requires.0, c.before.before.requires.1.rows_small)
 
 shared-slice-copy-out-first-over : tie.Need-shared-slice-copy-out-first-over
-shared-slice-copy-out-first-over c = omega (arith, c.before.before.requires.0, c.before.before.requires.1.row-prices.enough)
+shared-slice-copy-out-first-over c = omega (arith, c.before.before.requires.0, c.before.before.requires.1.row_prices.enough)
 
 bits-at-requires : tie.Need-bits-at-requires
 bits-at-requires c κs = search rules
 
-row-size : (c : tie.After-row-of) → length c.row_of.result.now ≡ c.before.before.args.n
-row-size c =
+row_size : (c : tie.After-row-of) → length c.row_of.result.now ≡ c.before.before.args.n
+row_size c =
     let s = c.before.before in
     ap length c.row_of.ensures ∙ row_of_length s.args.n s.args.costs.now s.args.i (inside s)
 
@@ -39,11 +39,11 @@ first-over-requires c κs =
     let d = c.before.before in
     let s = d.before.before in
     let i = s.args.i in
-    let size = row-size d in
+    let size = row_size d in
     let p = s.requires.1 in (
       λ set. omega (arith, s.requires.2 i (λ e. set (c.bits_at.ensures ∙ e))),
-      rw (read_back w64 (signed_at s.args.us.now i) c.before.first-over-arg.given) (p.row-prices.within i s.requires.0),
-      record { enough = omega (arith, p.column-prices.enough); within = λ j l. p.column-prices.within j (omega arith) },
+      rw (read_back w64 (signed_at s.args.us.now i) c.before.first-over-arg.given) (p.row_prices.within i s.requires.0),
+      record { enough = omega (arith, p.column_prices.enough); within = λ j l. p.column_prices.within j (omega arith) },
     )
 
 returns : tie.Need-returns

@@ -12,7 +12,7 @@ use Rattle.ints.proofs.Shapes.{zlin}
 use Rattle.ints.proofs.Sums.{sum}
 use Rattle.ints.proofs.Tests.{lt_lt_z, le_lt_z, le_or_lt}
 use Rattle.assignment.specs.Pairings.{signed_at}
-use Rattle.matrix.proofs.SmallLimits.{K-small}
+use Rattle.matrix.proofs.SmallLimits.{K_small}
 use Rattle.checker.proofs.prices.over_at.Statement.{statement}
 use Rattle.checker.proofs.prices.over_at.Tie as tie
 
@@ -30,7 +30,7 @@ shared-slice-copy-out-reduced-cost : tie.Need-shared-slice-copy-out-reduced-cost
 shared-slice-copy-out-reduced-cost c = search rules
 
 reduced-cost-requires : tie.Need-reduced-cost-requires
-reduced-cost-requires c κs = let s = c.before in rw (to_z-of_z s.ranges.u) (omega (arith, K-small, s.requires.1))
+reduced-cost-requires c κs = let s = c.before in rw (to_z-of_z s.ranges.u) (omega (arith, K_small, s.requires.1))
 
 mul-result : tie.Need-overflow-mul-result
 mul-result c = search rules

@@ -6,7 +6,7 @@ use mir.Val.{to_z, of_z}
 use mir.Facts.{to_z-of_z}
 use Rattle.ints.proofs.Shapes.{zlin}
 use Rattle.ints.proofs.Bits.{read_wide, wide_fits}
-use Rattle.matrix.proofs.SmallLimits.{K-small}
+use Rattle.matrix.proofs.SmallLimits.{K_small}
 use Rattle.checker.proofs.Places.{read_fits, both_read}
 use Rattle.checker.proofs.prices.slack.Statement.{statement}
 use Rattle.checker.proofs.prices.slack.Tie as tie
@@ -22,7 +22,7 @@ cast-result : tie.Need-overflow-cast-result
 cast-result c = wide_fits c.args.cost c.ranges.cost.sfits
 
 sub-result : tie.Need-overflow-sub-result
-sub-result c = omega (zlin, K-small, c.ranges.cost, read_wide c.args.cost c.ranges.cost.sfits, both c)
+sub-result c = omega (zlin, K_small, c.ranges.cost, read_wide c.args.cost c.ranges.cost.sfits, both c)
 
 returns : tie.Need-returns
 returns c = to_z-of_z (sub-result c) ∙ ap₂ ◌-ℤ◌ (read_wide c.args.cost c.ranges.cost.sfits) (both c)

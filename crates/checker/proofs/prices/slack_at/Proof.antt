@@ -7,9 +7,9 @@ use lib.ListN.{length}
 use mir.Syntax.{w32, w64}
 use Rattle.ints.proofs.Bits.{read_back}
 use Rattle.assignment.specs.Pairings.{signed_at}
-use Rattle.matrix.proofs.SmallLimits.{side-small}
+use Rattle.matrix.proofs.SmallLimits.{side_small}
 use Rattle.matrix.proofs.Places.{place_in}
-use Rattle.matrix.proofs.Codes.{filled-small}
+use Rattle.matrix.proofs.Codes.{filled_small}
 use Rattle.checker.proofs.prices.slack_at.Statement.{statement}
 use Rattle.checker.proofs.prices.slack_at.Tie as tie
 
@@ -18,7 +18,7 @@ reached : (c : tie.Start) → (c.args.i * c.args.n + c.args.j < length c.args.co
 reached c =
     let p = c.requires.2 in (
       omega (arith, place_in c.args.m c.args.n c.args.i c.args.j c.requires.0 c.requires.1, p.filled),
-      filled-small c.args.m c.args.n (length c.args.costs.now) p.rows-small p.small p.filled,
+      filled_small c.args.m c.args.n (length c.args.costs.now) p.rows_small p.small p.filled,
     )
 
 mul-slack : tie.Need-overflow-mul-slack
@@ -34,22 +34,22 @@ shared-slice-copy-out-slack : tie.Need-shared-slice-copy-out-slack
 shared-slice-copy-out-slack c = (reached c).0
 
 mul-slack-3 : tie.Need-overflow-mul-slack-3
-mul-slack-3 c = omega (arith, side-small, c.before.requires.0, c.before.requires.2.rows-small)
+mul-slack-3 c = omega (arith, side_small, c.before.requires.0, c.before.requires.2.rows_small)
 
 shared-slice-copy-out-slack-2 : tie.Need-shared-slice-copy-out-slack-2
-shared-slice-copy-out-slack-2 c = omega (arith, c.before.requires.0, c.before.requires.2.row-prices.enough)
+shared-slice-copy-out-slack-2 c = omega (arith, c.before.requires.0, c.before.requires.2.row_prices.enough)
 
 mul-slack-4 : tie.Need-overflow-mul-slack-4
-mul-slack-4 c = omega (arith, side-small, c.before.before.requires.1, c.before.before.requires.2.small)
+mul-slack-4 c = omega (arith, side_small, c.before.before.requires.1, c.before.before.requires.2.small)
 
 shared-slice-copy-out-slack-3 : tie.Need-shared-slice-copy-out-slack-3
-shared-slice-copy-out-slack-3 c = omega (arith, c.before.before.requires.1, c.before.before.requires.2.column-prices.enough)
+shared-slice-copy-out-slack-3 c = omega (arith, c.before.before.requires.1, c.before.before.requires.2.column_prices.enough)
 
 slack-requires : tie.Need-slack-requires
 slack-requires c κs =
     let s = c.before.before.before in (
-      rw (read_back w64 (signed_at s.args.us.now s.args.i) c.before.slack-arg2.given) (s.requires.2.row-prices.within s.args.i s.requires.0),
-      rw (read_back w64 (signed_at s.args.vs.now s.args.j) c.slack-arg3.given) (s.requires.2.column-prices.within s.args.j s.requires.1),
+      rw (read_back w64 (signed_at s.args.us.now s.args.i) c.before.slack-arg2.given) (s.requires.2.row_prices.within s.args.i s.requires.0),
+      rw (read_back w64 (signed_at s.args.vs.now s.args.j) c.slack-arg3.given) (s.requires.2.column_prices.within s.args.j s.requires.1),
     )
 
 returns : tie.Need-returns

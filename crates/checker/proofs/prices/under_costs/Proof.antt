@@ -12,12 +12,12 @@ use Rattle.lists.proofs.Runs.{first_holds}
 use Rattle.matrix.specs.Verdicts.{fails_by}
 use Rattle.matrix.specs.Refusals.{PricesOverCost}
 use Rattle.matrix.proofs.Places.{place_in}
-use Rattle.matrix.proofs.Codes.{filled-small}
+use Rattle.matrix.proofs.Codes.{filled_small}
 use Rattle.matrix.proofs.Verdicts.{fails_then, passed_then, clear_at_by, found_at_by}
 use Rattle.bars.specs.Barred.{night_of}
 use Rattle.checker.specs.Tests.{slack, over_first, over_in, but}
 use Rattle.checker.specs.Asked.{BitsFit, Priced}
-use Rattle.checker.proofs.But.{but-holds}
+use Rattle.checker.proofs.But.{but_holds}
 use Rattle.checker.proofs.prices.under_costs.Statement.{statement}
 use Rattle.checker.proofs.prices.under_costs.Tie as tie
 
@@ -45,14 +45,14 @@ column-over-requires : tie.Need-column-over-requires
 column-over-requires c κs = let p = shown c.before.before in (c.if1.false, p.0, p.1)
 
 -- it is a column: row i has one at which the prices are over the cost
-column-below : (c : tie.After-column-over) → c.column-over.result < c.before.before.before.before.before.before.args.n
-column-below c =
+column_below : (c : tie.After-column-over) → c.column-over.result < c.before.before.before.before.before.before.args.n
+column_below c =
     let u = c.before.before.before.before.before.before.args in
     let i = c.before.before.first-row-over in
     let night = night_of u.m u.n u.costs.now u.bars.now in
     let test = over_in night u.us.now u.vs.now in
     let here = ap (but u.skip test) i.ensures ∙ first_holds (but u.skip test) u.m (omega (arith, i.ensures, c.before.if1.false)) in
-    let holds = but-holds u.skip test i.result here in
+    let holds = but_holds u.skip test i.result here in
     omega (arith, c.column-over.ensures, ltb-true (over_first night u.us.now u.vs.now i.result) u.n holds)
 
 -- a place fits: there are few of them
@@ -62,10 +62,10 @@ place-small c =
     let d = c.before.before.before in
     let u = d.before.before.before.args in
     let p = (shown d).0 in
-    omega (arith, place_in u.m u.n _ _ c.before.if1.false (column-below c), filled-small u.m u.n _ p.rows-small p.small p.filled, p.filled)
+    omega (arith, place_in u.m u.n _ _ c.before.if1.false (column_below c), filled_small u.m u.n _ p.rows_small p.small p.filled, p.filled)
 
 slack-at-requires : tie.Need-slack-at-requires
-slack-at-requires c κs = (c.before.if1.false, column-below c, (shown c.before.before.before).0)
+slack-at-requires c κs = (c.before.if1.false, column_below c, (shown c.before.before.before).0)
 
 mul-fails-by : tie.Need-overflow-mul-fails-by
 mul-fails-by c = omega (arith, place-small c.before)

@@ -77,7 +77,7 @@ returns c =
     let start = first.before.before.before.before in
     let u = start.args in
     let value = fourth.before.wrapped.ensures ∙ ap (wrapped 8) (to_z-of_z start.ranges.total) in
-    joined u.slip.now u.cols.now u.row-prices.now u.col-prices.now u.total start.requires first.write-columns.ensures second.write-prices.ensures third.write-prices2.ensures value fourth.write-value.ensures
+    joined u.slip.now u.cols.now u.row_prices.now u.col-prices.now u.total start.requires first.write-columns.ensures second.write-prices.ensures third.write-prices2.ensures value fourth.write-value.ensures
 
 pub write-body-spec : {M : Type 1} → statement M
 write-body-spec =

@@ -81,7 +81,7 @@ returns c =
     let counted = first.before.before in
     let start = counted.before.before.before in
     let u = start.args in
-    joined u.slip.now u.edition u.cols.now u.row-prices.now u.col-prices.now u.total start.requires (to_z-of_z start.ranges.total) counted.row-count-length.ensures
+    joined u.slip.now u.edition u.cols.now u.row_prices.now u.col-prices.now u.total start.requires (to_z-of_z start.ranges.total) counted.row-count-length.ensures
     first.write-body.ensures second.write-row-count.ensures third.write-trailer.ensures
 
 pub write-slip-spec : {M : Type 1} → statement M

@@ -3,7 +3,7 @@ use Prim.Native.Nat.{◌≤◌, ◌^◌}
 use native.Mathlib.Nat.{mul-le-mul}
 use native.Mathlib.Omega.{arith}
 use borrow.Author.Rules.{rules}
-use Rattle.matrix.proofs.SmallLimits.{side-small}
+use Rattle.matrix.proofs.SmallLimits.{side_small}
 use Rattle.matrix.proofs.Verdicts.{fails_then, passed_then}
 use Rattle.matrix.proofs.tests.costs_fill.Statement.{statement}
 use Rattle.matrix.proofs.tests.costs_fill.Tie as tie
@@ -20,8 +20,8 @@ enum_told c = search rules
 mul-fails-if : tie.Need-overflow-mul-fails-if
 mul-fails-if c =
     let h = c.before.before.requires c.enum_told.given.1 in
-    let m : c.before.before.args.m ≤ 2 ^ 16 = omega (arith, side-small, h) in
-    let n : c.before.before.args.n ≤ 2 ^ 16 = omega (arith, side-small, h) in
+    let m : c.before.before.args.m ≤ 2 ^ 16 = omega (arith, side_small, h) in
+    let n : c.before.before.args.n ≤ 2 ^ 16 = omega (arith, side_small, h) in
     omega (arith, mul-le-mul m n)
 
 fails-if-requires : tie.Need-fails-if-requires

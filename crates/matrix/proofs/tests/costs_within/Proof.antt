@@ -7,7 +7,7 @@ use mir.Syntax.{w64}
 use Rattle.ints.proofs.Bits.{read_back}
 use Rattle.matrix.specs.Verdicts.{◌then◌}
 use Rattle.matrix.specs.Tests.{costs_in}
-use Rattle.matrix.proofs.SmallLimits.{K-small}
+use Rattle.matrix.proofs.SmallLimits.{K_small}
 use Rattle.matrix.proofs.tests.costs_within.Statement.{statement}
 use Rattle.matrix.proofs.tests.costs_within.Tie as tie
 
@@ -15,7 +15,7 @@ bound-requires : tie.Need-bound-requires
 bound-requires c κs = search rules
 
 costs-in-requires : tie.Need-costs-in-requires
-costs-in-requires c κs = rw (read_back w64 c.bound.result c.bound.type-inv, c.bound.ensures) (omega (arith, K-small))
+costs-in-requires c κs = rw (read_back w64 c.bound.result c.bound.type-inv, c.bound.ensures) (omega (arith, K_small))
 
 returns : tie.Need-returns
 returns c =

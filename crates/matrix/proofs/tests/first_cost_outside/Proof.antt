@@ -20,8 +20,8 @@ use Rattle.lists.proofs.Runs.{first_le}
 use Rattle.assignment.specs.Pairings.{signed_at}
 use Rattle.matrix.specs.Limits.{K}
 use Rattle.matrix.specs.Tests.{outside}
-use Rattle.matrix.proofs.SmallLimits.{K-small}
-use Rattle.matrix.proofs.Bounds.{outside-within}
+use Rattle.matrix.proofs.SmallLimits.{K_small}
+use Rattle.matrix.proofs.Bounds.{outside_within}
 use Rattle.matrix.proofs.First.{Clear, clear_start, clear_more, found, ended}
 use Rattle.matrix.proofs.tests.first_cost_outside.Statement.{statement}
 use Rattle.matrix.proofs.tests.first_cost_outside.Tie as tie
@@ -36,7 +36,7 @@ abbrev decreases-loop : tie.decreases-loop
 decreases-loop limit costs k₀ k = length costs - k
 
 narrow : (limit : ℤ) → Within K limit → SFits w32 limit
-narrow limit near = omega (zlin, K-small)
+narrow limit near = omega (zlin, K_small)
 
 -- the limit, as the code holds it, and what is found with it
 abbrev held : tie.Start invariant-loop decreases-loop → ℤ
@@ -49,14 +49,14 @@ bound-requires : tie.Need-bound-requires invariant-loop decreases-loop
 bound-requires c κs = search rules
 
 outside-requires : tie.Need-outside-requires invariant-loop decreases-loop
-outside-requires c κs = rw (read_back w64 c.bound.result c.bound.type-inv, c.bound.ensures) (omega (arith, K-small))
+outside-requires c κs = rw (read_back w64 c.bound.result c.bound.type-inv, c.bound.ensures) (omega (arith, K_small))
 
 -- the limit lies in -K..K
 within : (c : tie.Then1 invariant-loop decreases-loop) → Within K c.before.before.before.args.limit
 within c =
     let b = c.before.before in
     let s = b.before in
-    (outside-within K s.args.limit).0
+    (outside_within K s.args.limit).0
     (sym (ap₂ outside (read_back w64 b.bound.result b.bound.type-inv ∙ b.bound.ensures) (to_z-of_z s.ranges.limit))
     ∙ sym c.before.outside.ensures
     ∙ not-true _ c.if1.true)

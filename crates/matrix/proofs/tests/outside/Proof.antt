@@ -9,7 +9,7 @@ use mir.Val.{SFits, to_z, of_z}
 use mir.Facts.{to_z-of_z}
 use Rattle.ints.specs.Parts.{Within}
 use Rattle.ints.proofs.Shapes.{zlin}
-use Rattle.matrix.proofs.Bounds.{minus-fits, minus-read}
+use Rattle.matrix.proofs.Bounds.{minus_fits, minus-read}
 use Rattle.matrix.proofs.tests.outside.Statement.{statement}
 use Rattle.matrix.proofs.tests.outside.Tie as tie
 
@@ -20,7 +20,7 @@ below : (x limit : ℤ) → SFits w64 x → SFits w64 limit → Within (2 ^ 62) 
 below x limit f g near = ap₂ lt_z (to_z-of_z f) (minus-read g (negated_fits limit near))
 
 sub-if1 : tie.Need-overflow-sub-if1
-sub-if1 c = minus-fits c.ranges.limit (negated_fits c.args.limit c.requires)
+sub-if1 c = minus_fits c.ranges.limit (negated_fits c.args.limit c.requires)
 
 returns : tie.Need-returns
 returns c =

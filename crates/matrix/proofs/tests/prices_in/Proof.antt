@@ -12,7 +12,7 @@ use Rattle.lists.specs.Runs.{first}
 use Rattle.lists.proofs.Runs.{first_le}
 use Rattle.assignment.specs.Pairings.{signed_at}
 use Rattle.matrix.specs.Tests.{outside}
-use Rattle.matrix.proofs.SmallLimits.{side-small}
+use Rattle.matrix.proofs.SmallLimits.{side_small}
 use Rattle.matrix.proofs.Verdicts.{fails_then, passed_then, failed_at, clear_at, found_then}
 use Rattle.matrix.proofs.tests.prices_in.Statement.{statement}
 use Rattle.matrix.proofs.tests.prices_in.Tie as tie
@@ -63,7 +63,7 @@ add-fails-if : tie.Need-overflow-add-fails-if
 add-fails-if c =
     let d = c.before.before.before in
     let u = d.before.before.args in
-    omega (arith, side-small, d.before.before.requires.1 d.enum_told.given.1, columns-found c, first_le (λ j. outside u.limit (signed_at u.vs.now j)) u.n)
+    omega (arith, side_small, d.before.before.requires.1 d.enum_told.given.1, columns-found c, first_le (λ j. outside u.limit (signed_at u.vs.now j)) u.n)
 
 fails-if-requires-2 : tie.Need-fails-if-requires-2
 fails-if-requires-2 c κs = search rules

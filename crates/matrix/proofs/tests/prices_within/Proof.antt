@@ -8,7 +8,7 @@ use Rattle.ints.proofs.Bits.{read_back}
 use Rattle.matrix.specs.Refusals.{PriceOutside}
 use Rattle.matrix.specs.Tests.{prices_in}
 use Rattle.matrix.specs.Verdicts.{◌then◌}
-use Rattle.matrix.proofs.SmallLimits.{K-small}
+use Rattle.matrix.proofs.SmallLimits.{K_small}
 use Rattle.matrix.proofs.tests.prices_within.Statement.{statement}
 use Rattle.matrix.proofs.tests.prices_within.Tie as tie
 
@@ -18,7 +18,7 @@ price-bound-requires c κs = search rules
 prices-in-requires : tie.Need-prices-in-requires
 prices-in-requires c κs =
     let b = c.price-bound in
-    (rw (read_back w64 b.result b.type-inv, b.ensures) (omega (arith, K-small)), c.before.requires)
+    (rw (read_back w64 b.result b.type-inv, b.ensures) (omega (arith, K_small)), c.before.requires)
 
 returns : tie.Need-returns
 returns c =

@@ -3,7 +3,7 @@ use native.Mathlib.Omega.{arith}
 use borrow.Author.Rules.{rules}
 use borrow.Author.Tests.{lt-ltb, le-ltb}
 use Rattle.matrix.specs.Refusals.{RoomShort}
-use Rattle.matrix.proofs.SmallLimits.{side-small}
+use Rattle.matrix.proofs.SmallLimits.{side_small}
 use Rattle.matrix.proofs.Verdicts.{fails_then, passed_then, fails_if_iff, refused_then}
 use Rattle.matrix.proofs.tests.rooms_long.Statement.{statement}
 use Rattle.matrix.proofs.tests.rooms_long.Tie as tie
@@ -18,7 +18,7 @@ enum_told : tie.Need-enum-told
 enum_told c = search rules
 
 mul-if1 : tie.Need-overflow-mul-if1
-mul-if1 c = omega (arith, side-small, c.before.before.requires c.enum_told.given.1)
+mul-if1 c = omega (arith, side_small, c.before.before.requires c.enum_told.given.1)
 
 fails-if-requires : tie.Need-fails-if-requires
 fails-if-requires c κs = search rules

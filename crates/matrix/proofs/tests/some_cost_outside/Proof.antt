@@ -18,8 +18,8 @@ use Rattle.lists.proofs.Counts.{some_none, some-last}
 use Rattle.assignment.specs.Pairings.{signed_at}
 use Rattle.matrix.specs.Limits.{K}
 use Rattle.matrix.specs.Tests.{outside}
-use Rattle.matrix.proofs.SmallLimits.{K-small}
-use Rattle.matrix.proofs.Bounds.{minus-fits, minus-read}
+use Rattle.matrix.proofs.SmallLimits.{K_small}
+use Rattle.matrix.proofs.Bounds.{minus_fits, minus-read}
 use Rattle.matrix.proofs.tests.some_cost_outside.Statement.{statement}
 use Rattle.matrix.proofs.tests.some_cost_outside.Tie as tie
 
@@ -27,7 +27,7 @@ abbrev test : ℤ → List ℤ → ℕ → Bool
 test limit costs k = outside limit (signed_at costs k)
 
 negated_fits : (limit : ℤ) → Within K limit → SFits w32 (pos 0 -ℤ limit)
-negated_fits limit near = omega (zlin, K-small)
+negated_fits limit near = omega (zlin, K_small)
 
 -- a cost and the limit, as the code holds and compares them
 tested : (x limit : ℤ) → SFits w32 x → SFits w32 limit → Within K limit
@@ -41,7 +41,7 @@ abbrev decreases-loop : tie.decreases-loop
 decreases-loop limit costs low found₀ k₀ found k = length costs - k
 
 sub_low : tie.Need-overflow-sub-low invariant-loop decreases-loop
-sub_low c = minus-fits c.ranges.limit (negated_fits c.args.limit c.requires)
+sub_low c = minus_fits c.ranges.limit (negated_fits c.args.limit c.requires)
 
 loop-holds : tie.Need-loop-init invariant-loop decreases-loop
 loop-holds c = (omega arith, sym (some_none _))

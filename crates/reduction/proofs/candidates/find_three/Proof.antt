@@ -16,7 +16,7 @@ use Rattle.assignment.specs.Pairings.{signed_at}
 use Rattle.reduction.specs.declared.candidates.Three.{Three}
 use Rattle.reduction.specs.Ranges.{NextBelow}
 use Rattle.reduction.specs.Candidates.{FoundThree, insert}
-use Rattle.reduction.proofs.FirstThree.{started, pass-found, insert-found}
+use Rattle.reduction.proofs.FirstThree.{started, pass_found, insert-found}
 use Rattle.reduction.proofs.candidates.find_three.Statement.{statement}
 use Rattle.reduction.proofs.candidates.find_three.Tie as tie
 
@@ -33,7 +33,7 @@ goes_on : (row v : List ℤ) (t : Three) (b : ℤ) (j r : ℕ) → 3 ≤ j → m
     → NextBelow (at row v) (to_z w64 (of_z w64 b)) j (length row) r → Head row v t r
 goes_on row v t b j r h fits same e q =
     let m = subst (λ (z : ℤ). NextBelow (at row v) z j (length row) r) (read_back w64 b fits ∙ same) q in
-    (omega (arith, m.on), m.most, pass-found (at row v) j t e r m.on m.passed, m.below)
+    (omega (arith, m.on), m.most, pass_found (at row v) j t e r m.on m.passed, m.below)
 
 abbrev invariant-loop : tie.invariant-loop
 invariant-loop row v three₀ j₀ three j = Head row v three j

@@ -6,7 +6,7 @@ use mir.Syntax.{w64}
 use Rattle.ints.proofs.Bits.{read_back}
 use Rattle.assignment.specs.Pairings.{signed_at}
 use Rattle.rules.specs.Lowest.{low}
-use Rattle.reduction.proofs.Bits.{reduced-back}
+use Rattle.reduction.proofs.Bits.{reduced_back}
 use Rattle.reduction.proofs.candidates.low_at.Statement.{statement}
 use Rattle.reduction.proofs.candidates.low_at.Tie as tie
 
@@ -33,7 +33,7 @@ returns c =
     let u = s.args in
     let r = c.reduced-cost in
     ap (λ (z : ℤ). low z u.j)
-    (reduced-back (signed_at u.row.now u.j) (signed_at u.v.now u.j) r.result c.before.before.reduced-cost-arg.given c.before.reduced-cost-arg2.given r.type-inv
+    (reduced_back (signed_at u.row.now u.j) (signed_at u.v.now u.j) r.result c.before.before.reduced-cost-arg.given c.before.reduced-cost-arg2.given r.type-inv
     r.ensures)
 
 pub low-at-spec : {M : Type 1} → statement M

@@ -6,7 +6,7 @@ use borrow.Author.Rules.{rules}
 use lib.ListN.{set, length-set}
 use mir.Syntax.{w64}
 use Rattle.ints.proofs.Bits.{read_back}
-use Rattle.reduction.proofs.Rooms.{told-read}
+use Rattle.reduction.proofs.Rooms.{told_read}
 use Rattle.reduction.proofs.candidates.read.Statement.{statement}
 use Rattle.reduction.proofs.candidates.read.Tie as tie
 
@@ -49,7 +49,7 @@ slice-write-kept-2 c =
     let e = finding c.before in
     let s = start e in
     let u = s.args in
-    omega (arith, s.pre.2.kept-size, s.pre.3, length-set u.kept.now (3 * u.i) e.find-three.result.first.place)
+    omega (arith, s.pre.2.kept_size, s.pre.3, length-set u.kept.now (3 * u.i) e.find-three.result.first.place)
 
 cast-kept-3 : tie.Need-overflow-cast-kept-3
 cast-kept-3 c = let d = finding c.before.before in omega (arith, d.find-three.ensures.places.kept.r_inside, (start d).pre.4)
@@ -71,7 +71,7 @@ slice-write-kept-3 c =
     let t = e.find-three.result in
     omega (
       arith,
-      s.pre.2.kept-size,
+      s.pre.2.kept_size,
       s.pre.3,
       length-set u.kept.now (3 * u.i) t.first.place,
       length-set (set u.kept.now (3 * u.i) t.first.place) (3 * u.i + 1) t.second.place,
@@ -97,7 +97,7 @@ returns c =
     let d = c.before in
     let e = finding d.before.before in
     let s = start e in
-    told-read _ _ s.args.i s.args.kept.now s.args.limits.now e.find-three.result _ s.pre.2 s.pre.3 e.find-three.ensures
+    told_read _ _ s.args.i s.args.kept.now s.args.limits.now e.find-three.result _ s.pre.2 s.pre.3 e.find-three.ensures
     (read_back w64 c.limit.result c.limit.type-inv ∙ c.limit.ensures)
 
 pub read_spec : {M : Type 1} → statement M

@@ -8,7 +8,7 @@ use mir.Syntax.{w64}
 use Rattle.ints.proofs.Bits.{read_back}
 use Rattle.assignment.specs.Pairings.{signed_at}
 use Rattle.reduction.specs.Candidates.{seen}
-use Rattle.reduction.proofs.Rooms.{told-settled, told-seen, recallable}
+use Rattle.reduction.proofs.Rooms.{told_settled, told_seen, recallable}
 use Rattle.reduction.proofs.candidates.two_lowest.Statement.{statement}
 use Rattle.reduction.proofs.candidates.two_lowest.Tie as tie
 
@@ -47,7 +47,7 @@ same_length : tie.Need-same-length
 same_length c = search rules
 
 returns-2 : tie.Need-returns-2
-returns-2 c = let s = start c.before.before in told-seen c.find-umins-plain2.ensures (omega (arith, s.pre.1.limits-size, s.pre.2))
+returns-2 c = let s = start c.before.before in told_seen c.find-umins-plain2.ensures (omega (arith, s.pre.1.limits_size, s.pre.2))
 
 recall-requires : tie.Need-recall-requires
 recall-requires c κs =
@@ -67,7 +67,7 @@ returns-3 c =
     let t = r.before.before in
     let d = t.before.before in
     let s = start d in
-    told-settled s.pre.4 (is-limit t) r.recall.ensures
+    told_settled s.pre.4 (is-limit t) r.recall.ensures
     (rw (read_back w64 (signed_at s.args.limits.now s.args.i) d.limit.given) at (sym c.before.settled.ensures ∙ c.if4.true))
 
 read-requires : tie.Need-read-requires

@@ -5,23 +5,23 @@ use borrow.Author.Rules.{rules}
 use lib.ListN.{length}
 use Rattle.assignment.specs.Pairings.{square}
 use Rattle.rules.specs.Columns.{Claims, claims}
-use Rattle.matrix.proofs.SmallLimits.{side-small}
+use Rattle.matrix.proofs.SmallLimits.{side_small}
 use Rattle.reduction.specs.Columns.{claims_of}
-use Rattle.reduction.proofs.Stages.{room_lent, front_lent, Cleared, ready, claims_are, cleared, claims_claimable, ready_to_transfer, stage-ends, room-ends, after-length}
+use Rattle.reduction.proofs.Stages.{room_lent, front_lent, Cleared, ready, claims_are, cleared, claims_claimable, ready_to_transfer, stage_ends, room_ends, after_length}
 use Rattle.reduction.proofs.columns.ccrrt_dense.Statement.{statement}
 use Rattle.reduction.proofs.columns.ccrrt_dense.Tie as tie
 
 add-n3 : tie.Need-overflow-add-n3
-add-n3 c = omega (arith, side-small, c.before.before.before.requires.squared.small)
+add-n3 c = omega (arith, side_small, c.before.before.before.requires.squared.small)
 
 add-n3-2 : tie.Need-overflow-add-n3-2
-add-n3-2 c = omega (arith, side-small, c.before.before.before.requires.squared.small)
+add-n3-2 c = omega (arith, side_small, c.before.before.before.requires.squared.small)
 
 add-n4 : tie.Need-overflow-add-n4
-add-n4 c = omega (arith, side-small, c.before.before.before.requires.squared.small)
+add-n4 c = omega (arith, side_small, c.before.before.before.requires.squared.small)
 
 minima-requires : tie.Need-minima-requires
-minima-requires c κs = let h = c.before.before.before.before.before.requires in (h.squared, h.rows-size, h.prices-size, h.some)
+minima-requires c κs = let h = c.before.before.before.before.before.requires in (h.squared, h.rows_size, h.prices_size, h.some)
 
 fill-requires : tie.Need-fill-requires
 fill-requires c κs = search rules
@@ -119,13 +119,13 @@ same_length : tie.Need-same-length
 same_length c =
     let d = claiming (clearing c) in
     let s = start (filling d) in
-    ap (λ (x : Claims). length x.cols) (claimed d) ∙ (claims_claimable s.args.n (square s.args.n s.args.costs.now).cost).cols-size ∙ sym s.pre.cols-size
+    ap (λ (x : Claims). length x.cols) (claimed d) ∙ (claims_claimable s.args.n (square s.args.n s.args.costs.now).cost).cols_size ∙ sym s.pre.cols_size
 
 same-length-2 : tie.Need-same-length-2
 same-length-2 c =
     let d = claiming (clearing c) in
     let s = start (filling d) in
-    ap (λ (x : Claims). length x.rows) (claimed d) ∙ (claims_claimable s.args.n (square s.args.n s.args.costs.now).cost).rows-size ∙ sym s.pre.rows-size
+    ap (λ (x : Claims). length x.rows) (claimed d) ∙ (claims_claimable s.args.n (square s.args.n s.args.costs.now).cost).rows_size ∙ sym s.pre.rows_size
 
 same-length-3 : tie.Need-same-length-3
 same-length-3 c =
@@ -136,14 +136,14 @@ same-length-4 : tie.Need-same-length-4
 same-length-4 c =
     let z = clearing c in
     let s = start (filling (claiming z)) in
-    after-length s.pre (at_clear z) (rows-claimed z) c.before.before.before.transfers.ensures ∙ sym s.pre.room-size
+    after_length s.pre (at_clear z) (rows-claimed z) c.before.before.before.transfers.ensures ∙ sym s.pre.room_size
 
 returns : tie.Need-returns
 returns c =
     let z = clearing c in
     let h = (start (filling (claiming z))).requires in
     let t = c.before.before.before.transfers.ensures in
-    (stage-ends h (at_clear z) (rows-claimed z) t, room-ends h (at_clear z) (rows-claimed z) t)
+    (stage_ends h (at_clear z) (rows-claimed z) t, room_ends h (at_clear z) (rows-claimed z) t)
 
 pub ccrrt-dense-spec : {M : Type 1} → statement M
 ccrrt-dense-spec =

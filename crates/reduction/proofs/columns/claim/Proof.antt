@@ -3,7 +3,7 @@ use Prim.Native.Nat.{◌<◌}
 use native.Mathlib.Omega.{arith}
 use borrow.Author.Rules.{rules}
 use Rattle.lists.specs.Permutations.{at}
-use Rattle.matrix.proofs.SmallLimits.{side-small}
+use Rattle.matrix.proofs.SmallLimits.{side_small}
 use Rattle.reduction.specs.Columns.{claims_of}
 use Rattle.reduction.proofs.Claims.{claim_wins, claim_loses}
 use Rattle.reduction.proofs.columns.claim.Statement.{statement}
@@ -19,28 +19,28 @@ slice-read-i : tie.Need-slice-read-i
 slice-read-i c = search rules
 
 cast-i : tie.Need-overflow-cast-i
-cast-i c = omega (arith, side-small, row_below c.before)
+cast-i c = omega (arith, side_small, row_below c.before)
 
 mul-if1 : tie.Need-overflow-mul-if1
-mul-if1 c = omega (arith, side-small, row_below c.before)
+mul-if1 c = omega (arith, side_small, row_below c.before)
 
 slice-read-if1 : tie.Need-slice-read-if1
-slice-read-if1 c = omega (arith, row_below c.before.before, c.before.before.requires.2.marks-size)
+slice-read-if1 c = omega (arith, row_below c.before.before, c.before.before.requires.2.marks_size)
 
 cast-cols : tie.Need-overflow-cast-cols
-cast-cols c = omega (arith, side-small)
+cast-cols c = omega (arith, side_small)
 
 mul-cols : tie.Need-overflow-mul-cols
-mul-cols c = omega (arith, side-small, row_below c.before.before.before)
+mul-cols c = omega (arith, side_small, row_below c.before.before.before)
 
 slice-write-cols : tie.Need-slice-write-cols
-slice-write-cols c = omega (arith, row_below c.before.before.before, c.before.before.before.requires.2.cols-size)
+slice-write-cols c = omega (arith, row_below c.before.before.before, c.before.before.before.requires.2.cols_size)
 
 mul-marks : tie.Need-overflow-mul-marks
-mul-marks c = omega (arith, side-small, row_below c.before.before.before)
+mul-marks c = omega (arith, side_small, row_below c.before.before.before)
 
 slice-write-marks : tie.Need-slice-write-marks
-slice-write-marks c = omega (arith, row_below c.before.before.before, c.before.before.before.requires.2.marks-size)
+slice-write-marks c = omega (arith, row_below c.before.before.before, c.before.before.before.requires.2.marks_size)
 
 mul-rows : tie.Need-overflow-mul-rows
 mul-rows c = search rules
@@ -49,10 +49,10 @@ slice-write-rows : tie.Need-slice-write-rows
 slice-write-rows c = search rules
 
 mul-marks-2 : tie.Need-overflow-mul-marks-2
-mul-marks-2 c = omega (arith, side-small, row_below c.before.before.before)
+mul-marks-2 c = omega (arith, side_small, row_below c.before.before.before)
 
 slice-write-marks-2 : tie.Need-slice-write-marks-2
-slice-write-marks-2 c = omega (arith, row_below c.before.before.before, c.before.before.before.requires.2.marks-size)
+slice-write-marks-2 c = omega (arith, row_below c.before.before.before, c.before.before.before.requires.2.marks_size)
 
 same_length : tie.Need-same-length
 same_length c = search rules

@@ -41,13 +41,13 @@ loop-again c =
     (omega arith, head_next a.loop.invariant.1 _ (omega arith) _ d.claim.ensures)
 
 same_length : tie.Need-same-length invariant-loop decreases-loop
-same_length c = c.before.loop.invariant.1.claimable.cols-size ∙ sym c.before.before.before.before.before.requires.1.cols-size
+same_length c = c.before.loop.invariant.1.claimable.cols_size ∙ sym c.before.before.before.before.before.requires.1.cols_size
 
 same-length-2 : tie.Need-same-length-2 invariant-loop decreases-loop
-same-length-2 c = c.before.loop.invariant.1.claimable.rows-size ∙ sym c.before.before.before.before.before.requires.1.rows-size
+same-length-2 c = c.before.loop.invariant.1.claimable.rows_size ∙ sym c.before.before.before.before.before.requires.1.rows_size
 
 same-length-3 : tie.Need-same-length-3 invariant-loop decreases-loop
-same-length-3 c = c.before.loop.invariant.1.claimable.marks-size ∙ sym c.before.before.before.before.before.requires.1.marks-size
+same-length-3 c = c.before.loop.invariant.1.claimable.marks_size ∙ sym c.before.before.before.before.before.requires.1.marks_size
 
 returns : tie.Need-returns invariant-loop decreases-loop
 returns c = head_ends c.before.loop.invariant.1 (omega arith)

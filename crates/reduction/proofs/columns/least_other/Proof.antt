@@ -11,8 +11,8 @@ use mir.Syntax.{w64}
 use Rattle.ints.proofs.Bits.{read_back}
 use Rattle.assignment.specs.Pairings.{signed_at}
 use Rattle.rules.specs.Lowest.{least, least_but}
-use Rattle.reduction.proofs.Bits.{reduced-back}
-use Rattle.reduction.proofs.Turns.{least_but_none, least_but-same, least_but_other, least_but-pass}
+use Rattle.reduction.proofs.Bits.{reduced_back}
+use Rattle.reduction.proofs.Turns.{least_but_none, least_but-same, least_but_other, least_but_pass}
 use Rattle.reduction.proofs.columns.least_other.Statement.{statement}
 use Rattle.reduction.proofs.columns.least_other.Tie as tie
 
@@ -68,10 +68,10 @@ loop-again c =
     let k = l.k in
     let m = c.next-least.ensures in (
       m.most,
-      least_but-pass f d.if1.found u.j (k + 1) c.next-least.result m.on
+      least_but_pass f d.if1.found u.j (k + 1) c.next-least.result m.on
           (⊎_elim
           (λ w. w.5 ∙ w.4.ensures ∙ ap₂ least l.invariant.1
-          (reduced-back (signed_at u.row.now k) (signed_at u.v.now k) w.3.result w.1.given w.2.given w.3.ok w.3.ensures) ∙ sym
+          (reduced_back (signed_at u.row.now k) (signed_at u.v.now k) w.3.result w.1.given w.2.given w.3.ok w.3.ensures) ∙ sym
           (least_but_other f u.j k w.0.taken))
           (λ w. w.1 ∙ l.invariant.1 ∙ sym (least_but-same f u.j k w.0.left))
           d.if1.branch) m.passed,

@@ -10,7 +10,7 @@ use Rattle.rules.specs.Lowest.{reduced, least_but}
 use Rattle.rules.specs.Columns.{less_least}
 use Rattle.reduction.specs.Columns.{NearLeast}
 use Rattle.reduction.proofs.Nearness.{least_but-near}
-use Rattle.reduction.proofs.RowParts.{row-length, row-least_but}
+use Rattle.reduction.proofs.RowParts.{row_length, row_least_but}
 use Rattle.reduction.proofs.columns.lower_column.Statement.{statement}
 use Rattle.reduction.proofs.columns.lower_column.Tie as tie
 
@@ -20,7 +20,7 @@ row-requires c κs = (c.requires.1, c.requires.0.size)
 least-other-requires : tie.Need-least-other-requires
 least-other-requires c κs =
     let s = c.before.before in
-    let l = row-length s.args.n s.args.i s.args.costs.now c.before.row.result.now s.requires.1 s.requires.0.size c.before.row.ensures in
+    let l = row_length s.args.n s.args.i s.args.costs.now c.before.row.result.now s.requires.1 s.requires.0.size c.before.row.ensures in
     (s.requires.3 ∙ sym l, λ k h. s.requires.4 k (omega arith))
 
 least_is : (c : tie.After-least-other)
@@ -29,7 +29,7 @@ least_is : (c : tie.After-least-other)
 least_is c =
     let s = c.before.before.before in
     let u = s.args in
-    c.least_other.ensures ∙ row-least_but u.n u.i u.costs.now c.before.before.row.result.now s.requires.1 s.requires.0.size c.before.before.row.ensures u.v.now u.j
+    c.least_other.ensures ∙ row_least_but u.n u.i u.costs.now c.before.before.row.result.now s.requires.1 s.requires.0.size c.before.before.row.ensures u.v.now u.j
 
 mul-less-least : tie.Need-overflow-mul-less-least
 mul-less-least c = search rules

@@ -16,7 +16,7 @@ use Rattle.lists.proofs.Tables.{filled_none, filled_more, filled-length, filled_
 use Rattle.assignment.specs.Pairings.{signed_at}
 use Rattle.rules.specs.declared.Low.{Low}
 use Rattle.rules.specs.Lowest.{low}
-use Rattle.matrix.proofs.SmallLimits.{side-small}
+use Rattle.matrix.proofs.SmallLimits.{side_small}
 use Rattle.reduction.specs.Columns.{low_at}
 use Rattle.reduction.proofs.columns.lower_minima.Statement.{statement}
 use Rattle.reduction.proofs.columns.lower_minima.Tie as tie
@@ -79,7 +79,7 @@ slice-set-from-cost : tie.Need-slice-set-from-cost invariant-loop decreases-loop
 slice-set-from-cost c = search rules
 
 cast-rows : tie.Need-overflow-cast-rows invariant-loop decreases-loop
-cast-rows c = omega (arith, side-small, c.before.before.before.before.before.requires.0)
+cast-rows c = omega (arith, side_small, c.before.before.before.before.before.requires.0)
 
 mul-rows : tie.Need-overflow-mul-rows invariant-loop decreases-loop
 mul-rows c = search rules

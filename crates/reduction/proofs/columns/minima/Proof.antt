@@ -6,7 +6,7 @@ use borrow.Author.Rules.{rules}
 use lib.ListN.{length}
 use Rattle.lists.specs.Permutations.{table}
 use Rattle.lists.proofs.Tables.{length-table}
-use Rattle.reduction.proofs.RowParts.{row-length}
+use Rattle.reduction.proofs.RowParts.{row_length}
 use Rattle.reduction.proofs.Minima.{lowest_of, places, values, places_one, values_one, places_more, values_more}
 use Rattle.reduction.proofs.columns.minima.Statement.{statement}
 use Rattle.reduction.proofs.columns.minima.Tie as tie
@@ -26,7 +26,7 @@ row-requires c κs = let h = c.before.before.before.before.before.requires in (h
 widen-requires : tie.Need-widen-requires invariant-loop decreases-loop
 widen-requires c κs =
     let s = c.before.before.before.before.before.before.before in
-    s.requires.2 ∙ sym (row-length s.args.n 0 s.args.costs.now c.before.row.result.now s.requires.3 s.requires.0.size c.before.row.ensures)
+    s.requires.2 ∙ sym (row_length s.args.n 0 s.args.costs.now c.before.row.result.now s.requires.3 s.requires.0.size c.before.row.ensures)
 
 loop-holds : tie.Need-loop-init invariant-loop decreases-loop
 loop-holds c =
@@ -44,13 +44,13 @@ loop-holds c =
 abbrev start : tie.At-loop invariant-loop decreases-loop → tie.Start invariant-loop decreases-loop
 start c = c.before.before.before.before.before.before.before.before.before.before
 
-rows-size : (c : tie.At-loop invariant-loop decreases-loop) → length c.loop.rows ≡ (start c).args.n
-rows-size c =
+rows_size : (c : tie.At-loop invariant-loop decreases-loop) → length c.loop.rows ≡ (start c).args.n
+rows_size c =
     let u = (start c).args in
     ap length c.loop.invariant.2 ∙ length-table u.n (λ j. (lowest_of u.n u.costs.now c.loop.i j).place)
 
-prices-size : (c : tie.At-loop invariant-loop decreases-loop) → length c.loop.v ≡ (start c).args.n
-prices-size c =
+prices_size : (c : tie.At-loop invariant-loop decreases-loop) → length c.loop.v ≡ (start c).args.n
+prices_size c =
     let u = (start c).args in
     ap length c.loop.invariant.3 ∙ length-table u.n (λ j. (lowest_of u.n u.costs.now c.loop.i j).value)
 
@@ -62,8 +62,8 @@ lower-minima-requires c κs =
     let d = c.before.before in
     let a = d.before.before in
     let s = start a in
-    let l = row-length s.args.n a.loop.i s.args.costs.now d.row2.result.now d.before.loop-test.true s.pre.0.size d.row2.ensures in
-    (omega (arith, s.pre.0.small, a.loop.invariant.1), rows-size a ∙ sym l, prices-size a ∙ sym l)
+    let l = row_length s.args.n a.loop.i s.args.costs.now d.row2.result.now d.before.loop-test.true s.pre.0.size d.row2.ensures in
+    (omega (arith, s.pre.0.small, a.loop.invariant.1), rows_size a ∙ sym l, prices_size a ∙ sym l)
 
 add-i : tie.Need-overflow-add-i invariant-loop decreases-loop
 add-i c = search rules
@@ -88,10 +88,10 @@ loop-again c =
     )
 
 same_length : tie.Need-same-length invariant-loop decreases-loop
-same_length c = rows-size c.before ∙ sym (start c.before).pre.1
+same_length c = rows_size c.before ∙ sym (start c.before).pre.1
 
 same-length-2 : tie.Need-same-length-2 invariant-loop decreases-loop
-same-length-2 c = prices-size c.before ∙ sym (start c.before).pre.2
+same-length-2 c = prices_size c.before ∙ sym (start c.before).pre.2
 
 returns : tie.Need-returns invariant-loop decreases-loop
 returns c =

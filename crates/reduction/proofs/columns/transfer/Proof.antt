@@ -7,14 +7,14 @@ use borrow.Author.Rules.{rules}
 use lib.IntN.{ℤ}
 use Rattle.assignment.specs.Pairings.{square}
 use Rattle.rules.specs.Columns.{lower_column}
-use Rattle.matrix.proofs.SmallLimits.{side-small}
+use Rattle.matrix.proofs.SmallLimits.{side_small}
 use Rattle.reduction.specs.Columns.{transfer_of}
 use Rattle.reduction.proofs.Transfers.{transfer_joins, transfer_lowers, transfer_passes}
 use Rattle.reduction.proofs.columns.transfer.Statement.{statement}
 use Rattle.reduction.proofs.columns.transfer.Tie as tie
 
 cast-frees : tie.Need-overflow-cast-frees
-cast-frees c = omega (arith, side-small, c.before.before.requires.0.small)
+cast-frees c = omega (arith, side_small, c.before.before.requires.0.small)
 
 mul-frees : tie.Need-overflow-mul-frees
 mul-frees c = search rules

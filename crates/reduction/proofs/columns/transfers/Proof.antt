@@ -5,9 +5,9 @@ use Prim.Native.Nat.{ℕ, ◌+◌, ◌≤◌, ◌-◌}
 use native.Mathlib.Omega.{arith}
 use borrow.Author.Rules.{rules}
 use Rattle.lists.specs.Parts.{part}
-use Rattle.matrix.proofs.SmallLimits.{side-small}
+use Rattle.matrix.proofs.SmallLimits.{side_small}
 use Rattle.reduction.specs.Columns.{claims_of, Transferred, transferring}
-use Rattle.reduction.proofs.Transfers.{run_none, run_next, room_sized, prices_sized, count_at_most, frees_sized, mark_is, prices-near}
+use Rattle.reduction.proofs.Transfers.{run_none, run_next, room_sized, prices_sized, count_at_most, frees_sized, mark_is, prices_near_lem}
 use Rattle.reduction.proofs.columns.transfers.Statement.{statement}
 use Rattle.reduction.proofs.columns.transfers.Tie as tie
 
@@ -19,10 +19,10 @@ abbrev decreases-loop : tie.decreases-loop
 decreases-loop n costs cols v₀ room₀ n3 count₀ i₀ v room count i = n - i
 
 add-n3 : tie.Need-overflow-add-n3 invariant-loop decreases-loop
-add-n3 c = omega (arith, side-small, c.before.before.requires.squared.small)
+add-n3 c = omega (arith, side_small, c.before.before.requires.squared.small)
 
 add-n3-2 : tie.Need-overflow-add-n3-2 invariant-loop decreases-loop
-add-n3-2 c = omega (arith, side-small, c.before.before.requires.squared.small)
+add-n3-2 c = omega (arith, side_small, c.before.before.requires.squared.small)
 
 loop-holds : tie.Need-loop-init invariant-loop decreases-loop
 loop-holds c = (omega arith, refl, run_none c.before.before.requires)
@@ -31,25 +31,25 @@ abbrev start : tie.At-loop invariant-loop decreases-loop → tie.Start invariant
 start c = c.before.before.before
 
 add-mark : tie.Need-overflow-add-mark invariant-loop decreases-loop
-add-mark c = omega (arith, side-small, (start c.before).pre.squared.small, c.before.loop.invariant.0)
+add-mark c = omega (arith, side_small, (start c.before).pre.squared.small, c.before.loop.invariant.0)
 
 mul-mark : tie.Need-overflow-mul-mark invariant-loop decreases-loop
-mul-mark c = omega (arith, side-small, (start c.before).pre.squared.small, c.before.loop.invariant.0)
+mul-mark c = omega (arith, side_small, (start c.before).pre.squared.small, c.before.loop.invariant.0)
 
 slice-read-mark : tie.Need-slice-read-mark invariant-loop decreases-loop
 slice-read-mark c = let a = c.before.before in omega (arith, room_sized (start a).requires a.loop.i a.loop.invariant.2)
 
 mul-j : tie.Need-overflow-mul-j invariant-loop decreases-loop
-mul-j c = omega (arith, side-small, (start c.before.before).pre.squared.small)
+mul-j c = omega (arith, side_small, (start c.before.before).pre.squared.small)
 
 shared-slice-read-j : tie.Need-shared-slice-read-j invariant-loop decreases-loop
-shared-slice-read-j c = omega (arith, (start c.before.before.before).pre.cols-size)
+shared-slice-read-j c = omega (arith, (start c.before.before.before).pre.cols_size)
 
 cast-j : tie.Need-overflow-cast-j invariant-loop decreases-loop
 cast-j c =
     omega (
       arith,
-      side-small,
+      side_small,
       (start c.before.before.before).pre.squared.small,
       (start c.before.before.before).pre.col_below
           c.before.before.before.loop.i c.before.before.loop-test.true,
@@ -71,7 +71,7 @@ transfer-requires c κs =
     let i = a.loop.i in
     let l = c.before.before.before.before.loop-test.true in
     let h = a.loop.invariant.2 in
-    (t.squared, l, t.col_below i l, prices_sized t i h, prices-near t i h l, frees_sized t i h, omega (arith, count_at_most t i h))
+    (t.squared, l, t.col_below i l, prices_sized t i h, prices_near_lem t i h l, frees_sized t i h, omega (arith, count_at_most t i h))
 
 add-i : tie.Need-overflow-add-i invariant-loop decreases-loop
 add-i c = search rules
@@ -96,10 +96,10 @@ loop-again c =
     )
 
 same_length : tie.Need-same-length invariant-loop decreases-loop
-same_length c = let t = (start c.before).pre in prices_sized t c.before.loop.i c.before.loop.invariant.2 ∙ sym t.prices-size
+same_length c = let t = (start c.before).pre in prices_sized t c.before.loop.i c.before.loop.invariant.2 ∙ sym t.prices_size
 
 same-length-2 : tie.Need-same-length-2 invariant-loop decreases-loop
-same-length-2 c = let t = (start c.before).pre in room_sized t c.before.loop.i c.before.loop.invariant.2 ∙ sym t.room-size
+same-length-2 c = let t = (start c.before).pre in room_sized t c.before.loop.i c.before.loop.invariant.2 ∙ sym t.room_size
 
 returns : tie.Need-returns invariant-loop decreases-loop
 returns c =

@@ -16,8 +16,8 @@ use Rattle.rules.specs.declared.TwoLowest.TheVariants.{One, Two}
 use Rattle.rules.specs.Lowest.{low, beside, two_lowest}
 use Rattle.reduction.specs.declared.lowest.Pair.{Pair}
 use Rattle.reduction.specs.Ranges.{NextBelow}
-use Rattle.reduction.proofs.Bits.{reduced-back}
-use Rattle.reduction.proofs.Turns.{two_lowest_one, two_lowest_two, two_lowest-pass, two_lowest-count}
+use Rattle.reduction.proofs.Bits.{reduced_back}
+use Rattle.reduction.proofs.Turns.{two_lowest_one, two_lowest_two, two_lowest_pass, two_lowest-count}
 use Rattle.reduction.proofs.lowest.find_umins_plain.Statement.{statement}
 use Rattle.reduction.proofs.lowest.find_umins_plain.Tie as tie
 
@@ -35,7 +35,7 @@ goes_on : (row v : List ℤ) (two : Pair) (b : ℤ) (j r : ℕ) → 2 ≤ j → 
     → Two two.lowest two.second ≡ two_lowest j (at row v) → NextBelow (at row v) (to_z w64 (of_z w64 b)) j (length row) r → Head row v two r
 goes_on row v two b j r h fits same e q =
     let m = subst (λ (z : ℤ). NextBelow (at row v) z j (length row) r) (read_back w64 b fits ∙ same) q in
-    (omega (arith, m.on), m.most, two_lowest-pass (at row v) two.lowest two.second j r (omega arith) m.on e m.passed, m.below)
+    (omega (arith, m.on), m.most, two_lowest_pass (at row v) two.lowest two.second j r (omega arith) m.on e m.passed, m.below)
 
 abbrev invariant-loop : tie.invariant-loop
 invariant-loop row v two₀ j₀ two j = Head row v two j
@@ -60,7 +60,7 @@ returns c =
     let s = d.before.before.before in
     let u = s.args in
     let r = d.reduced-cost in
-    ap (λ (z : ℤ). One (low z 0)) (reduced-back (signed_at u.row.now 0) (signed_at u.v.now 0) r.result d.before.before.reduced-cost-arg.given d.before.reduced-cost-arg2.given r.type-inv r.ensures)
+    ap (λ (z : ℤ). One (low z 0)) (reduced_back (signed_at u.row.now 0) (signed_at u.v.now 0) r.result d.before.before.reduced-cost-arg.given d.before.reduced-cost-arg2.given r.type-inv r.ensures)
     ∙ sym (two_lowest_one (at u.row.now u.v.now)) ∙ ap (λ (m : ℕ). two_lowest m (at u.row.now u.v.now)) (sym c.if1.true)
 
 shared-slice-copy-out-reduced-cost-3 : tie.Need-shared-slice-copy-out-reduced-cost-3 invariant-loop decreases-loop
@@ -94,8 +94,8 @@ loop-holds c =
     let f = at u.row.now u.v.now in
     let a = d.reduced-cost in
     let b = e.reduced-cost2 in
-    let x = reduced-back (signed_at u.row.now 0) (signed_at u.v.now 0) a.result d.before.before.reduced-cost-arg.given d.before.reduced-cost-arg2.given a.type-inv a.ensures in
-    let y = reduced-back (signed_at u.row.now 1) (signed_at u.v.now 1) b.result e.before.before.reduced-cost-arg3.given e.before.reduced-cost-arg4.given b.type-inv b.ensures in
+    let x = reduced_back (signed_at u.row.now 0) (signed_at u.v.now 0) a.result d.before.before.reduced-cost-arg.given d.before.reduced-cost-arg2.given a.type-inv a.ensures in
+    let y = reduced_back (signed_at u.row.now 1) (signed_at u.v.now 1) b.result e.before.before.reduced-cost-arg3.given e.before.reduced-cost-arg4.given b.type-inv b.ensures in
     goes_on u.row.now u.v.now c.before.before.beside.result c.before.bound.result 2 c.next-below.result (omega arith) c.before.bound.type-inv c.before.bound.ensures
     (c.before.before.beside.ensures ∙ ap₂ (λ (p q : ℤ). beside (low p 0) (low q 1)) x y ∙ sym (two_lowest_two f))
     c.next-below.ensures
@@ -151,7 +151,7 @@ loop-again c =
     let u = (start t.before).args in
     let f = at u.row.now u.v.now in
     let a = d.reduced-cost3 in
-    let x = reduced-back (signed_at u.row.now l.j) (signed_at u.v.now l.j) a.result d.before.before.reduced-cost-arg5.given d.before.reduced-cost-arg6.given a.type-inv a.ensures in
+    let x = reduced_back (signed_at u.row.now l.j) (signed_at u.v.now l.j) a.result d.before.before.reduced-cost-arg5.given d.before.reduced-cost-arg6.given a.type-inv a.ensures in
     goes_on u.row.now u.v.now e.beside2.result c.before.bound2.result (l.j + 1) c.next-below2.result (omega (arith, l.invariant.0)) c.before.bound2.type-inv c.before.bound2.ensures
     (e.beside2.ensures ∙ ap (λ (z : ℤ). beside l.two.lowest (low z l.j)) x
     ∙ two_lowest-count f l.two.lowest l.two.second l.j (omega (arith, l.invariant.0)) l.invariant.2 (l.invariant.3 t.loop-test.true))

@@ -46,8 +46,8 @@ loop-holds c =
     let marked = d.forget.ensures ∙ ap (λ (k : ℕ). table k (λ i. unseen)) s.requires.2 in (
       head_start s.requires.0,
       record {
-        room-size = s.requires.1;
-        limits-size = d.forget.auto.0 ∙ s.requires.2;
+        room_size = s.requires.1;
+        limits_size = d.forget.auto.0 ∙ s.requires.2;
         kept = kept_none u.n (square u.n u.costs.now).cost u.v.now (part u.n (u.n + u.n + u.n) u.room.now) _ marked;
       },
     )
@@ -73,19 +73,19 @@ loop-again c =
     (head_next (start a).pre.0 (passing-at a) a.loop.inv.0 t.if1.taken _ l.look.ensures.0, l.look.ensures.1)
 
 same_length : tie.Need-same-length invariant-loop decreases-loop
-same_length c = let a = c.before.before in (sized (start a).requires.0 (passing-at a) a.loop.invariant.0).cols-size ∙ sym (start a).requires.0.cols-size
+same_length c = let a = c.before.before in (sized (start a).requires.0 (passing-at a) a.loop.invariant.0).cols_size ∙ sym (start a).requires.0.cols_size
 
 same-length-2 : tie.Need-same-length-2 invariant-loop decreases-loop
-same-length-2 c = let a = c.before.before in (sized (start a).requires.0 (passing-at a) a.loop.invariant.0).rows-size ∙ sym (start a).requires.0.rows-size
+same-length-2 c = let a = c.before.before in (sized (start a).requires.0 (passing-at a) a.loop.invariant.0).rows_size ∙ sym (start a).requires.0.rows_size
 
 same-length-3 : tie.Need-same-length-3 invariant-loop decreases-loop
-same-length-3 c = let a = c.before.before in (sized (start a).requires.0 (passing-at a) a.loop.invariant.0).prices-size ∙ sym (start a).requires.0.prices-size
+same-length-3 c = let a = c.before.before in (sized (start a).requires.0 (passing-at a) a.loop.invariant.0).prices_size ∙ sym (start a).requires.0.prices_size
 
 same-length-4 : tie.Need-same-length-4 invariant-loop decreases-loop
-same-length-4 c = let a = c.before.before in a.loop.invariant.1.room-size ∙ sym (start a).requires.1
+same-length-4 c = let a = c.before.before in a.loop.invariant.1.room_size ∙ sym (start a).requires.1
 
 same-length-5 : tie.Need-same-length-5 invariant-loop decreases-loop
-same-length-5 c = let a = c.before.before in a.loop.invariant.1.limits-size ∙ sym (start a).requires.2
+same-length-5 c = let a = c.before.before in a.loop.invariant.1.limits_size ∙ sym (start a).requires.2
 
 returns : tie.Need-returns invariant-loop decreases-loop
 returns c = let a = c.before.before in head_ends (start a).requires.0 (passing-at a) a.loop.invariant.0 c.if1.false

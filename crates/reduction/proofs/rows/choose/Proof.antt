@@ -6,10 +6,10 @@ use mir.Syntax.{w64}
 use mir.Val.{to_z, of_z}
 use mir.Facts.{to_z-of_z}
 use Rattle.rules.specs.declared.TwoLowest.TheVariants.{Two}
-use Rattle.matrix.proofs.SmallLimits.{side-small}
+use Rattle.matrix.proofs.SmallLimits.{side_small}
 use Rattle.reduction.specs.Rows.{Inside}
 use Rattle.reduction.proofs.Nearness.{twice_fits}
-use Rattle.reduction.proofs.Choices.{choose_one, choose_lowers, choose-second, choose-first, choose_late}
+use Rattle.reduction.proofs.Choices.{choose_one, choose_lowers, choose_second, choose-first, choose_late}
 use Rattle.reduction.proofs.rows.choose.Statement.{statement}
 use Rattle.reduction.proofs.rows.choose.Tie as tie
 
@@ -40,7 +40,7 @@ lower-price-requires c κs =
     (omega (arith, s.requires.1, (inside t).0), s.requires.3 t.two2.given.0.0.place (inside t).0, rw (lowest-back t) (inside t).2, rw (second_back t) (inside t).3)
 
 mul-i0 : tie.Need-overflow-mul-i0
-mul-i0 c = omega (arith, side-small, c.before.before.before.before.before.before.before.before.requires.0, (inside c.before.before.before.before.before).0)
+mul-i0 c = omega (arith, side_small, c.before.before.before.before.before.before.before.before.requires.0, (inside c.before.before.before.before.before).0)
 
 shared-slice-read-i0 : tie.Need-shared-slice-read-i0
 shared-slice-read-i0 c = omega (arith, c.before.before.before.before.before.before.before.before.before.requires.2, (inside c.before.before.before.before.before.before).0)
@@ -88,7 +88,7 @@ returns-3 : tie.Need-returns-3
 returns-3 c =
     let t = c.before.before.before.before.before.before.before.before in
     let u = t.before.before.before.args in
-    c.keep-price2.ensures ∙ choose-second u.n u.early u.v.now u.rows.now u.two t.two2.given.0.0 t.two2.given.0.1.0 t.two2.given.1
+    c.keep-price2.ensures ∙ choose_second u.n u.early u.v.now u.rows.now u.two t.two2.given.0.0 t.two2.given.0.1.0 t.two2.given.1
     c.before.before.before.before.if1.true (rw (lowest-back t, second_back t) at c.before.before.before.if2.false) c.before.if3.true
 
 returns-4 : tie.Need-returns-4

@@ -1,6 +1,6 @@
 -- `displace` does what its definition says, in each of the three ways. Assumes nothing.
 use borrow.Author.Rules.{rules}
-use Rattle.reduction.proofs.Choices.{displace-back, displace_next, displace_none}
+use Rattle.reduction.proofs.Choices.{displace_back, displace_next, displace_none}
 use Rattle.reduction.proofs.rows.displace.Statement.{statement}
 use Rattle.reduction.proofs.rows.displace.Tie as tie
 
@@ -34,7 +34,7 @@ same_length c = search rules
 returns : tie.Need-returns
 returns c =
     let u = c.before.before.before.args in
-    displace-back u.n u.frees.now u.pass u.back u.i0 c.before.if1.true c.if2.true
+    displace_back u.n u.frees.now u.pass u.back u.i0 c.before.if1.true c.if2.true
 
 same-length-2 : tie.Need-same-length-2
 same-length-2 c = search rules

@@ -4,7 +4,7 @@ use Prim.Native.Nat.{◌+◌, ◌^◌, ◌≤◌}
 use native.Mathlib.Nat.{mul-le-mul}
 use native.Mathlib.Omega.{arith}
 use borrow.Author.Rules.{rules}
-use Rattle.matrix.proofs.SmallLimits.{side-small}
+use Rattle.matrix.proofs.SmallLimits.{side_small}
 use Rattle.reduction.proofs.rows.is_early.Statement.{statement}
 use Rattle.reduction.proofs.rows.is_early.Tie as tie
 
@@ -17,7 +17,7 @@ add-current c = search rules
 mul-result : tie.Need-overflow-mul-result
 mul-result c =
     let s = c.before.before in
-    let side-fits : s.args.n ≤ 2 ^ 16 = omega (arith, side-small, s.requires.0) in
+    let side-fits : s.args.n ≤ 2 ^ 16 = omega (arith, side_small, s.requires.0) in
     let current-fits : s.args.pass.current + 1 ≤ 2 ^ 16 = omega (arith, s.requires.1) in
     omega (arith, mul-le-mul current-fits side-fits)
 

@@ -17,14 +17,14 @@ use Rattle.assignment.specs.Pairings.{square, signed_at}
 use Rattle.rules.specs.declared.Choice.{Choice}
 use Rattle.rules.specs.Lowest.{reduced, two_lowest}
 use Rattle.rules.specs.Rows.{Passing, choose, displace, is_early, look}
-use Rattle.matrix.proofs.SmallLimits.{side-small}
+use Rattle.matrix.proofs.SmallLimits.{side_small}
 use Rattle.reduction.specs.Rows.{Inside, passing_at}
-use Rattle.reduction.proofs.RowParts.{row-length}
-use Rattle.reduction.proofs.RoomParts.{back-lent, back-length, back_returned, front_left, front_returned, front_part}
+use Rattle.reduction.proofs.RowParts.{row_length}
+use Rattle.reduction.proofs.RoomParts.{back_lent, back_length, back_returned, front_left, front_returned, front_part}
 use Rattle.reduction.proofs.Nearness.{two_lowest-near}
 use Rattle.reduction.proofs.Choices.{choose-below}
 use Rattle.reduction.proofs.Looks.{choice_of, look_is}
-use Rattle.reduction.proofs.Lasting.{lent-roomy, lent_keeps, two_told, keeping_look}
+use Rattle.reduction.proofs.Lasting.{lent_roomy, lent_keeps, two_told, keeping_look}
 use Rattle.reduction.proofs.rows.look.Statement.{statement}
 use Rattle.reduction.proofs.rows.look.Tie as tie
 
@@ -61,7 +61,7 @@ slice-read-free-i : tie.Need-slice-read-free-i
 slice-read-free-i c = search rules
 
 cast-free-i : tie.Need-overflow-cast-free-i
-cast-free-i c = let s = c.before.before.before.before in omega (arith, side-small, row_below s, s.requires.0.squared.small)
+cast-free-i c = let s = c.before.before.before.before in omega (arith, side_small, row_below s, s.requires.0.squared.small)
 
 row-requires : tie.Need-row-requires
 row-requires c κs = let s = c.before.before.before.before in (row_below s, s.requires.0.squared.size)
@@ -84,11 +84,11 @@ two-lowest-requires c κs =
     let s = start r in
     let u = s.args in
     let row = r.row.result.now in
-    let l = row-length u.n (row_of s) u.costs.now row (row_below s) s.pre.0.squared.size r.row.ensures in (
-      record { some = omega (arith, l, row_below s); size = s.pre.0.prices-size ∙ sym l; prices = λ j h. s.pre.0.near-prices j (omega (arith, l)) },
-      lent-roomy u.n (row_of s) u.costs.now row u.v.now (row_below s) s.pre.0.squared.size r.row.ensures u.room.now u.limits.now s.pre.1,
+    let l = row_length u.n (row_of s) u.costs.now row (row_below s) s.pre.0.squared.size r.row.ensures in (
+      record { some = omega (arith, l, row_below s); size = s.pre.0.prices_size ∙ sym l; prices = λ j h. s.pre.0.near_prices j (omega (arith, l)) },
+      lent_roomy u.n (row_of s) u.costs.now row u.v.now (row_below s) s.pre.0.squared.size r.row.ensures u.room.now u.limits.now s.pre.1,
       omega (arith, l, row_below s),
-      omega (arith, side-small, l, s.pre.0.squared.small),
+      omega (arith, side_small, l, s.pre.0.squared.small),
       lent_keeps u.n (row_of s) u.costs.now row u.v.now (row_below s) s.pre.0.squared.size r.row.ensures u.room.now u.limits.now s.pre.1,
     )
 
@@ -111,11 +111,11 @@ choose-requires c κs =
     let s = start (row_read d) in
     let p = s.pre.0 in (
       p.squared.small,
-      p.prices-size,
-      p.rows-size,
-      p.near-prices,
+      p.prices_size,
+      p.rows_size,
+      p.near_prices,
       subst (Inside s.args.n) (sym (two_is d))
-          (two_lowest-near s.args.n s.args.costs.now s.args.v.now p.squared p.near-prices (row_of s) (row_below s)),
+          (two_lowest-near s.args.n s.args.costs.now s.args.v.now p.squared p.near_prices (row_of s) (row_below s)),
     )
 
 abbrev begin : tie.After-choose → tie.Start
@@ -137,40 +137,40 @@ column c =
     let i = at (part 0 u.n u.room.now) u.pass.current in
     subst (λ (w : Choice). w.column < u.n) (sym (choice-is c))
     (choose-below u.n (is_early u.n u.pass) u.v.now u.rows.now (two_lowest u.n (reduced (square u.n u.costs.now).cost (signed_at u.v.now) i))
-    (two_lowest-near u.n u.costs.now u.v.now s.pre.0.squared s.pre.0.near-prices i s.pre.0.row_below))
+    (two_lowest-near u.n u.costs.now u.v.now s.pre.0.squared s.pre.0.near_prices i s.pre.0.row_below))
 
 price-fits : (c : tie.After-struct-told) → SFits w64 c.before.choose.result.price
 price-fits c = search rules
 
 mul-i0 : tie.Need-overflow-mul-i0
-mul-i0 c = omega (arith, side-small, column c.before, (begin c.before).requires.0.squared.small)
+mul-i0 c = omega (arith, side_small, column c.before, (begin c.before).requires.0.squared.small)
 
 slice-read-i0 : tie.Need-slice-read-i0
-slice-read-i0 c = let a = c.before.before in omega (arith, column a, (begin a).requires.0.rows-size)
+slice-read-i0 c = let a = c.before.before in omega (arith, column a, (begin a).requires.0.rows_size)
 
 mul-price : tie.Need-overflow-mul-price
-mul-price c = let a = c.before.before in omega (arith, side-small, column a, (begin a).requires.0.squared.small)
+mul-price c = let a = c.before.before in omega (arith, side_small, column a, (begin a).requires.0.squared.small)
 
 slice-set-from-price : tie.Need-slice-set-from-price
-slice-set-from-price c = let a = c.before.before in omega (arith, column a, (begin a).requires.0.prices-size)
+slice-set-from-price c = let a = c.before.before in omega (arith, column a, (begin a).requires.0.prices_size)
 
 cast-cols : tie.Need-overflow-cast-cols
-cast-cols c = let a = c.before.before in omega (arith, side-small, column a, (begin a).requires.0.squared.small)
+cast-cols c = let a = c.before.before in omega (arith, side_small, column a, (begin a).requires.0.squared.small)
 
 mul-cols : tie.Need-overflow-mul-cols
-mul-cols c = let a = c.before.before in omega (arith, side-small, row_below (begin a), (begin a).requires.0.squared.small)
+mul-cols c = let a = c.before.before in omega (arith, side_small, row_below (begin a), (begin a).requires.0.squared.small)
 
 slice-write-cols : tie.Need-slice-write-cols
-slice-write-cols c = let a = c.before.before in omega (arith, row_below (begin a), (begin a).requires.0.cols-size)
+slice-write-cols c = let a = c.before.before in omega (arith, row_below (begin a), (begin a).requires.0.cols_size)
 
 cast-rows : tie.Need-overflow-cast-rows
-cast-rows c = let a = c.before.before in omega (arith, side-small, row_below (begin a), (begin a).requires.0.squared.small)
+cast-rows c = let a = c.before.before in omega (arith, side_small, row_below (begin a), (begin a).requires.0.squared.small)
 
 mul-rows : tie.Need-overflow-mul-rows
-mul-rows c = let a = c.before.before in omega (arith, side-small, column a, (begin a).requires.0.squared.small)
+mul-rows c = let a = c.before.before in omega (arith, side_small, column a, (begin a).requires.0.squared.small)
 
 slice-write-rows : tie.Need-slice-write-rows
-slice-write-rows c = let a = c.before.before in omega (arith, column a, (begin a).requires.0.rows-size)
+slice-write-rows c = let a = c.before.before in omega (arith, column a, (begin a).requires.0.rows_size)
 
 sub-displace : tie.Need-overflow-sub-displace
 sub-displace c = search rules
@@ -185,22 +185,22 @@ part-displace-end c = search rules
 abbrev kept_of : tie.After-choose → List ℕ
 kept_of c = (telling c).two-lowest.new.1.1.1.0
 
-kept-size : (c : tie.After-choose) → let n = (begin c).args.n in length (kept_of c) ≡ n + n + n
-kept-size c =
+kept_size : (c : tie.After-choose) → let n = (begin c).args.n in length (kept_of c) ≡ n + n + n
+kept_size c =
     let u = (begin c).args in
-    let z = (begin c).requires.1.room-size in
-    omega (arith, (telling c).two-lowest.auto, ap length (back-lent u.n u.room.now z), back-length u.n u.room.now z)
+    let z = (begin c).requires.1.room_size in
+    omega (arith, (telling c).two-lowest.auto, ap length (back_lent u.n u.room.now z), back_length u.n u.room.now z)
 
 front_lent_lem : (c : tie.After-choose)
     → let u = (begin c).args in
-    take (u.n - 0) (drop 0 (back_returned u.n u.room.now (begin c).requires.1.room-size (kept_of c) (kept-size c))) ≡ part 0 u.n u.room.now
-front_lent_lem c = let u = (begin c).args in front_left u.n u.room.now (begin c).requires.1.room-size (kept_of c) (kept-size c)
+    take (u.n - 0) (drop 0 (back_returned u.n u.room.now (begin c).requires.1.room_size (kept_of c) (kept_size c))) ≡ part 0 u.n u.room.now
+front_lent_lem c = let u = (begin c).args in front_left u.n u.room.now (begin c).requires.1.room_size (kept_of c) (kept_size c)
 
 displace-requires : tie.Need-displace-requires
 displace-requires c κs =
     let a = c.before.before.before in
     let p = (begin a).requires.0 in
-    (p.squared.small, ap length (front_lent_lem a) ∙ p.frees-size, p.current_below, p.left-most, p.looks_fit)
+    (p.squared.small, ap length (front_lent_lem a) ∙ p.frees_size, p.current_below, p.left_most, p.looks_fit)
 
 same_length : tie.Need-same-length
 same_length c = search rules
@@ -228,19 +228,19 @@ returns c =
     let i = row_of s in
     let r = row_read (telling a) in
     let frees = d.displace.new.1.0 in
-    let size = s.pre.1.room-size in
-    let frees-size : length frees ≡ u.n = omega (arith, d.displace.auto, ap length (front_lent_lem a), s.pre.0.frees-size) in
-    let front = front_part u.n u.room.now size (kept_of a) (kept-size a) frees frees-size in
+    let size = s.pre.1.room_size in
+    let frees_size : length frees ≡ u.n = omega (arith, d.displace.auto, ap length (front_lent_lem a), s.pre.0.frees_size) in
+    let front = front_part u.n u.room.now size (kept_of a) (kept_size a) frees frees_size in
     let cost = (square u.n u.costs.now).cost in
     let e : passing_at (set x.pairs.cols i w.column) (set x.pairs.rows w.column i) (set x.prices w.column (to_z w64 (of_z w64 w.price)))
-    (part 0 u.n (front_returned u.n u.room.now size (kept_of a) (kept-size a) frees frees-size)) d.displace.result ≡ look u.n cost x
+    (part 0 u.n (front_returned u.n u.room.now size (kept_of a) (kept_size a) frees frees_size)) d.displace.result ≡ look u.n cost x
     = ap₂ (λ (z : ℤ) (f : List ℕ). passing_at (set x.pairs.cols i w.column) (set x.pairs.rows w.column i) (set x.prices w.column z) f d.displace.result)
     (to_z-of_z (price-fits d.before.before.before)) front
     ∙ look_is u.n cost x i (row_is s) w (choice-is a) frees d.displace.result
     (d.displace.ensures ∙ ap (λ (f : List ℕ). displace u.n f u.pass w.back (at u.rows.now w.column)) (front_lent_lem a)) in (
       e,
       keeping_look u.n i u.costs.now r.row.result.now u.v.now (row_below s) s.pre.0.squared.size r.row.ensures u.room.now u.limits.now s.pre.1
-          (telling a).two-lowest.ensures x _ refl e (kept-size a) frees frees-size (omega (arith, (telling a).two-lowest.auto, s.pre.1.limits-size)),
+          (telling a).two-lowest.ensures x _ refl e (kept_size a) frees frees_size (omega (arith, (telling a).two-lowest.auto, s.pre.1.limits_size)),
     )
 
 pub look_spec : {M : Type 1} → statement M

@@ -2,19 +2,19 @@
 use mathlib.Core.Path.{ap₂, sym, ◌∙◌, subst}
 use Rattle.score.specs.Characters.{Reference}
 use Rattle.score.specs.Score.{score_of}
-use Rattle.score.proofs.Places.{reference-inside, reference-known}
+use Rattle.score.proofs.Places.{reference_inside, reference-known}
 use Rattle.score.proofs.sheets.pair_score.Statement.{statement}
 use Rattle.score.proofs.sheets.pair_score.Tie as tie
 
 reference-requires : tie.Need-reference-requires
 reference-requires c κs =
     let s = c.before.before.before in
-    reference-inside s.args.n s.args.firsts.now s.requires.1.rows s.args.i s.requires.2
+    reference_inside s.args.n s.args.firsts.now s.requires.1.rows s.args.i s.requires.2
 
 reference-requires-2 : tie.Need-reference-requires-2
 reference-requires-2 c κs =
     let s = c.before.before.before.before in
-    reference-inside s.args.n s.args.seconds.now s.requires.1.columns s.args.j s.requires.3
+    reference_inside s.args.n s.args.seconds.now s.requires.1.columns s.args.j s.requires.3
 
 total-requires : tie.Need-total-requires
 total-requires c κs =

@@ -1,6 +1,6 @@
 -- `score_at` answers the score of a row's and a column's reference. Assumes nothing.
 use native.Mathlib.Omega.{arith}
-use Rattle.score.proofs.Places.{side_positive, row_below, column-below}
+use Rattle.score.proofs.Places.{side_positive, row_below, column_below}
 use Rattle.score.proofs.sheets.score_at.Statement.{statement}
 use Rattle.score.proofs.sheets.score_at.Tie as tie
 
@@ -14,7 +14,7 @@ pair-score-requires : tie.Need-pair-score-requires
 pair-score-requires c κs =
     let s = c.before.before.before in
     let row = row_below s.args.n s.args.k s.requires.2 in
-    let column = column-below s.args.n s.args.k s.requires.2 in
+    let column = column_below s.args.n s.args.k s.requires.2 in
     (s.requires.0, s.requires.1, omega (arith, row, column), omega (arith, row, column))
 
 returns : tie.Need-returns

@@ -12,7 +12,7 @@ use Rattle.lists.proofs.Tables.{length-table, get_d_table}
 use Rattle.layout.specs.Values.{bytes_of, signed_bytes}
 use Rattle.layout.proofs.Values.{length-signed_bytes}
 use Rattle.layout.proofs.Stores.{field_written, all_written}
-use Rattle.matrix.proofs.SmallLimits.{sheet_side-small}
+use Rattle.matrix.proofs.SmallLimits.{sheet_side_small}
 use Rattle.score.specs.ScoreSheet.{score_at, scores}
 use Rattle.score.proofs.sheets.write_scores.Statement.{statement}
 use Rattle.score.proofs.sheets.write_scores.Tie as tie
@@ -49,7 +49,7 @@ decreases-loop sheet₀ table firsts seconds n count k₀ sheet k = n * n - k
 mul-count : tie.Need-overflow-mul-count invariant-loop decreases-loop
 mul-count c =
     let s = c.before.before.before.before in
-    let few : s.args.n ≤ 64 = omega (arith, sheet_side-small, s.requires.1.few) in
+    let few : s.args.n ≤ 64 = omega (arith, sheet_side_small, s.requires.1.few) in
     omega (arith, mul-le-mul few few)
 
 loop-holds : tie.Need-loop-init invariant-loop decreases-loop

@@ -14,7 +14,7 @@ use Rattle.layout.specs.Sheets.{sheet_of}
 use Rattle.layout.proofs.Values.{length-signed_bytes}
 use Rattle.layout.proofs.Fields.{length_flat_map}
 use Rattle.layout.proofs.Stores.{stored_then, sets_front}
-use Rattle.layout.proofs.Sheets.{sheet-length}
+use Rattle.layout.proofs.Sheets.{sheet_length_lem}
 use Rattle.score.specs.ScoreSheet.{reference_count, sheet_length, score_at, scores}
 use Rattle.score.proofs.sheets.write_sheet.Statement.{statement}
 use Rattle.score.proofs.sheets.write_sheet.Tie as tie
@@ -31,7 +31,7 @@ module _ (n : ℕ) (costs : List ℤ) (size : length costs ≡ n * n) (room : Li
       let far : 4 * (n * n) ≡ 4 * length costs + 0 = omega (arith, size) in
       stored_then room (flat_map (signed_bytes 4) costs) (trailer (4 * length costs + 0) n 1 sheet_mark) 0 (4 * (n * n)) d (omega (arith, size, length_flat_map (signed_bytes 4) 4 (length-signed_bytes 4) costs))
       (e ∙ ap (λ (m : List ℕ). sets p (4 * (n * n)) (trailer (4 * (n * n)) n 1 m)) mark ∙ ap (λ (k : ℕ). sets p (4 * (n * n)) (trailer k n 1 sheet_mark)) far)
-      ∙ sets_front (sheet_of [] n costs) room (sheet_length n) (omega (arith, size, sheet-length 1 [] n costs [])) roomy
+      ∙ sets_front (sheet_of [] n costs) room (sheet_length n) (omega (arith, size, sheet_length_lem 1 [] n costs [])) roomy
 
 mul-distance : tie.Need-overflow-mul-distance
 mul-distance c = search rules

@@ -8,7 +8,7 @@ use borrow.Author.Tests.{lt-ltb, le-ltb}
 use Rattle.matrix.specs.Limits.{sheet_side}
 use Rattle.matrix.specs.Refusals.{SheetSideOver, ReferenceLength}
 use Rattle.matrix.specs.Verdicts.{Passes, fails_if}
-use Rattle.matrix.proofs.SmallLimits.{sheet_side-small}
+use Rattle.matrix.proofs.SmallLimits.{sheet_side_small}
 use Rattle.matrix.proofs.Verdicts.{then_iff, passed_then, then_assoc, fails_if_iff, refused_then}
 use Rattle.score.specs.ScoreSheet.{uneven}
 use Rattle.score.proofs.tests.lists_fit.Statement.{statement}
@@ -17,7 +17,7 @@ use Rattle.score.proofs.tests.lists_fit.Tie as tie
 -- the side is small, and so is its square
 squares : (c : tie.Else2) → let n = c.before.before.before.before.args.firsts / 12 in n * n ≤ 4096
 squares c =
-    let few : c.before.before.before.before.args.firsts / 12 ≤ 64 = omega (arith, c.before.sheet-side.ensures, sheet_side-small) in
+    let few : c.before.before.before.before.args.firsts / 12 ≤ 64 = omega (arith, c.before.sheet_side_lem.ensures, sheet_side_small) in
     mul-le-mul few few
 
 -- 18 is passed
@@ -43,7 +43,7 @@ fails-if-requires-2 c κs = search rules
 returns-2 : tie.Need-returns-2
 returns-2 c =
     let s = c.before.before in
-    let over = lt-ltb sheet_side (s.before.before.before.args.firsts / 12) (omega (arith, s.sheet-side.ensures, c.before.if2.true)) in
+    let over = lt-ltb sheet_side (s.before.before.before.args.firsts / 12) (omega (arith, s.sheet_side_lem.ensures, c.before.if2.true)) in
     passed_then _ (even s.before) (refused_then SheetSideOver 0 _ _ over c.fails-if2.ensures) ∙ sym (then_assoc _ _ _)
 
 mul-fails-if : tie.Need-overflow-mul-fails-if
@@ -61,7 +61,7 @@ fails-if-requires-3 c κs = search rules
 returns-3 : tie.Need-returns-3
 returns-3 c =
     let s = c.before.before in
-    let few = le-ltb sheet_side (s.before.before.before.args.firsts / 12) (omega (arith, s.sheet-side.ensures, c.before.if2.false)) in
+    let few = le-ltb sheet_side (s.before.before.before.args.firsts / 12) (omega (arith, s.sheet_side_lem.ensures, c.before.if2.false)) in
     passed_then _ ((then_iff _ _).1 (even s.before, (fails_if_iff _ _ _).1 few)) c.fails-if3.ensures
 
 pub lists-fit-spec : {M : Type 1} → statement M

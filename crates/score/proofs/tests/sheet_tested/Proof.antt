@@ -3,7 +3,7 @@ use mathlib.Core.Path.{sym, ◌∙◌}
 use native.Mathlib.Omega.{arith}
 use borrow.Author.Rules.{rules}
 use lib.ListN.{length}
-use Rattle.matrix.proofs.SmallLimits.{sheet_side-small}
+use Rattle.matrix.proofs.SmallLimits.{sheet_side_small}
 use Rattle.matrix.proofs.Verdicts.{after, passed_first}
 use Rattle.score.specs.ScoreSheet.{sheet_tests}
 use Rattle.score.proofs.Passing.{lists_fit_lem}
@@ -16,13 +16,13 @@ lists-fit-requires c κs = search rules
 characters-known-requires : tie.Need-characters-known-requires
 characters-known-requires c κs =
     let u = c.before.before.before.args in
-    (omega arith, λ e. omega (arith, sheet_side-small, (lists_fit_lem (length u.firsts.now) (length u.seconds.now) u.room).0 (sym c.lists_fit_lem.ensures ∙ e)))
+    (omega arith, λ e. omega (arith, sheet_side_small, (lists_fit_lem (length u.firsts.now) (length u.seconds.now) u.room).0 (sym c.lists_fit_lem.ensures ∙ e)))
 
 characters-known-requires-2 : tie.Need-characters-known-requires-2
 characters-known-requires-2 c κs =
     let t = c.before.lists_fit_lem.ensures in
     let u = c.before.before.before.before.args in
-    (omega arith, λ e. omega (arith, sheet_side-small, (lists_fit_lem (length u.firsts.now) (length u.seconds.now) u.room).0 (sym t ∙ passed_first _ _ (sym c.characters_known_lem.ensures ∙ e))))
+    (omega arith, λ e. omega (arith, sheet_side_small, (lists_fit_lem (length u.firsts.now) (length u.seconds.now) u.room).0 (sym t ∙ passed_first _ _ (sym c.characters_known_lem.ensures ∙ e))))
 
 returns : tie.Need-returns
 unfolding sheet_tests

@@ -3,13 +3,13 @@ use mathlib.Core.Path.{sym, ap}
 use mathlib.Core.Bool.{Bool, cond}
 use Prim.Native.Nat.{◌*◌}
 use native.Mathlib.Omega.{arith}
-use Rattle.matrix.proofs.SmallLimits.{sheet_side-small}
+use Rattle.matrix.proofs.SmallLimits.{sheet_side_small}
 use Rattle.sheet.proofs.Editions.{with_bars, without_bars}
 use Rattle.sheet.proofs.reading.bars_length.Statement.{statement}
 use Rattle.sheet.proofs.reading.bars_length.Tie as tie
 
 mul-result : tie.Need-overflow-mul-result
-mul-result c = omega (arith, c.before.requires, sheet_side-small)
+mul-result c = omega (arith, c.before.requires, sheet_side_small)
 
 returns : tie.Need-returns
 returns c = ap (λ (t : Bool). cond t (8 * c.before.args.n) 0) (sym (with_bars c.if1.true))

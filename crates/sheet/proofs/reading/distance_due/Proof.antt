@@ -4,13 +4,13 @@ use Prim.Native.Nat.{ℕ, ◌+◌, ◌*◌, ◌≤◌}
 use native.Mathlib.Nat.{mul-le-mul}
 use native.Mathlib.Omega.{arith}
 use borrow.Author.Rules.{rules}
-use Rattle.matrix.proofs.SmallLimits.{sheet_side-small}
-use Rattle.sheet.proofs.Editions.{bars-short, count-short}
+use Rattle.matrix.proofs.SmallLimits.{sheet_side_small}
+use Rattle.sheet.proofs.Editions.{bars_short_lem, count-short}
 use Rattle.sheet.proofs.reading.distance_due.Statement.{statement}
 use Rattle.sheet.proofs.reading.distance_due.Tie as tie
 
 few : (c : tie.Start) → c.args.n ≤ 64
-few c = omega (arith, c.requires.1, sheet_side-small)
+few c = omega (arith, c.requires.1, sheet_side_small)
 
 places : (c : tie.Start) → c.args.m * c.args.n ≤ 4096
 places c = let h : c.args.m ≤ 64 = omega (arith, c.requires.0, few c) in mul-le-mul h (few c)
@@ -25,7 +25,7 @@ bars-length-requires : tie.Need-bars-length-requires
 bars-length-requires c κs = c.requires.1
 
 add-result : tie.Need-overflow-add-result
-add-result c = omega (arith, places c.before, few c.before, c.bars-length.ensures, bars-short c.before.args.edition c.before.args.n)
+add-result c = omega (arith, places c.before, few c.before, c.bars-length.ensures, bars_short_lem c.before.args.edition c.before.args.n)
 
 row-count-length-requires : tie.Need-row-count-length-requires
 row-count-length-requires c κs = search rules
@@ -34,7 +34,7 @@ add-result-2 : tie.Need-overflow-add-result-2
 add-result-2 c =
     let b = c.before in
     let s = b.before in
-    omega (arith, places s, few s, b.bars-length.ensures, bars-short s.args.edition s.args.n, c.row-count-length.ensures, count-short s.args.edition)
+    omega (arith, places s, few s, b.bars-length.ensures, bars_short_lem s.args.edition s.args.n, c.row-count-length.ensures, count-short s.args.edition)
 
 returns : tie.Need-returns
 returns c =

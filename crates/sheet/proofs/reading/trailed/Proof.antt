@@ -86,7 +86,7 @@ unfolding ◌then◌ fails_by
 returns-4 c =
     let d = c.before.before.before in
     let e = d.before.before.before in
-    c.fails-if4.ensures ∙ ap (λ (t : Bool). fails_if SheetSideOver 0 t) (ap₂ ltb c.before.before.sheet-side.ensures c.before.side-of.ensures.0)
+    c.fails-if4.ensures ∙ ap (λ (t : Bool). fails_if SheetSideOver 0 t) (ap₂ ltb c.before.before.sheet_side_lem.ensures c.before.side-of.ensures.0)
     ∙ rw (not-over e.before.before, marked e, first-editions d)
 
 pub trailed-spec : {M : Type 1} → statement M

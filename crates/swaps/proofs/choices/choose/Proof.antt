@@ -14,8 +14,8 @@ use Rattle.lists.specs.Permutations.{at}
 use Rattle.lists.specs.Parts.{part}
 use Rattle.lists.proofs.Parts.{part_at, lent_length}
 use Rattle.assignment.specs.Pairings.{signed_at}
-use Rattle.matrix.proofs.SmallLimits.{side-small}
-use Rattle.swaps.proofs.Choosing.{fewer, own_below, row_fits, row-length, row-chosen, down-chosen}
+use Rattle.matrix.proofs.SmallLimits.{side_small}
+use Rattle.swaps.proofs.Choosing.{fewer, own_below, row_fits, row_length, row_chosen, down-chosen}
 use Rattle.swaps.proofs.choices.choose.Statement.{statement}
 use Rattle.swaps.proofs.choices.choose.Tie as tie
 
@@ -49,7 +49,7 @@ facts c =
     let u = (start c).args in
     let h = (start c).requires in
     let f = fewer u.m u.n u.costs.now u.bars.now u.cols.now u.us.now u.vs.now u.ts.now u.top u.room.now u.x h in
-    record { small = omega (arith, side-small, h.fair.small); rows = f.0; node = f.2; size = h.room-size }
+    record { small = omega (arith, side_small, h.fair.small); rows = f.0; node = f.2; size = h.room_size }
 
 add-n2 : tie.Need-overflow-add-n2
 add-n2 c = let f = facts c in search rules
@@ -118,17 +118,17 @@ module _ (s : tie.Start) where
 
   row_inside : s.args.x < m → s.args.x * n + n ≤ length costs
   row_inside l =
-      row_fits m n costs bars cols us vs ts s.args.top room s.args.x s.pre l rows-lent marks-lent (first n room s.pre.room-size).1 (third n room s.pre.room-size).1
+      row_fits m n costs bars cols us vs ts s.args.top room s.args.x s.pre l rows-lent marks-lent (first n room s.pre.room_size).1 (third n room s.pre.room_size).1
 
-  row-size : s.args.x < m → length (part (s.args.x * n) n costs) ≡ n
-  row-size l =
-      row-length m n costs bars cols us vs ts s.args.top room s.args.x s.pre l rows-lent marks-lent (first n room s.pre.room-size).1 (third n room s.pre.room-size).1
+  row_size : s.args.x < m → length (part (s.args.x * n) n costs) ≡ n
+  row_size l =
+      row_length m n costs bars cols us vs ts s.args.top room s.args.x s.pre l rows-lent marks-lent (first n room s.pre.room_size).1 (third n room s.pre.room_size).1
 
   own-inside : (j : ℕ) → j < n → at rows-lent j < length marks-lent
   own-inside j l =
       let k = own_below m n costs bars cols us vs ts s.args.top room s.args.x s.pre in
       let f = fewer m n costs bars cols us vs ts s.args.top room s.args.x s.pre in
-      omega (arith, (first n room s.pre.room-size).1 j l, (third n room s.pre.room-size).0, k j l, f.1)
+      omega (arith, (first n room s.pre.room_size).1 j l, (third n room s.pre.room_size).0, k j l, f.1)
 
 row-requires : tie.Need-row-requires
 row-requires c κs = row_inside (start c.before.before.before) c.if1.true
@@ -144,7 +144,7 @@ mul-first-way : tie.Need-overflow-mul-first-way
 mul-first-way c = let s = row-start c in omega (arith, c.before.before.if1.true, facts c.before.before.before.before.before)
 
 shared-slice-copy-out-first-way : tie.Need-shared-slice-copy-out-first-way
-shared-slice-copy-out-first-way c = omega (arith, c.before.before.if1.true, (row-start c).requires.fair.row-prices.enough)
+shared-slice-copy-out-first-way c = omega (arith, c.before.before.if1.true, (row-start c).requires.fair.row_prices.enough)
 
 sub-first-way : tie.Need-overflow-sub-first-way
 sub-first-way c = search rules
@@ -162,11 +162,11 @@ first-way-requires c κs =
     let h = s.pre in
     let x = s.args.x in
     let l = b.before.before.if1.true in
-    let size : length b.before.row.result.now ≡ n s = ap length b.before.row.ensures ∙ row-size s l in (
-      rw (read_back w64 (signed_at (us s) x) c.before.first-way-arg.given) (h.fair.row-prices.within x l),
+    let size : length b.before.row.result.now ≡ n s = ap length b.before.row.ensures ∙ row_size s l in (
+      rw (read_back w64 (signed_at (us s) x) c.before.first-way-arg.given) (h.fair.row_prices.within x l),
       omega (arith, h.lowered.size),
       λ j q. h.lowered.bounded j (omega arith),
-      omega (arith, (first (n s) (room s) h.room-size).0),
+      omega (arith, (first (n s) (room s) h.room_size).0),
       λ j q. own-inside s j (omega arith),
       omega (arith, h.bounded),
     )
@@ -177,8 +177,8 @@ returns c =
     let s = row-start b in
     let x = s.args.x in
     c.first_way.ensures
-    ∙ row-chosen (m s) (n s) (costs s) (bars s) (cols s) (us s) (vs s) (ts s) s.args.top (room s) x s.pre b.before.before.if1.true (rows-lent s) (marks-lent s)
-    (first (n s) (room s) s.pre.room-size).1 (third (n s) (room s) s.pre.room-size).1 b.before.row.result.now b.before.row.ensures
+    ∙ row_chosen (m s) (n s) (costs s) (bars s) (cols s) (us s) (vs s) (ts s) s.args.top (room s) x s.pre b.before.before.if1.true (rows-lent s) (marks-lent s)
+    (first (n s) (room s) s.pre.room_size).1 (third (n s) (room s) s.pre.room_size).1 b.before.row.result.now b.before.row.ensures
     b.bits_of.result b.bits_of.ensures _ (read_back w64 (signed_at (us s) x) c.before.before.first-way-arg.given) _ (to_z-of_z s.fits.top)
 
 first-down-requires : tie.Need-first-down-requires
@@ -187,8 +187,8 @@ first-down-requires c κs =
     let f = facts c.before.before.before in (
       f.rows,
       omega (arith, s.pre.fair.pairing.size),
-      omega (arith, f.rows, (third (n s) (room s) s.pre.room-size).0),
-      λ i l. omega (arith, s.pre.fair.pairing.inside i l, s.pre.fair.column-prices.enough),
+      omega (arith, f.rows, (third (n s) (room s) s.pre.room_size).0),
+      λ i l. omega (arith, s.pre.fair.pairing.inside i l, s.pre.fair.column_prices.enough),
     )
 
 returns-2 : tie.Need-returns-2
@@ -196,7 +196,7 @@ returns-2 c =
     let s = start c.before.before.before.before in
     c.first-down.ensures
     ∙ down-chosen (m s) (n s) (costs s) (bars s) (cols s) (us s) (vs s) (ts s) s.args.top (room s) s.args.x s.pre c.before.if1.false (marks-lent s)
-    (third (n s) (room s) s.pre.room-size).1 _ (to_z-of_z s.fits.top)
+    (third (n s) (room s) s.pre.room_size).1 _ (to_z-of_z s.fits.top)
 
 pub choose_spec : {M : Type 1} → statement M
 choose_spec =

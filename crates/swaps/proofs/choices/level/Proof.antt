@@ -10,13 +10,13 @@ use Rattle.ints.specs.Parts.{Within}
 use Rattle.ints.proofs.Shapes.{zlin}
 use Rattle.ints.proofs.Bits.{read_wide, wide_fits}
 use Rattle.matrix.specs.Limits.{K, near}
-use Rattle.matrix.proofs.SmallLimits.{K-small}
+use Rattle.matrix.proofs.SmallLimits.{K_small}
 use Rattle.swaps.proofs.choices.level.Statement.{statement}
 use Rattle.swaps.proofs.choices.level.Tie as tie
 
 module _ (u v : ℤ) (f : SFits w64 u) (g : SFits w64 v) (a : Within (10 * K) u) (b : Within near v) where
   both-fit : SFits w64 (u +ℤ v)
-  both-fit = omega (zlin, K-small)
+  both-fit = omega (zlin, K_small)
 
   read : to_z w64 (of_z w64 u) +ℤ to_z w64 (of_z w64 v) ≡ u +ℤ v
   read = ap₂ ◌+ℤ◌ (to_z-of_z f) (to_z-of_z g)

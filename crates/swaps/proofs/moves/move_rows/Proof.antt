@@ -11,7 +11,7 @@ use lib.ListN.{length, set, length-set}
 use Rattle.lists.specs.Runs.{upward}
 use Rattle.lists.specs.Permutations.{at}
 use Rattle.lists.proofs.Runs.{upward_none, upward-last}
-use Rattle.matrix.proofs.SmallLimits.{side-small}
+use Rattle.matrix.proofs.SmallLimits.{side_small}
 use Rattle.swaps.specs.Rooms.{come_to, move_at}
 use Rattle.swaps.proofs.moves.move_rows.Statement.{statement}
 use Rattle.swaps.proofs.moves.move_rows.Tie as tie
@@ -42,15 +42,15 @@ start a = a.before.before.before.before.before.before.before.before
 
 record Facts (m n size room : ℕ) : Type 0 where
   small : n < 2 ^ 16
-  path-size : size ≤ n
+  path_size : size ≤ n
   rows : m ≤ n
-  room-size : room ≡ n + n + n + n
+  room_size : room ≡ n + n + n + n
 
 facts : (s : tie.Start invariant-loop decreases-loop) → let u = s.args in Facts u.m u.n u.size (length u.room.now)
-facts s = let p = s.requires in record { small = omega (arith, side-small, p.small); path-size = p.path-size; rows = p.rows; room-size = p.room-size }
+facts s = let p = s.requires in record { small = omega (arith, side_small, p.small); path_size = p.path_size; rows = p.rows; room_size = p.room_size }
 
 copy-requires : tie.Need-copy-requires invariant-loop decreases-loop
-copy-requires c κs = let p = c.before.before.before.before.requires in p.listed ∙ sym p.second-size
+copy-requires c κs = let p = c.before.before.before.before.requires in p.listed ∙ sym p.second_size
 
 add-n2 : tie.Need-overflow-add-n2 invariant-loop decreases-loop
 add-n2 c = omega (arith, facts c.before.before.before.before.before.before.before)
@@ -114,7 +114,7 @@ loop-again c =
     (omega (arith, l.invariant.0), omega (arith, c.before.before.loop-test.true), l.invariant.2, e.0, e.1)
 
 same_length : tie.Need-same-length invariant-loop decreases-loop
-same_length c = let a = c.before in a.loop.invariant.3 ∙ sym (start a).requires.second-size
+same_length c = let a = c.before in a.loop.invariant.3 ∙ sym (start a).requires.second_size
 
 returns : tie.Need-returns invariant-loop decreases-loop
 returns c =

@@ -35,8 +35,8 @@ returns c =
     let a = g.before.before.before.before.before.before.before.before in
     let s = a.before.before.before.before.before.before.before.before in
     let u = s.args in
-    let l : length a.search-any.new.1.1.1.1.1.1.1.1.0 ≡ 4 * u.n = omega (arith, a.search-any.auto, s.requires.room-size) in
-    let k : length a.search-any.new.1.1.1.1.1.1.1.1.1.0 ≡ u.n = omega (arith, a.search-any.auto, s.requires.numbers-size) in
+    let l : length a.search-any.new.1.1.1.1.1.1.1.1.0 ≡ 4 * u.n = omega (arith, a.search-any.auto, s.requires.room_size) in
+    let k : length a.search-any.new.1.1.1.1.1.1.1.1.1.0 ≡ u.n = omega (arith, a.search-any.auto, s.requires.numbers_size) in
     record {
       searched = a.search-any.ensures;
       room_cleared = f.ensures ∙ table_constant (length a.search-any.new.1.1.1.1.1.1.1.1.0) 0 ∙ ap (λ (k : ℕ). replicate k 0) l;

@@ -1,13 +1,13 @@
 -- `find_second` lends the fronts of its lists. Assumes nothing.
 use native.Mathlib.Omega.{arith}
 use borrow.Author.Rules.{rules}
-use Rattle.matrix.proofs.SmallLimits.{side-small}
+use Rattle.matrix.proofs.SmallLimits.{side_small}
 use Rattle.swaps.proofs.Fronts.{can_find, found_in}
 use Rattle.swaps.proofs.search.find_second.Statement.{statement}
 use Rattle.swaps.proofs.search.find_second.Tie as tie
 
 mul-n4 : tie.Need-overflow-mul-n4
-mul-n4 c = omega (arith, side-small, c.before.before.before.before.requires.small)
+mul-n4 c = omega (arith, side_small, c.before.before.before.before.requires.small)
 
 sub-first : tie.Need-overflow-sub-first
 sub-first c = search rules

@@ -12,11 +12,11 @@ use Rattle.lists.specs.Permutations.{table}
 use Rattle.lists.proofs.Parts.{lent_length}
 use Rattle.lists.proofs.Tables.{length-table}
 use Rattle.assignment.specs.Pairings.{signed_at}
-use Rattle.assignment.proofs.Pairings.{pairing-injective}
+use Rattle.assignment.proofs.Pairings.{pairing_injective}
 use Rattle.bars.specs.Barred.{night_of}
 use Rattle.swaps.specs.Second.{behind, dearest}
-use Rattle.swaps.proofs.Choosing.{rows-columns}
-use Rattle.swaps.proofs.Finding.{found-dearest, can-walk, none_found, can_move, one_found}
+use Rattle.swaps.proofs.Choosing.{rows_columns}
+use Rattle.swaps.proofs.Finding.{found-dearest, can_walk, none_found, can_move, one_found}
 use Rattle.swaps.proofs.search.search.Statement.{statement}
 use Rattle.swaps.proofs.search.search.Tie as tie
 
@@ -70,20 +70,20 @@ list-rows-requires c κs =
     let u = s.args in
     let fair = s.pre.fair in
     let night = night_of u.m u.n u.costs.now u.bars.now in (
-      omega (arith, rows-columns night u.cols.now fair.pairing, fair.small),
+      omega (arith, rows_columns night u.cols.now fair.pairing, fair.small),
       omega (arith, fair.pairing.size),
-      rw (front_size u.n u.room.now d.before.before.fill.new.0 s.pre.room-size d.before.before.fill.ensures) (pairing-injective night u.cols.now fair.pairing),
+      rw (front_size u.n u.room.now d.before.before.fill.new.0 s.pre.room_size d.before.before.fill.ensures) (pairing_injective night u.cols.now fair.pairing),
     )
 
 copy-prices-requires : tie.Need-copy-prices-requires
-copy-prices-requires c κs = let p = (start (listed c.before)).requires in omega (arith, p.numbers-size, p.fair.column-prices.enough)
+copy-prices-requires c κs = let p = (start (listed c.before)).requires in omega (arith, p.numbers_size, p.fair.column_prices.enough)
 
 dearest-requires : tie.Need-dearest-requires
 dearest-requires c κs =
     let fair = (start (listed (copied c))).requires.fair in (
       (start (listed (copied c))).requires.some,
       omega (arith, fair.pairing.size),
-      λ i l. omega (arith, fair.pairing.inside i l, fair.column-prices.enough),
+      λ i l. omega (arith, fair.pairing.inside i l, fair.column_prices.enough),
     )
 
 count-nodes-requires : tie.Need-count-nodes-requires
@@ -98,9 +98,9 @@ walk-requires c κs =
     let b = listed g in
     let s = start b in
     let u = s.args in
-    can-walk u.m u.n u.costs.now u.bars.now u.cols.now u.us.now u.vs.now s.pre.fair _
-    (shaped u.n u.room.now b.before.before.fill.last.0 s.pre.room-size b.before.before.fill.ensures (behind (night_of u.m u.n u.costs.now u.bars.now) u.cols.now) g.before.before.list-rows.last.1.1.0 g.before.before.list-rows.ensures)
-    q.copy-prices.new.1.0 (q.copy-prices.ensures ∙ ap (λ (j : ℕ). table j (signed_at u.vs.now)) s.pre.numbers-size) _ (read_back w64 d.dearest.result d.dearest.type-inv ∙ d.dearest.ensures ∙ found-dearest (night_of u.m u.n u.costs.now u.bars.now) u.vs.now u.cols.now) k.count-nodes.result k.count-nodes.ensures
+    can_walk u.m u.n u.costs.now u.bars.now u.cols.now u.us.now u.vs.now s.pre.fair _
+    (shaped u.n u.room.now b.before.before.fill.last.0 s.pre.room_size b.before.before.fill.ensures (behind (night_of u.m u.n u.costs.now u.bars.now) u.cols.now) g.before.before.list-rows.last.1.1.0 g.before.before.list-rows.ensures)
+    q.copy-prices.new.1.0 (q.copy-prices.ensures ∙ ap (λ (j : ℕ). table j (signed_at u.vs.now)) s.pre.numbers_size) _ (read_back w64 d.dearest.result d.dearest.type-inv ∙ d.dearest.ensures ∙ found-dearest (night_of u.m u.n u.costs.now u.bars.now) u.vs.now u.cols.now) k.count-nodes.result k.count-nodes.ensures
 
 enum_told : tie.Need-enum-told
 enum_told c = search rules
@@ -125,7 +125,7 @@ move-rows-requires c κs =
     let s = start (listed (at-walk w)) in
     let u = s.args in
     can_move u.m u.n u.costs.now u.bars.now u.cols.now u.us.now u.vs.now s.pre.fair w.walk.result _ w.walk.ensures
-    f.from.given.0.0 f.from.given.0.1.0 f.from.given.1 u.list.now s.pre.list-size
+    f.from.given.0.0 f.from.given.0.1.0 f.from.given.1 u.list.now s.pre.list_size
 
 same-length-2 : tie.Need-same-length-2
 same-length-2 c = search rules
@@ -140,8 +140,8 @@ same-length-4 c =
     let s = start (listed (at-walk w)) in
     let u = s.args in
     (can_move u.m u.n u.costs.now u.bars.now u.cols.now u.us.now u.vs.now s.pre.fair w.walk.result _ w.walk.ensures
-    f.from.given.0.0 f.from.given.0.1.0 f.from.given.1 u.list.now s.pre.list-size).room-size
-    ∙ sym s.pre.room-size
+    f.from.given.0.0 f.from.given.0.1.0 f.from.given.1 u.list.now s.pre.list_size).room_size
+    ∙ sym s.pre.room_size
 
 same-length-5 : tie.Need-same-length-5
 same-length-5 c = search rules

@@ -6,7 +6,7 @@ use borrow.Author.Rules.{rules}
 use lib.ListN.{length}
 use Rattle.lists.specs.Permutations.{at, table, Injective}
 use Rattle.lists.proofs.Tables.{length-table}
-use Rattle.matrix.proofs.SmallLimits.{side-small}
+use Rattle.matrix.proofs.SmallLimits.{side_small}
 use Rattle.swaps.proofs.Listing.{Listed, listed_none, listed_more, listed_all}
 use Rattle.swaps.proofs.start.list_rows.Statement.{statement}
 use Rattle.swaps.proofs.start.list_rows.Tie as tie
@@ -18,14 +18,14 @@ abbrev decreases-loop : tie.decreases-loop
 decreases-loop m cols rows₀ i₀ rows i = m - i
 
 cast-fill : tie.Need-overflow-cast-fill invariant-loop decreases-loop
-cast-fill c = omega (arith, side-small, c.before.before.before.requires.0)
+cast-fill c = omega (arith, side_small, c.before.before.before.requires.0)
 
 fill-requires : tie.Need-fill-requires invariant-loop decreases-loop
 fill-requires c κs = search rules
 
 -- the filled list is as long as it was
-filled-size : (c : tie.After-fill invariant-loop decreases-loop) → length c.before.before.before.before.args.rows.now ≡ length c.fill.new.0
-filled-size c =
+filled_size : (c : tie.After-fill invariant-loop decreases-loop) → length c.before.before.before.before.args.rows.now ≡ length c.fill.new.0
+filled_size c =
     let u = c.before.before.before.before.args in sym (ap length c.fill.ensures ∙ length-table (length u.rows.now) (λ k. u.m))
 
 loop-holds : tie.Need-loop-init invariant-loop decreases-loop
@@ -33,7 +33,7 @@ loop-holds c =
     let f = c.before.before in
     let u = f.before.before.before.before.args in (
       omega arith,
-      λ n inj e. listed_none u.m n u.cols.now inj f.fill.new.0 (f.fill.ensures ∙ ap (λ (k : ℕ). table k (λ j. u.m)) (filled-size f ∙ sym e)),
+      λ n inj e. listed_none u.m n u.cols.now inj f.fill.new.0 (f.fill.ensures ∙ ap (λ (k : ℕ). table k (λ j. u.m)) (filled_size f ∙ sym e)),
     )
 
 -- the call's start, and what is listed so far
@@ -42,7 +42,7 @@ start a = a.before.before.before.before.before.before.before
 
 listed : (a : tie.At-loop invariant-loop decreases-loop)
     → let u = (start a).args in Listed u.m (length u.rows.now) u.cols.now (start a).requires.2 a.loop.i a.loop.rows
-listed a = let s = start a in a.loop.invariant.1 (length s.args.rows.now) s.pre.2 (filled-size a.before.before.before)
+listed a = let s = start a in a.loop.invariant.1 (length s.args.rows.now) s.pre.2 (filled_size a.before.before.before)
 
 mul-j : tie.Need-overflow-mul-j invariant-loop decreases-loop
 mul-j c = search rules
@@ -54,7 +54,7 @@ cast-j : tie.Need-overflow-cast-j invariant-loop decreases-loop
 cast-j c = omega (arith, c.shared-slice-known2.given c.before.before.loop.i)
 
 cast-rows : tie.Need-overflow-cast-rows invariant-loop decreases-loop
-cast-rows c = omega (arith, side-small, c.before.loop-test.true, (start c.before.before).pre.0)
+cast-rows c = omega (arith, side_small, c.before.loop-test.true, (start c.before.before).pre.0)
 
 -- the row's column is a place
 inside : (c : tie.In-loop invariant-loop decreases-loop) → let u = (start c.before).args in at u.cols.now c.before.loop.i < length c.before.loop.rows

@@ -11,7 +11,7 @@ use lib.ListN.{length, set, length-set}
 use lib.Seq.{get_or-set_other}
 use Rattle.lists.specs.Permutations.{at}
 use Rattle.lists.proofs.Cases.{cond_cases}
-use Rattle.matrix.proofs.SmallLimits.{side-small}
+use Rattle.matrix.proofs.SmallLimits.{side_small}
 use Rattle.swaps.specs.Rooms.{CanGo, entered, advanced, finished, place_in, over_to, gone}
 use Rattle.swaps.specs.declared.Turned.TheVariants.{On, Back}
 use Rattle.swaps.proofs.walk.go.Statement.{statement}
@@ -27,11 +27,11 @@ module _ (m n size x c : ℕ) (room : List ℕ) (h : CanGo m n size x c room) wh
   y = over_to m x c next
 
   next-size : length next ≡ n + n + n + n
-  next-size = length-set room (n + n + n + x) c ∙ h.room-size
+  next-size = length-set room (n + n + n + x) c ∙ h.room_size
 
   -- the node to which the choice leads
   node-inside : c < n → y < n
-  node-inside l = cond_cases (ltb x m) (λ k. k < n) (at next c) c (λ t. omega (arith, get_or-set_other room (n + n + n + x) c c 0 (λ e. omega arith), h.nodes-inside c l)) (λ t. l)
+  node-inside l = cond_cases (ltb x m) (λ k. k < n) (at next c) c (λ t. omega (arith, get_or-set_other room (n + n + n + x) c c 0 (λ e. omega arith), h.nodes_inside c l)) (λ t. l)
 
   done-gone : n ≤ c → (On (size - 1), finished n x next) ≡ gone m n size x c room
   done-gone l = rw (le-ltb c n l)
@@ -51,21 +51,21 @@ module _ (m n size x c : ℕ) (room : List ℕ) (h : CanGo m n size x c room) wh
 record Facts (n size x c room : ℕ) : Type 0 where
   small : n < 2 ^ 16
   some : 0 < size
-  path-size : size ≤ n
+  path_size : size ≤ n
   node : x < n
-  choice-size : c ≤ n
-  room-size : room ≡ n + n + n + n
+  choice_size : c ≤ n
+  room_size : room ≡ n + n + n + n
 
 facts : (c : tie.After-slice-known) → let u = c.before.args in Facts u.n u.size u.x u.c (length u.room.now)
 facts c =
     let h = c.before.requires in
     record {
-      small = omega (arith, side-small, h.small);
+      small = omega (arith, side_small, h.small);
       some = h.some;
-      path-size = h.path-size;
+      path_size = h.path_size;
       node = h.node;
-      choice-size = h.choice-size;
-      room-size = h.room-size;
+      choice_size = h.choice_size;
+      room_size = h.room_size;
     }
 
 add-n2 : tie.Need-overflow-add-n2
@@ -167,7 +167,7 @@ same-length-3 c =
     ∙ length-set (set room (u.n + u.size) o.over-to.result) (u.n + u.n + o.over-to.result) 1
     ∙ length-set room (u.n + u.size) o.over-to.result
     ∙ stored a
-    ∙ sym a.before.requires.room-size
+    ∙ sym a.before.requires.room_size
 
 returns-3 : tie.Need-returns-3
 returns-3 c =

@@ -6,12 +6,12 @@ use borrow.Author.Rules.{rules}
 use lib.ListN.{length}
 use mir.Facts.{to_z-of_z}
 use Rattle.lists.specs.Permutations.{at}
-use Rattle.matrix.proofs.SmallLimits.{side-small}
+use Rattle.matrix.proofs.SmallLimits.{side_small}
 use Rattle.bars.specs.Barred.{night_of}
 use Rattle.swaps.specs.Walks.{last}
 use Rattle.swaps.specs.Second.{nodes}
 use Rattle.swaps.specs.Rooms.{walk_of, first_open}
-use Rattle.swaps.proofs.Turning.{fewer, path-below, last-read, last-inside, open_below, begun, gone_turned, can_go, can-choose}
+use Rattle.swaps.proofs.Turning.{fewer, path_below, last-read, last_inside, open_below, begun, gone_turned, can_go, can_choose}
 use Rattle.swaps.proofs.walk.turn.Statement.{statement}
 use Rattle.swaps.proofs.walk.turn.Tie as tie
 
@@ -22,18 +22,18 @@ start c = c.before.before.before
 record Facts (n count size room : ℕ) : Type 0 where
   small : n < 2 ^ 16
   nodes-few : count ≤ n
-  path-size : size ≤ count
-  room-size : room ≡ n + n + n + n
+  path_size : size ≤ count
+  room_size : room ≡ n + n + n + n
 
 facts : (s : tie.Start) → let u = s.args in Facts u.n u.count u.size (length u.room.now)
 facts s =
     let u = s.args in
     let p = s.requires in
     record {
-      small = omega (arith, side-small, p.fair.small);
+      small = omega (arith, side_small, p.fair.small);
       nodes-few = omega (arith, p.counted, fewer u.m u.n u.costs.now u.bars.now u.cols.now u.us.now u.vs.now u.ts.now p.fair u.size u.room.now p.holds p.lowered p.underway);
-      path-size = omega (arith, p.counted, path-below u.m u.n u.costs.now u.bars.now u.cols.now u.us.now u.vs.now u.ts.now p.fair u.size u.room.now p.holds p.lowered p.underway);
-      room-size = p.holds.room-size;
+      path_size = omega (arith, p.counted, path_below u.m u.n u.costs.now u.bars.now u.cols.now u.us.now u.vs.now u.ts.now p.fair u.size u.room.now p.holds p.lowered p.underway);
+      room_size = p.holds.room_size;
     }
 
 first-open-requires : tie.Need-first-open-requires
@@ -113,9 +113,9 @@ choose-requires c κs =
     let s = start e.before in
     let u = s.args in
     let p = s.pre in
-    can-choose u.m u.n u.costs.now u.bars.now u.cols.now u.us.now u.vs.now u.ts.now p.fair u.size u.room.now p.holds p.lowered p.underway _
+    can_choose u.m u.n u.costs.now u.bars.now u.cols.now u.us.now u.vs.now u.ts.now p.fair u.size u.room.now p.holds p.lowered p.underway _
     (to_z-of_z s.fits.top ∙ p.highest) (at u.room.now (u.n + u.size - 1))
-    (omega (arith, is_last e, last-inside u.m u.n u.costs.now u.bars.now u.cols.now u.us.now u.vs.now u.ts.now p.fair u.size u.room.now p.holds p.lowered p.underway (some e)))
+    (omega (arith, is_last e, last_inside u.m u.n u.costs.now u.bars.now u.cols.now u.us.now u.vs.now u.ts.now p.fair u.size u.room.now p.holds p.lowered p.underway (some e)))
 
 -- the last node, from its choice
 abbrev chosen : tie.After-choose → tie.Else1

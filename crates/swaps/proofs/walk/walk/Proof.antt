@@ -7,10 +7,10 @@ use mir.Facts.{to_z-of_z}
 use Rattle.lists.specs.Runs.{on, left}
 use Rattle.assignment.specs.Pairings.{Night}
 use Rattle.bars.specs.Barred.{night_of}
-use Rattle.matrix.proofs.SmallLimits.{side-small}
+use Rattle.matrix.proofs.SmallLimits.{side_small}
 use Rattle.swaps.specs.Rooms.{Lowered, walk_of, Holds}
 use Rattle.swaps.specs.declared.Turned.TheVariants.{On, Back}
-use Rattle.swaps.proofs.Choosing.{nodes-columns}
+use Rattle.swaps.proofs.Choosing.{nodes_columns}
 use Rattle.swaps.proofs.Walking.{after, none_made, one_more, all_made, has_left, turned_as}
 use Rattle.swaps.proofs.walk.walk.Statement.{statement}
 use Rattle.swaps.proofs.walk.walk.Tie as tie
@@ -31,7 +31,7 @@ start a = a.before.before.before.before
 few : (s : tie.Start invariant-loop decreases-loop) → s.args.count < 2 ^ 16
 few s =
     let u = s.args in
-    omega (arith, side-small, s.requires.fair.small, s.requires.counted, nodes-columns (night_of u.m u.n u.costs.now u.bars.now) u.cols.now s.requires.fair.pairing)
+    omega (arith, side_small, s.requires.fair.small, s.requires.counted, nodes_columns (night_of u.m u.n u.costs.now u.bars.now) u.cols.now s.requires.fair.pairing)
 
 add-turns : tie.Need-overflow-add-turns invariant-loop decreases-loop
 add-turns c = omega (arith, few c.before.before.before)
