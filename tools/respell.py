@@ -55,7 +55,9 @@ def main(dry):
             own[name].add(p)
             if "/specs/" in p and "-" not in name and m.group(0)[0] not in " \t":
                 definitions.add(snake(name) if name[0].islower() else name)
-                defined.add(snake(name))
+                defined.add(BY_HAND.get(name, snake(name)))
+            if name[0].islower() and "-" not in name and snake(name) != name:
+                defined.add(BY_HAND.get(name, snake(name)))
     renamed = {}
     for name in [*own, *BY_HAND]:
         if name[0].isupper() and "-" not in name:

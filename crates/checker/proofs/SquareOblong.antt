@@ -30,7 +30,7 @@ use Rattle.matrix.proofs.Verdicts.{then_iff, then_assoc, fails_then, passed_then
 use Rattle.matrix.proofs.Passed.{side_within_lem, list_long_lem, lists_long_lem, columns_inside_lem}
 use Rattle.bars.specs.Barred.{night_of}
 use Rattle.bars.proofs.Passed.{square-unbarred}
-use Rattle.checker.specs.Tests.{rows_named_lem, rows_fit_lem, columns_once, spares_not_below}
+use Rattle.checker.specs.Tests.{rows_named, rows_fit, columns_once, spares_not_below}
 use Rattle.checker.specs.Check.{price_tests, checks, check, shaped_oblong, paired_oblong, checks_oblong, check_oblong}
 use Rattle.checker.proofs.Tests.{rows_named_lem, rows_fit_lem, columns_once_lem, spares_not_below_lem}
 
@@ -95,7 +95,7 @@ module _ (n : ℕ) (costs : List ℤ) (cols rows : List ℕ) (us vs : List ℤ) 
 
   shaped-same : shaped_oblong n n costs (length cols) (length us) (length vs) ≡ lists
   shaped-same =
-      let passes = (then_iff (side_within sheet_side n) (rows_fit_lem n n)).1 ((side_within_lem sheet_side n).1 small, (rows_fit_lem n n).1 (le_refl n)) in
+      let passes = (then_iff (side_within sheet_side n) (rows_fit n n)).1 ((side_within_lem sheet_side n).1 small, (rows_fit_lem n n).1 (le_refl n)) in
       ap (λ (v : Verdict). v then list_long 1 n (length cols) then list_long 3 n (length us) then list_long 4 n (length vs)) (passed_before _ (costs_fill n n costs) passes)
 
   square-same : shaped n costs (length cols ∷ length rows ∷ length us ∷ length vs ∷ []) ≡ lists
@@ -111,9 +111,9 @@ module _ (n : ℕ) (costs : List ℤ) (cols rows : List ℕ) (us vs : List ℤ) 
       passed_after _ (columns_once n cols) ((columns_once_lem n cols).1 injective.once)
       ∙ passed_after (costs_within costs) (columns_inside n n cols) ((columns_inside_lem n n cols).1 named.inside)
 
-  named_same : (costs_within costs then columns_inside n n cols then rows_named_lem n cols rows) ≡ costs_within costs
+  named_same : (costs_within costs then columns_inside n n cols then rows_named n cols rows) ≡ costs_within costs
   named_same =
-      passed_after _ (rows_named_lem n cols rows) ((rows_named_lem n cols rows).1 named.back)
+      passed_after _ (rows_named n cols rows) ((rows_named_lem n cols rows).1 named.back)
       ∙ passed_after (costs_within costs) (columns_inside n n cols) ((columns_inside_lem n n cols).1 named.inside)
 
   checks-same : checks_oblong n n costs cols us vs ≡ checks n costs cols rows us vs

@@ -24,13 +24,13 @@ use Rattle.matrix.specs.Verdicts.{Passes}
 use Rattle.matrix.proofs.First.{Clear, nowhere, ended}
 use Rattle.matrix.proofs.Verdicts.{then_iff, fails_if_iff, fails_at_by_iff, fails_at_iff}
 use Rattle.matrix.proofs.Passed.{prices_within_lem}
-use Rattle.checker.specs.Tests.{rows_named_lem, slack, over, over_in, under_costs, under_costs_but, loose, tight_on, tight_on_but, rows_fit_lem, used_by, columns_once, spare_below, spares_not_below}
+use Rattle.checker.specs.Tests.{rows_named, slack, over, over_in, under_costs, under_costs_but, loose, tight_on, tight_on_but, rows_fit, used_by, columns_once, spare_below, spares_not_below}
 use Rattle.checker.specs.Check.{price_tests}
 use Rattle.checker.specs.Proven.{Fair, FeasibleBut, TightBut}
 use Rattle.checker.proofs.Places.{differ_false, differ_same}
 use Rattle.checker.proofs.But.{but_clear}
 
-pub rows_named_lem : (n : ℕ) (cols rows : List ℕ) → Passes (rows_named_lem n cols rows) ↔ ((i : ℕ) → i < n → at rows (at cols i) ≡ i)
+pub rows_named_lem : (n : ℕ) (cols rows : List ℕ) → Passes (rows_named n cols rows) ↔ ((i : ℕ) → i < n → at rows (at cols i) ≡ i)
 rows_named_lem n cols rows =
     let t = fails_at_iff _ _ _ _ in
     (λ e i l. eqb-true (at rows (at cols i)) i (not-false _ (t.0 e i l)), λ h. t.1 (λ i l. ap not (eq-eqb (at rows (at cols i)) i (h i l))))
@@ -123,7 +123,7 @@ price_tests_iff night cols us vs rows columns = (
 
 -- ---- an oblong night
 
-pub rows_fit_lem : (m n : ℕ) → Passes (rows_fit_lem m n) ↔ (m ≤ n)
+pub rows_fit_lem : (m n : ℕ) → Passes (rows_fit m n) ↔ (m ≤ n)
 rows_fit_lem m n = let t = fails_if_iff _ _ _ in (λ e. ltb-false n m (t.0 e), λ h. t.1 (le-ltb n m h))
 
 -- A column that one of the rows has, and one that none has.

@@ -12,7 +12,7 @@ use Rattle.layout.specs.Trailers.{has_row_count, side_of, edition_of}
 use Rattle.matrix.specs.Limits.{sheet_side}
 use Rattle.matrix.specs.Verdicts.{Passes, ◌then◌}
 use Rattle.matrix.proofs.Verdicts.{fails_if_iff}
-use Rattle.sheet.specs.Reading.{rows_of, trailed, rows_fit_lem, room_long}
+use Rattle.sheet.specs.Reading.{rows_of, trailed, rows_fit, room_long}
 use Rattle.sheet.proofs.Passing.{rows_passed}
 use Rattle.lines.specs.Lines.{output, Printed, printed}
 
@@ -25,7 +25,7 @@ count_within sheet room answer e =
     omega (arith, ap (λ (p : Printed). p.count) e, ap (λ (p : Printed). length p.room) e, length-append (output sheet) (drop (length (output sheet)) room))
 
 -- 16 does not arise: a slip of any edition, rows and side is at most as long as edition 3's of the most rows and columns.
-pub room_enough : (sheet : List ℕ) → Passes (trailed sheet then rows_fit_lem sheet) → Passes (room_long (slip_length 3 sheet_side sheet_side) sheet)
+pub room_enough : (sheet : List ℕ) → Passes (trailed sheet then rows_fit sheet) → Passes (room_long (slip_length 3 sheet_side sheet_side) sheet)
 room_enough sheet p =
     let c = rows_passed sheet p in
     let long : slip_length (edition_of sheet) (rows_of sheet) (side_of sheet) ≤ slip_length 3 sheet_side sheet_side = omega (arith, c.fewer, c.small, by (has_row_count (edition_of sheet))) in

@@ -28,7 +28,7 @@ use Rattle.matrix.proofs.Codes.{square_small}
 use Rattle.matrix.proofs.Places.{place-below}
 use Rattle.matrix.proofs.Passed.{columns_inside_lem}
 use Rattle.matrix.proofs.Verdicts.{then_iff, Every, then_every, fails_at_by_every, Small, then_small, fails_if_small, fails_at_by_small, fails_at_small}
-use Rattle.checker.specs.Tests.{rows_named_lem, over, over_in, but, under_costs_but, loose, tight_on_but}
+use Rattle.checker.specs.Tests.{rows_named, over, over_in, but, under_costs_but, loose, tight_on_but}
 use Rattle.checker.specs.Slacks.{SlackRight}
 use Rattle.checker.proofs.But.{but_self, but_holds}
 use Rattle.checker.proofs.Tests.{under_costs_but_lem}
@@ -36,7 +36,7 @@ use Rattle.checker.proofs.Slacks.{none_if, none_at, neither_right, over_slacks, 
 use Rattle.lapjv.specs.Solve.{Lent, tested}
 use Rattle.lapjv.proofs.Codes.{tested_small}
 use Rattle.lapjv.proofs.Tests.{tested_iff}
-use Rattle.repair.specs.Tests.{row_inside_lem, prices_near, repair_tests}
+use Rattle.repair.specs.Tests.{row_inside, prices_near, repair_tests}
 use Rattle.repair.specs.Repair.{outcome, repair}
 
 module _ (n : ℕ) (costs : List ℤ) (row : ℕ) (lent : Lent) where
@@ -47,9 +47,9 @@ module _ (n : ℕ) (costs : List ℤ) (row : ℕ) (lent : Lent) where
   vs = lent.prices_of_columns
 
   -- What holds of every refusal of each test, once those before it have passed, holds of every refusal.
-  every : (P : Refusal → Type 0) → Every P (tested n costs lent) → (Passes (tested n costs lent) → Every P (row_inside_lem n row))
+  every : (P : Refusal → Type 0) → Every P (tested n costs lent) → (Passes (tested n costs lent) → Every P (row_inside n row))
       → (Passes (tested n costs lent) → Every P (columns_inside n n lent.cols))
-      → (Passes (tested n costs lent) → Every P (rows_named_lem n lent.cols lent.rows))
+      → (Passes (tested n costs lent) → Every P (rows_named n lent.cols lent.rows))
       → (Passes (tested n costs lent) → Every P (prices_within n n us vs))
       → (Passes (tested n costs lent) → Every P (prices_near n us vs))
       → (Passes (tested n costs lent) → Passes (prices_within n n us vs) → Every P (under_costs_but row (square n costs) us vs))
@@ -67,10 +67,10 @@ module _ (n : ℕ) (costs : List ℤ) (row : ℕ) (lent : Lent) where
       (λ e. let p = priced ((then_iff _ _).0 e).0 in g p.0 p.2))
       (λ e. let t = (then_iff _ _).0 e in let p = priced ((then_iff _ _).0 t.0).0 in h p.0 p.1 p.2 t.1)
     where
-      listed : Passes (tested n costs lent then row_inside_lem n row then columns_inside n n lent.cols) → Passes (tested n costs lent) × Passes (columns_inside n n lent.cols)
+      listed : Passes (tested n costs lent then row_inside n row then columns_inside n n lent.cols) → Passes (tested n costs lent) × Passes (columns_inside n n lent.cols)
       listed e = let t = (then_iff _ _).0 e in (((then_iff _ _).0 t.0).0, t.1)
 
-      priced : Passes (tested n costs lent then row_inside_lem n row then columns_inside n n lent.cols then rows_named_lem n lent.cols lent.rows then prices_within n n us vs)
+      priced : Passes (tested n costs lent then row_inside n row then columns_inside n n lent.cols then rows_named n lent.cols lent.rows then prices_within n n us vs)
           → Passes (tested n costs lent) × Passes (columns_inside n n lent.cols) × Passes (prices_within n n us vs)
       priced e = let t = (then_iff _ _).0 e in let l = listed ((then_iff _ _).0 t.0).0 in (l.0, l.1, t.1)
 

@@ -19,11 +19,11 @@ use Rattle.matrix.proofs.Passed.{columns_inside_lem, prices_in_lem, prices_withi
 use Rattle.checker.proofs.Tests.{rows_named_lem, under_costs_but_lem, tight_on_but_lem}
 use Rattle.lapjv.specs.Solve.{Lent}
 use Rattle.lapjv.proofs.Tests.{tested_iff}
-use Rattle.repair.specs.Tests.{row_inside_lem, repair_tests}
+use Rattle.repair.specs.Tests.{row_inside, repair_tests}
 use Rattle.repair.specs.Repair.{repaired_by, mended_in, refused, settled, outcome, repair}
 use Rattle.repair.specs.Repairable.{Repairable}
 
-pub row_inside_lem : (n row : ℕ) → Passes (row_inside_lem n row) ↔ (row < n)
+pub row_inside_lem : (n row : ℕ) → Passes (row_inside n row) ↔ (row < n)
 row_inside_lem n row = let t = fails_if_iff _ _ _ in (λ e. leb-false n row (t.0 e), λ h. t.1 (lt-leb n row h))
 
 module _ (n : ℕ) (costs : List ℤ) (row : ℕ) (lent : Lent) where

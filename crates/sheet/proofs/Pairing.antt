@@ -32,7 +32,7 @@ use Rattle.matrix.proofs.Verdicts.{then_iff, then_small, fails_if_small, fails_a
 use Rattle.sheet.specs.declared.State.{State}
 use Rattle.sheet.specs.declared.Reply.TheVariants.{Accepted, Refused, Blocked}
 use Rattle.sheet.specs.declared.Settled.{Settled}
-use Rattle.sheet.specs.Reading.{sheet_most, has_bars, rows_of, Laid, laid_of, trailed, rows_fit_lem, pointed, unfit, note_fit, sheet_tests, night_tests, Read, refused, night, night_if, read_if, read}
+use Rattle.sheet.specs.Reading.{sheet_most, has_bars, rows_of, Laid, laid_of, trailed, rows_fit, pointed, unfit, note_fit, sheet_tests, night_tests, Read, refused, night, night_if, read_if, read}
 use Rattle.sheet.specs.Settle.{fresh, found, ended, barred_row, rows_shown, blocked_with, accepted_with, settled_as, Delivery, blocked_as, slip_as, paired_as}
 use Rattle.sheet.proofs.Limits.{sheet_most_small}
 use Rattle.sheet.proofs.Passing.{trailed_passed, tests_passed}
@@ -57,7 +57,7 @@ two_bytes sheet bytes a =
     value_below (part a 2 sheet) 2 (part-short a 2 sheet)
     (λ i l. rw (part_at a 2 sheet i 0 (omega (arith, part-short a 2 sheet))) (bytes (a + i) (part_inside a 2 sheet i l)))
 
-rows_small : (sheet : List ℕ) → Bytes sheet → verdicts.Small (rows_fit_lem sheet)
+rows_small : (sheet : List ℕ) → Bytes sheet → verdicts.Small (rows_fit sheet)
 rows_small sheet bytes = then_small _ _ (fails_if_small _ _ _ (lit< tt) (λ e. lit< tt)) (λ e. fails_if_small _ _ _ (lit< tt) (λ f. by (has_row_count (edition_of sheet))))
   where
     by : (t : Bool) → cond t (row_count_of sheet) (side_of sheet) < 2 ^ 48

@@ -11,7 +11,7 @@ use Rattle.layout.specs.Slips.{slip_length}
 use Rattle.matrix.specs.Limits.{sheet_side}
 use Rattle.matrix.specs.Verdicts.{Passes, ◌then◌}
 use Rattle.matrix.proofs.Verdicts.{then_iff, fails_if_iff}
-use Rattle.sheet.specs.Reading.{sheet_most, rows_of, distance_due, laid_at, laid_of, trailed, rows_fit_lem, pointed, sheet_tests}
+use Rattle.sheet.specs.Reading.{sheet_most, rows_of, distance_due, laid_at, laid_of, trailed, rows_fit, pointed, sheet_tests}
 use Rattle.sheet.specs.Asked.{Ended, Counted}
 
 -- A sheet that is not refused by 11 has a trailer.
@@ -34,7 +34,7 @@ trailed_passed sheet p =
     )
 
 -- 23.
-pub rows_passed : (sheet : List ℕ) → Passes (trailed sheet then rows_fit_lem sheet) → Counted sheet
+pub rows_passed : (sheet : List ℕ) → Passes (trailed sheet then rows_fit sheet) → Counted sheet
 rows_passed sheet p =
     let t23 = (then_iff _ _).0 p in
     let ends = trailed_passed sheet t23.0 in

@@ -28,7 +28,7 @@ use Rattle.matrix.specs.Verdicts.{Passes}
 use Rattle.matrix.proofs.SmallLimits.{sheet_side_small, K_small}
 use Rattle.matrix.proofs.Verdicts.{then_iff, fails_if_iff, fails_at_iff}
 use Rattle.matrix.proofs.Passed.{costs_in_lem}
-use Rattle.sheet.specs.Reading.{sheet_most, note_most, has_bars, unknown, rows_of, distance_due, cost_most, Laid, laid_at, laid_of, bars_in, note_length, unprintable, unfit, trailed, rows_fit_lem, pointed, note_fit, room_long, sheet_tests, night_tests, night_if, read_if, night_tested, night, read, Printable, Layable}
+use Rattle.sheet.specs.Reading.{sheet_most, note_most, has_bars, unknown, rows_of, distance_due, cost_most, Laid, laid_at, laid_of, bars_in, note_length, unprintable, unfit, trailed, rows_fit, pointed, note_fit, room_long, sheet_tests, night_tests, night_if, read_if, night_tested, night, read, Printable, Layable}
 use Rattle.sheet.proofs.Limits.{sheet_most_large}
 use Rattle.sheet.proofs.Editions.{cost_most_within, due_short, barred_uncounted, counted_unbarred}
 
@@ -152,7 +152,7 @@ module _ (note : List ℕ) (laid : Laid) (room : ℕ) (printable : Printable not
       let t12 = (then_iff _ _).1 (t11, (fails_if_iff _ _ _).1 (ap unknown edition_read ∙ g.known)) in
       (then_iff _ _).1 (t12, (fails_if_iff _ _ _).1 (le-ltb sheet_side (side_of sheet) (omega (arith, g.small, side-read))))
 
-  rows_passed : Passes (rows_fit_lem sheet)
+  rows_passed : Passes (rows_fit sheet)
   rows_passed = (then_iff _ _).1 (
     (fails_if_iff _ _ _).1 (ap (λ (d : ℕ). has_row_count d && ltb (length sheet) 14) edition_read ∙ by (has_row_count edition) refl),
     (fails_if_iff _ _ _).1 (le-ltb (side_of sheet) (rows_of sheet) (omega (arith, rows_read, side-read, g.fewer))),
