@@ -1,0 +1,14 @@
+-- `spares_not_below` hands a refusal on, and answers test 27 where none came. Assumes nothing.
+use mathlib.Core.Path.{◌∙◌}
+use Rattle.matrix.proofs.Verdicts.{fails_then, passed_then, failed_at}
+use Rattle.checker.proofs.choices.spares_not_below.Goals as goal
+
+pub returns-in-Fails : goal.returns-in-Fails
+returns-in-Fails c = fails_then _ c.in-Fails.is
+
+pub first_spare_below-j-requires : goal.first_spare_below-j-requires
+first_spare_below-j-requires c = c.requires c.in-Passed.is
+
+pub returns : goal.returns
+returns c =
+    passed_then _ c.in-Passed.is (c.fails_if.ensures ∙ failed_at _ (λ i. i) _ _ c.first_spare_below-j.ensures)

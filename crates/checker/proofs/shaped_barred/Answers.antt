@@ -1,0 +1,24 @@
+-- `shaped_barred` runs tests 1, 2 and 3 of a night with bars one after the other. Assumes nothing.
+use mathlib.Core.Path.{◌≡◌, sym, ap, ◌∙◌}
+use Prim.Native.Nat.{ℕ}
+use native.Mathlib.Nat.{le_trans}
+use Rattle.matrix.specs.Limits.{sheet_side}
+use Rattle.matrix.specs.Tests.{side_within}
+use Rattle.matrix.proofs.SmallLimits.{sheet_side_within}
+use Rattle.matrix.proofs.Verdicts.{after}
+use Rattle.matrix.proofs.Passed.{side_within_lem}
+use Rattle.checker.proofs.shaped_barred.Goals as goal
+use Rattle.checker.proofs.shaped_barred.Lts as Lts
+use Rattle.checker.proofs.shaped_barred.Reads as Reads
+use Rattle.checker.proofs.shaped_barred.Tie as Tie
+
+sized : (c : Lts.After-side_within Tie.the-claims Reads.Pre Reads.Post) → c.side_within-sized.result ≡ side_within sheet_side c.args.n
+sized c = c.side_within-sized.ensures ∙ ap (λ (limit : ℕ). side_within limit c.args.n) c.sheet_side.ensures
+
+pub costs_fill-filled-requires : goal.costs_fill-filled-requires
+costs_fill-filled-requires c = λ e. let h = le_trans ((side_within_lem sheet_side _).0 (sym (sized c) ∙ e)) sheet_side_within in (h, h)
+
+pub returns : goal.returns
+returns c =
+    after _ c.list_long.ensures
+    (after _ c.lists_long-long.ensures (after _ c.costs_fill-filled.ensures (sized c.before.before.before)))
