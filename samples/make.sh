@@ -25,7 +25,7 @@ for table in *.table; do
     mv new "${table%.table}.sheet"
 done
 
-# The scores are the archive's: `rt staticlib face` first, or its directory in BRISTLEFROST_LIB.
+# The scores are the archive's: `tools/build face` first, or its directory in BRISTLEFROST_LIB.
 (cd ../rust && cargo run --offline --quiet -p bristlefrost -- score ../samples/look-alikes.firsts ../samples/look-alikes.seconds) |
     keep look-alikes.sheet
 

@@ -13,7 +13,7 @@ fn main() {
     println!("cargo:rerun-if-changed={}", archive.display());
     if !archive.exists() {
         println!(
-            "cargo::error=no libface.a in {}: run `rt staticlib face` in the repository, or name its directory in \
+            "cargo::error=no libface.a in {}: run `tools/build face` in the repository, or name its directory in \
              BRISTLEFROST_LIB",
             directory.display()
         );

@@ -2,26 +2,24 @@
 # Writes the table of the look alone: look.sh [the table's own settings]
 #
 # The leaves of a look are no entries of the archive. So a crate that hands them to C is proved and built beside a copy of the repository's
-# crates, in a folder that is removed at the end; what `rt check reduction` has proved before is not proved again.
+# crates, in a folder that is removed at the end; what `rt check` has proved before, in the folders out/, is not proved again.
 set -eu
 cd "$(dirname "$0")/../../.."
 work=$(mktemp -d)
 trap 'rm -rf "$work"' EXIT
-mkdir -p "$work/crates/look/src" "$work/target"
+mkdir -p "$work/crates/look/src"
 for crate in ints lists assignment matrix rules reduction; do cp -R "crates/$crate" "$work/crates/"; done
-for kept in rlib stamp log; do cp -R "target/$kept" "$work/target/"; done
 {
     grep -E '^(ints|lists|assignment|matrix|rules|reduction):' crates.txt
-    echo 'look: ints lists assignment matrix rules reduction'
+    echo 'look staticlib: ints lists assignment matrix rules reduction'
 } >"$work/crates.txt"
 cat >"$work/crates/look/src/lib.rt" <<'END'
 // The leaves of a look for the benchmark alone. Each answers the column of the lowest.
-ghost use Prim.Native.Nat.{_^_, _≤_, _<_};
-ghost use lib.IntN.{_-ℤ_};
-ghost use lib.ListN.{length};
-ghost use Rattle·assignment.specs.Pairings.{signedAt};
-ghost use Rattle·reduction.specs.Ranges.{Priced};
-ghost use Rattle·reduction.specs.Candidates.{Roomy, Keeps};
+#![tactic(auto)]
+ghost use Rattle.std.specs.Prelude.{◌^◌, ◌≤◌, ◌<◌, ◌-ℤ◌, length};
+ghost use Rattle.assignment.specs.Pairings.{signed_at};
+ghost use Rattle.reduction.specs.Ranges.{Priced};
+ghost use Rattle.reduction.specs.Candidates.{Roomy, Keeps};
 use rules::TwoLowest;
 
 fn lowest(two: TwoLowest) -> usize {
@@ -32,27 +30,27 @@ fn lowest(two: TwoLowest) -> usize {
 }
 
 // Rule 1, which reads the row.
-#[no_mangle]
+#[unsafe(no_mangle)]
 pub extern "C" fn look_plain(row: &[i32], v: &[i64]) -> usize
-    requires { ⌜ Priced (now row) (now v) ⌝ }
+    requires { Priced row.now v.now }
 {
     lowest(reduction::lowest::find_umins_plain(row, v))
 }
 
 // The layer before it: of row i of as many rows as it has columns.
-#[no_mangle]
+#[unsafe(no_mangle)]
 pub extern "C" fn look_kept(row: &[i32], v: &[i64], i: usize, kept: &mut [u32], limits: &mut [i64]) -> usize
-    requires { ⌜ Priced (now row) (now v) × Roomy (length (now row)) (now kept) (now limits) × (i < length (now row)) × (length (now row) ≤ 2 ^ 32) × Keeps (λ j. signedAt (now row) j -ℤ signedAt (now v) j) (length (now row)) i (now kept) (now limits) ⌝ }
+    requires { Priced row.now v.now × Roomy (length row.now) kept.old limits.old × (i < length row.now) × (length row.now ≤ 2 ^ 32) × Keeps (λ j. signed_at row.now j -ℤ signed_at v.now j) (length row.now) i kept.old limits.old }
 {
     lowest(reduction::candidates::two_lowest(row, v, i, kept, limits))
 }
 
 // Nothing is kept of any row.
-#[no_mangle]
+#[unsafe(no_mangle)]
 pub extern "C" fn look_forget(limits: &mut [i64]) {
     reduction::candidates::forget(limits);
 }
 END
-(cd "$work" && rt staticlib look) >"$work/said" 2>&1 || { cat "$work/said"; exit 1; }
+(cd "$work/crates/look" && rt lib) >"$work/said" 2>&1 || { cat "$work/said"; exit 1; }
 cd rust
-LOOK_LIB="$work/target/staticlib" cargo run --offline --quiet --release -p look -- "$@"
+LOOK_LIB="$work/crates/look/out" cargo run --offline --quiet --release -p look -- "$@"
