@@ -1,5 +1,6 @@
 // Laws of the signed integers, for proofs: see specs/ and proofs/. And a number's magnitude, for code that writes it.
 #![tactic(auto)]
+
 ghost use Rattle.std.specs.Prelude.{◌≡◌, nat_abs};
 
 // How far a number is from 0.

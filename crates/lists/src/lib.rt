@@ -1,5 +1,6 @@
 // Counted loops, parts of a lent list, sums and permutations, for definitions and proofs: see specs/ and proofs/. And one loop that fills a list.
 #![tactic(auto)]
+
 ghost use Rattle.std.specs.Prelude.{◌≡◌, length};
 ghost use Rattle.lists.specs.Permutations.{table};
 

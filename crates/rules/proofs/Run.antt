@@ -14,7 +14,7 @@ use Rattle.lists.specs.Runs.{turns, upward, downward, until}
 use Rattle.lists.specs.Sums.{sum}
 use Rattle.lists.specs.Permutations.{at, table}
 use Rattle.lists.proofs.Tables.{length-table, get_d_table}
-use Rattle.assignment.specs.Pairings.{Pairing, Least, Named, square, signed_at, total}
+use Rattle.assignment.specs.Pairings.{Pairing, Least, Named, square, signed_at}
 use Rattle.assignment.specs.Prices.{Feasible, Tight}
 use Rattle.assignment.proofs.Square.{square_prices_least, square_named_pairing, square_named_back}
 use Rattle.rules.specs.Lowest.{reduced, lowest, least_but}
