@@ -1,5 +1,6 @@
 // The auditor's tool: a slip held against its sheet. What is promised is said in specs/. Nothing here solves.
 #![tactic(auto)]
+
 ghost use Rattle.std.specs.Prelude.{◌≡◌, ℕ, ◌+◌, ◌*◌, ◌≤◌, ◌<◌, length, replicate};
 ghost use Rattle.lists.specs.Permutations.{at};
 ghost use Rattle.layout.specs.Slips.{slip_length, slip_total};

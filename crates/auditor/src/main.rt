@@ -1,6 +1,7 @@
 // The auditor's program: the names of a sheet and of a slip as arguments, and to standard output the program's first line or its refusal line.
 // A file that cannot be opened is told on standard error, and nothing is written to standard output.
 #![tactic(auto)]
+
 ghost use Rattle.std.specs.Prelude.{◌≤◌, length};
 ghost use Rattle.lines.specs.Put.{Put};
 ghost use Rattle.audit.specs.Audit.{audit};

@@ -1,5 +1,6 @@
 // Rules 2, 5 and 6: the block of minima, the search with its scan, and augmentation, under the crate's names.
 #![tactic(auto)]
+
 ghost use Rattle.std.specs.Prelude.{◌≡◌, cond, ℕ, ◌+◌, ◌*◌, ◌<◌, ◌≤◌, ◌-ℤ◌, length};
 ghost use Rattle.ints.specs.Parts.{Within};
 ghost use Rattle.lists.specs.Permutations.{at, table, exchange, Permutation};

@@ -1,5 +1,6 @@
 // The checker: it takes any costs, pairing and prices, and accepts only what the prices show to be least. See specs/ and proofs/.
 #![tactic(auto)]
+
 ghost use Rattle.std.specs.Prelude.{◌≡◌, not, [], ◌∷◌, ℕ, ◌*◌, ◌≤◌, ◌<◌, eqb, length};
 ghost use Rattle.lists.specs.Runs.{first};
 ghost use Rattle.lists.specs.Permutations.{at};

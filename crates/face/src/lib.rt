@@ -1,5 +1,6 @@
 // The face for C and Rust: thin, no logic. Each slice is a pointer and its length in elements; structs are returned by value.
 #![tactic(auto)]
+
 ghost use Rattle.std.specs.Prelude.{◌≡◌};
 ghost use Rattle.matrix.specs.Cost.{cost};
 ghost use Rattle.matrix.specs.Answers.{values_of};

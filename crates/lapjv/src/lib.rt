@@ -1,5 +1,6 @@
 // The solver: the tests of its input, the stages one after the other, and the entry. What is promised is said in specs/.
 #![tactic(auto)]
+
 ghost use Rattle.std.specs.Prelude.{◌≡◌, pos, length, replicate};
 ghost use Rattle.assignment.specs.Pairings.{square};
 ghost use Rattle.rules.specs.Run.{prices_of_rows};

@@ -1,5 +1,6 @@
 // Sheets and slips as bytes: numbers, trailers, a sheet's costs, a slip. What is promised is said in specs/; nothing here knows the solver.
 #![tactic(auto)]
+
 pub mod said;
 pub mod sheet;
 pub mod slip;

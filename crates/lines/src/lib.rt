@@ -1,5 +1,6 @@
 // The program's lines: from a sheet's bytes to the bytes that are written. What is promised is said in specs/.
 #![tactic(auto)]
+
 ghost use Rattle.std.specs.Prelude.{◌≡◌, true, cond, [], ◌∷◌, ◌++◌, ℕ, ◌+◌, ◌*◌, ◌%◌, ◌<◌, ◌≤◌, length, take};
 ghost use Rattle.lists.specs.Permutations.{at};
 ghost use Rattle.swaps.specs.Second.{only, also};

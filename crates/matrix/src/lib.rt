@@ -1,6 +1,7 @@
 // A night's costs: the limits, the refusals, the tests that several entries share, a row as a part, and the crate's `cost`.
 // What is promised is said in specs/.
 #![tactic(auto)]
+
 ghost use Rattle.std.specs.Prelude.{◌≡◌, ◌*◌, ◌^◌, ◌≤◌, ◌+ℤ◌, length};
 ghost use Rattle.ints.specs.Parts.{Within};
 ghost use Rattle.matrix.specs.Answers.{values_of};

@@ -1,5 +1,6 @@
 // A sheet that arrives in pieces: they are kept in memory that the caller lends, and the end gives what the whole would have given.
 #![tactic(auto)]
+
 ghost use Rattle.std.specs.Prelude.{◌≡◌, [], ◌∷◌, ◌+◌, ◌≤◌, length};
 ghost use Rattle.lists.specs.Parts.{replaced};
 ghost use Rattle.sheet.specs.Reading.{sheet_most};

@@ -1,6 +1,7 @@
 // The plain engine: every list of columns is tried, in dictionary order, and the first of the least total is kept.
 // What is promised is said in specs/. Nothing here knows the solver.
 #![tactic(auto)]
+
 ghost use Rattle.std.specs.Prelude.{◌≡◌, cond, ℕ, suc, ◌*◌, ◌^◌, ◌<◌, ◌≤◌, ltb, length};
 ghost use Rattle.lists.specs.Permutations.{at};
 ghost use Rattle.bars.specs.Barred.{night_of};

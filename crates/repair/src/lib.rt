@@ -1,6 +1,7 @@
 // The repair of a paired night after one row's costs changed: the tests of its input, one search of the solver's own, and the entry. What is promised
 // is said in specs/.
 #![tactic(auto)]
+
 ghost use Rattle.std.specs.Prelude.{◌≡◌, ◌*◌, ◌≤◌, pos, length};
 ghost use Rattle.assignment.specs.Pairings.{square};
 ghost use Rattle.matrix.specs.Limits.{side, K};

@@ -11,6 +11,7 @@
 // That of one which it refused has "refused", number, place, and "kept" as well. That of the checker or of `cost` has "accepted total" and
 // the total, or "refused", number, "place" and place.
 #![tactic(auto)]
+
 mod checks;
 mod kept;
 mod read;

@@ -1,5 +1,6 @@
 // The score of two references, and a sheet of the scores of two lists of them. What is promised is said in specs/.
 #![tactic(auto)]
+
 ghost use Rattle.std.specs.Prelude.{◌≡◌, pos};
 ghost use Rattle.matrix.specs.Answers.{values_of};
 ghost use Rattle.score.specs.Characters.{Reference, cost_table};

@@ -1,5 +1,6 @@
 // A second pairing with the same total, or that there is only one. What is promised is said in specs/.
 #![tactic(auto)]
+
 ghost use Rattle.std.specs.Prelude.{◌≡◌, ◌≤◌};
 ghost use Rattle.bars.specs.Barred.{night_of};
 ghost use Rattle.matrix.specs.Limits.{side};
