@@ -49,7 +49,6 @@ side_of-n-requires c = (passed c.before.before.before).counted.ended.long
 
 -- ---- rows and columns are few
 
-
 fewer : (c : Lts.After-side_of Tie.the-claims Reads.Pre Reads.Post) → c.rows_of-m.result ≤ c.side_of-n.result
 fewer c = omega (arith, c.rows_of-m.ensures.0, c.side_of-n.ensures.0, (passed c.before.before.before).counted.fewer)
 

@@ -19,7 +19,6 @@ use Rattle.audit.proofs.audit_night.Tie as Tie
 
 -- ---- what the rooms hold when the night is asked for
 
-
 module _ (c : Lts.After-bars Tie.the-claims Reads.Pre Reads.Post) where
   abbrev m : ℕ
   m = c.args.m

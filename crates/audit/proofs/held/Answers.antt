@@ -25,7 +25,6 @@ use Rattle.audit.proofs.held.Tie as Tie
 
 -- ---- what the rooms hold when the tests are made
 
-
 module _ (c : Lts.After-proof_tests Tie.the-claims Reads.Pre Reads.Post) where
   abbrev m : ℕ
   m = c.args.m
@@ -78,7 +77,6 @@ total_of-total-requires c =
 
 -- ---- the total of the pairing
 
-
 module _ (c : Lts.After-total_of Tie.the-claims Reads.Pre Reads.Post) where
   passed : Passes (slip_tests (m c.before.before) (n c.before.before) (costs c.before.before) (bars c.before.before) (slip c.before.before))
   passed = sym (tested c.before.before) ∙ c.in-Passed.is
@@ -94,4 +92,4 @@ compared-requires c =
 
 pub returns : goal.returns
 returns c =
-    accepted_slip (m c.before.before.before.before.before.before.before.before.before.before) (n c.before.before.before.before.before.before.before.before.before.before) (costs c.before.before.before.before.before.before.before.before.before) (bars c.before.before.before.before.before.before.before.before.before) (slip c.before.before.before.before.before.before.before.before.before) (passed c.before.before.before.before.before.before.before) _ (total_is c.before.before.before.before.before.before.before) c.compared.result c.compared.ensures
+    accepted_slip (m c.before.before.before.before.before.before.before.before.before.before) (n c.before.before.before.before.before.before.before.before.before.before) (costs c.before.before.before.before.before.before.before.before.before.before) (bars c.before.before.before.before.before.before.before.before.before.before) (slip c.before.before.before.before.before.before.before.before.before.before) (passed c.before.before.before.before.before.before.before.before) _ (total_is c.before.before.before.before.before.before.before.before) c.compared.result c.compared.ensures

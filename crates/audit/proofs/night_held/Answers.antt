@@ -41,7 +41,6 @@ unlike-requires c = let p = c.requires in (p.fewer, omega (arith, p.small, sheet
 
 -- ---- 5, 22 and 25
 
-
 both-tested : (c : Lts.After-both Tie.the-claims Reads.Pre Reads.Post) → let u = c.args in
     c.both.result ≡ (night_tests (laid c.before.before.before) then fails_if SlipWrong 0 (unlike u.edition u.m u.n u.slip.now))
 both-tested c =

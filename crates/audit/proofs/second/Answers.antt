@@ -18,4 +18,4 @@ pub returns-in-Costs : goal.returns-in-Costs
 returns-in-Costs c =
     let u = c.args in
     let f : SFits w64 c.in-Costs.least = search rules in
-    to_z-of_z f ∙ second_total u.m u.n u.costs.now u.bars.now u.total c.requires.1 c.requires.0 _ c.requires.4 c.engine.result c.engine.ensures.0 c.in-Costs.least c.in-Costs.is
+    to_z-of_z f ∙ second_total u.m u.n u.costs.now u.bars.now u.total c.requires.1 c.requires.0 _ c.requires.4 c.engine.result c.engine.ensures.found c.in-Costs.least c.in-Costs.is

@@ -29,7 +29,6 @@ overflow_add-distance-4 c =
 
 -- ---- the tests that are passed
 
-
 abbrev slip : Lts.After-row_count_length Tie.the-claims Reads.Pre Reads.Post → List ℕ
 slip c = c.args.slip.now
 

@@ -55,7 +55,7 @@ returns-then-v-vs c =
     let u = c.args in
     let l = c.loop-i in
     found (test u.cols.now u.vs.now (held c.before.before.before.before.before.before)) u.m l.i (omega arith) l.invariant.1 (sym (tested c.before.before) ∙ c.if-v-vs.true)
-    ∙ same c.before.before.before.before.before
+    ∙ same c.before.before.before.before.before.before
 
 pub loop-i-preserved : goal.loop-i-preserved
 loop-i-preserved c =

@@ -46,4 +46,4 @@ pub returns : goal.returns
 returns c =
     let u = c.args in
     let l = c.loop-j in
-    ended (over_bits u.row.now (held c.before.before.before) u.vs.now u.bits) (length u.row.now) l.j (omega arith) l.invariant.1 ∙ same c.before.before.before
+    ended (over_bits u.row.now (held c.before.before) u.vs.now u.bits) (length u.row.now) l.j (omega arith) l.invariant.1 ∙ same c.before.before

@@ -121,11 +121,10 @@ returns-then-over_at-5 c =
     found (test c.before.before.before.before.before.before) (columns c.before.before.before.before.before.before) c.loop-j-2.j c.loop-j-2-test.true c.loop-j-2.invariant.1 (sym c.over_at-in-loop-j-2-2.ensures ∙ c.if-over_at-5.true) ∙ same c.before.before.before.before.before.before
 
 pub loop-j-2-preserved : goal.loop-j-2-preserved
-loop-j-2-preserved c =
-    (
-      omega (arith, c.loop-j-2-test.true),
-      clear_more (test c.before.before.before.before.before.before) c.loop-j-2.j c.loop-j-2.invariant.1 (sym c.over_at-in-loop-j-2-2.ensures ∙ c.if-over_at-5.false),
-    )
+loop-j-2-preserved c = (
+  omega (arith, c.loop-j-2-test.true),
+  clear_more (test c.before.before.before.before.before.before) c.loop-j-2.j c.loop-j-2.invariant.1 (sym c.over_at-in-loop-j-2-2.ensures ∙ c.if-over_at-5.false),
+)
 
 pub returns : goal.returns
 returns c =

@@ -48,11 +48,10 @@ pub bounds-vs-j : goal.bounds-vs-j
 bounds-vs-j c = omega (arith, c.requires.1, c.requires.2.column_prices.enough)
 
 pub slack-requires : goal.slack-requires
-slack-requires c =
-    (
-      rw (read_back w64 (signed_at c.args.us.now c.args.i) c.slack-arg-2-1.given) (c.requires.2.row_prices.within c.args.i c.requires.0),
-      rw (read_back w64 (signed_at c.args.vs.now c.args.j) c.slack-arg-3-1.given) (c.requires.2.column_prices.within c.args.j c.requires.1),
-    )
+slack-requires c = (
+  rw (read_back w64 (signed_at c.args.us.now c.args.i) c.slack-arg-2-1.given) (c.requires.2.row_prices.within c.args.i c.requires.0),
+  rw (read_back w64 (signed_at c.args.vs.now c.args.j) c.slack-arg-3-1.given) (c.requires.2.column_prices.within c.args.j c.requires.1),
+)
 
 pub returns : goal.returns
 returns c =
