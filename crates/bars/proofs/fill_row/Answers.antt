@@ -15,6 +15,7 @@ use Rattle.lists.proofs.Tables.{table_get_d, table_cong, filled_none, filled_mor
 use Rattle.lists.proofs.BitSets.{bit_none}
 use Rattle.bars.specs.Barred.{filled_in}
 use Rattle.bars.proofs.fill_row.Goals as goal
+use Rattle.bars.proofs.fill_row.Goals.{then-has, else-has}
 use Rattle.bars.proofs.fill_row.Lts as Lts
 use Rattle.bars.proofs.fill_row.Reads as Reads
 use Rattle.bars.proofs.fill_row.Tie as Tie
@@ -73,7 +74,7 @@ loop-j-preserved c =
     let h : c.loop-j.j < length u.row.now = inside c.before.before in (
       omega arith,
       turned u.bits (stored u.dear) u.row.now c.loop-j.row c.if-has.row c.loop-j.j c.has.result h c.loop-j.invariant.1
-          c.has.ensures (⊎_elim (λ z. inl (z.0.taken, z.1)) (λ z. inr (z.0.left, z.1)) c.if-has.branch),
+          c.has.ensures (elim c.if-has.branch [ then-has w ↦ inl (w.if-has.true, w.row-is) | else-has w ↦ inr (w.if-has.false, w.row-is) ]),
     )
 
 pub shape_of-row : goal.shape_of-row

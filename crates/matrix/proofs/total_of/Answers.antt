@@ -68,11 +68,11 @@ loop-i-preserved c =
     let u = c.args in
     let l = c.loop-i in
     let p = c.plus-total in
-    (
+    let small : mag (signed_at u.costs.now (l.start + at u.cols.now l.i)) < 2 ^ 31 = omega arith in (
       omega arith,
       omega arith,
-      turn u.n u.costs.now u.cols.now l.i l.start l.total p.result small p.ensures p.type_inv l.invariant.1 l.invariant.2,
-      turn-within u.n u.costs.now u.cols.now l.i l.start l.total p.result small p.ensures p.type_inv l.invariant.3,
+      turn u.n u.costs.now u.cols.now l.i l.start l.total-bits p.result small p.ensures p.type_inv l.invariant.1 l.invariant.2,
+      turn-within u.n u.costs.now u.cols.now l.i l.start l.total-bits p.result small p.ensures p.type_inv l.invariant.3,
     )
 
 pub returns : goal.returns

@@ -12,6 +12,7 @@ use Rattle.lists.specs.Counts.{bit_of}
 use Rattle.bars.specs.Masks.{allowed_mask, columns_mask}
 use Rattle.bars.proofs.reached.columns_mask.Invariants.{joins}
 use Rattle.bars.proofs.reached.columns_mask.Goals as goal
+use Rattle.bars.proofs.reached.columns_mask.Goals.{then-has, else-has}
 
 pub loop-i-init : goal.loop-i-init
 loop-i-init c =
@@ -45,7 +46,7 @@ loop-i-preserved c =
     let a = c.args in (
       omega (arith, c.loop-i-test.true),
       turned a.n a.bars.now a.rows l.i l.columns c.full-all.result c.if-has.columns c.has.result l.invariant.1 l.invariant.2
-          c.has.ensures (⊎_elim (λ y. inl (y.0.taken, y.2)) (λ y. inr (y.0.left, y.1)) c.if-has.branch),
+          c.has.ensures (elim c.if-has.branch [ then-has w ↦ inl (w.if-has.true, w.columns-is) | else-has w ↦ inr (w.if-has.false, w.columns-is) ]),
       l.invariant.2,
     )
 

@@ -12,6 +12,7 @@ use Rattle.lists.specs.Counts.{bit_of}
 use Rattle.bars.specs.Masks.{paired_mask}
 use Rattle.bars.proofs.reached.paired_mask.Invariants.{joins}
 use Rattle.bars.proofs.reached.paired_mask.Goals as goal
+use Rattle.bars.proofs.reached.paired_mask.Goals.{then-has, else-has}
 
 pub loop-i-init : goal.loop-i-init
 loop-i-init c =
@@ -51,7 +52,7 @@ loop-i-preserved c =
     let a = c.args in (
       omega (arith, c.loop-i-test.true),
       turned a.cols.now a.columns a.rows l.i l.set c.if-has.set c.has.result l.invariant.1 c.has.ensures
-          (⊎_elim (λ y. inl (y.0.taken, y.2 ∙ y.1.ensures)) (λ y. inr (y.0.left, y.1)) c.if-has.branch),
+          (elim c.if-has.branch [ then-has w ↦ inl (w.if-has.true, w.set-is ∙ w.with_bit-set.ensures) | else-has w ↦ inr (w.if-has.false, w.set-is) ]),
     )
 
 opened : (n : ℕ) (cols : List ℕ) (columns rows : ℕ) → upward 0 n (joins cols columns) rows ≡ paired_mask n cols columns rows

@@ -16,4 +16,4 @@ costs_in-requires c = rw (read_back w64 c.barred_most.result c.barred_most.type_
 pub returns : goal.returns
 returns c =
     c.costs_in.ensures
-    ∙ ap (λ (z : ℤ). c.args then costs_in z c.args.costs.now) (read_back w64 c.barred_most.result c.barred_most.type_inv ∙ c.barred_most.ensures)
+    ∙ ap (λ (z : ℤ). c.args.before then costs_in z c.args.costs.now) (read_back w64 c.barred_most.result c.barred_most.type_inv ∙ c.barred_most.ensures)

@@ -22,7 +22,7 @@ loop-i-preserved c =
     let u = c.args in (
       omega arith,
       omega arith,
-      w.auto.0 ∙ l.invariant.2,
+      w.auto.room ∙ l.invariant.2,
       ap (λ (room : List ℕ). sets room (l.place + 2) (flat_map (bytes_of 2) (drop (l.i + 1) u.cols.now))) w.ensures
           ∙ field_written (bytes_of 2) 2 (length-bytes_of 2) l.room l.place (l.place + 2) u.cols.now l.i 0 c.loop-i-test.true refl
           ∙ l.invariant.3,

@@ -22,7 +22,7 @@ loop-i-preserved c =
     let u = c.args in (
       omega arith,
       omega arith,
-      w.auto.0 ∙ l.invariant.2,
+      w.auto.room ∙ l.invariant.2,
       ap (λ (room : List ℕ). sets room (l.place + 8) (flat_map (signed_bytes 8) (drop (l.i + 1) u.prices.now))) (w.ensures ∙ ap (λ (x : ℕ). sets l.room l.place (bytes_of 8 x)) (c.wrapped.ensures ∙ ap (wrapped 8) (read_back w64 (get_or u.prices.now l.i (pos 0)) c.wrapped-arg-1.given)))
           ∙ field_written (signed_bytes 8) 8 (length-signed_bytes 8) l.room l.place (l.place + 8) u.prices.now l.i (pos 0) c.loop-i-test.true refl
           ∙ l.invariant.3,

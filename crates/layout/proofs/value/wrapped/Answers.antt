@@ -19,7 +19,7 @@ above : (c : Lts.Else1 Reads.Pre Reads.Post) → Positive c.args.z
 above c = positive c.args.z c.ranges.z c.if-z-lt0.false
 
 pub overflow_sub-result : goal.overflow_sub-result
-overflow_sub-result c = (below c).ranges
+overflow_sub-result c = (below c).fits
 
 pub overflow_cast-result : goal.overflow_cast-result
 overflow_cast-result c = rw (below c).read (tt, record { fits = omega (arith, (below c).small) })

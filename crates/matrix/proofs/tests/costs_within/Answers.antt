@@ -15,4 +15,4 @@ costs_in-requires c = rw (read_back w64 c.bound.result c.bound.type_inv, c.bound
 pub returns : goal.returns
 returns c =
     c.costs_in.ensures
-    ∙ ap (λ (z : ℤ). c.args then costs_in z c.args.costs.now) (read_back w64 c.bound.result c.bound.type_inv ∙ c.bound.ensures)
+    ∙ ap (λ (z : ℤ). c.args.before then costs_in z c.args.costs.now) (read_back w64 c.bound.result c.bound.type_inv ∙ c.bound.ensures)

@@ -50,8 +50,8 @@ loop-k-preserved c =
     let l = c.loop-k in
     let u = c.args in (
       omega arith,
-      w.auto.0 ∙ l.invariant.1,
-      turn u.n u.firsts.now u.seconds.now l.sheet w.new.0 l.k c.score_at-score.result (omega arith) c.score_at-score.ensures w.ensures ∙ l.invariant.2,
+      w.auto.room ∙ l.invariant.1,
+      turn u.n u.firsts.now u.seconds.now l.sheet w.new.room l.k c.score_at-score.result (omega arith) c.score_at-score.ensures w.ensures ∙ l.invariant.2,
     )
 
 pub returns : goal.returns
