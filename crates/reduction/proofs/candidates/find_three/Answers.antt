@@ -1,7 +1,6 @@
 use mathlib.Core.Path.{◌≡◌, sym, ap, ◌∙◌, subst}
-use mathlib.Core.Bool.{true}
 use mathlib.Core.List.{List}
-use Prim.Native.Nat.{ℕ, ◌+◌, ◌-◌, ◌^◌, ◌≤◌, ◌<◌}
+use Prim.Native.Nat.{ℕ, ◌+◌, ◌^◌, ◌≤◌, ◌<◌}
 use native.Mathlib.Numerals.{add-one}
 use native.Mathlib.Omega.{arith}
 use borrow.Author.Rules.{rules}
@@ -64,9 +63,6 @@ loop-j-init c =
 
 pub low_at-requires-in-loop-j : goal.low_at-requires-in-loop-j
 low_at-requires-in-loop-j c = (c.requires.0.size, c.requires.0.prices, c.loop-j-test.true)
-
-pub overflow_add-j : goal.overflow_add-j
-overflow_add-j c = omega (arith, c.loop-j-test.true, c.good)
 
 pub next_below-j-requires-in-loop-j : goal.next_below-j-requires-in-loop-j
 next_below-j-requires-in-loop-j c =

@@ -4,7 +4,7 @@ use Rattle.reduction.proofs.candidates.first_two.Goals as goal
 
 pub returns-then-comes_before : goal.returns-then-comes_before
 returns-then-comes_before c =
-    rw (sym c.comes_before.ensures ∙ c.if-comes_before.true) c.Beside-two.ensures
+    rw (sym c.comes_before.ensures ∙ c.if-comes_before.true) c.beside_two.ensures
 
 pub returns-else-comes_before : goal.returns-else-comes_before
 returns-else-comes_before c =

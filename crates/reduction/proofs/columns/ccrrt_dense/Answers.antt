@@ -43,8 +43,8 @@ rows-claimed c = ap (λ (x : Claims). x.rows) (claimed c.before.before.before.be
 at_clear : (c : Lts.After-fill3 Tie.the-claims Reads.Pre Reads.Post)
     → let u = c.args in
     let a = c.claim_all in
-    Cleared u.n (square u.n u.costs.now).cost u.room.now a.last.1.0 c.minima.new.v
-    (front_lent u.n c.fill-3.new.list (room_lent u.n a.last.1.1.1.0 (room_lent u.n c.fill-2.new.list u.room.now)))
+    Cleared u.n (square u.n u.costs.now).cost u.room.now a.new.cols c.minima.new.v
+    (front_lent u.n c.fill-3.new.list (room_lent u.n a.new.marks (room_lent u.n c.fill-2.new.list u.room.now)))
 at_clear c =
     cleared c.requires c.fill.ensures c.minima.ensures.0 c.minima.ensures.1 c.fill-2.ensures
     c.claim_all.ensures _ c.fill-3.ensures
@@ -63,14 +63,14 @@ shape_of-rows c =
 
 pub shape_of-v : goal.shape_of-v
 shape_of-v c =
-    c.transfers.auto.1.1.1.0 ∙ c.minima.auto.1.1.1.0
+    c.transfers.auto.v ∙ c.minima.auto.v
 
 pub shape_of-room : goal.shape_of-room
 shape_of-room c =
-    after_length c.requires (at_clear c.before.before.before.before.before.before.before.before) (rows-claimed c.before.before.before.before.before.before.before.before) c.transfers.ensures ∙ sym c.requires.room_size
+    after_length c.requires (at_clear c.before.before.before.before.before.before.before.before.before) (rows-claimed c.before.before.before.before.before.before.before.before.before) c.transfers.ensures ∙ sym c.requires.room_size
 
 pub returns : goal.returns
 returns c =
     let h = c.requires in
     let t = c.transfers.ensures in
-    (stage_ends h (at_clear c.before.before.before.before.before.before.before.before) (rows-claimed c.before.before.before.before.before.before.before.before) t, room_ends h (at_clear c.before.before.before.before.before.before.before.before) (rows-claimed c.before.before.before.before.before.before.before.before) t)
+    (stage_ends h (at_clear c.before.before.before.before.before.before.before.before.before) (rows-claimed c.before.before.before.before.before.before.before.before.before) t, room_ends h (at_clear c.before.before.before.before.before.before.before.before.before) (rows-claimed c.before.before.before.before.before.before.before.before.before) t)

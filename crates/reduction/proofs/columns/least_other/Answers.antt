@@ -1,6 +1,5 @@
 use mathlib.Core.Path.{◌≡◌, sym, ap, ap₂, ◌∙◌}
-use mathlib.Core.Logic.{⊎_elim}
-use Prim.Native.Nat.{ℕ, ◌+◌, ◌-◌}
+use Prim.Native.Nat.{ℕ, ◌+◌}
 use native.Mathlib.Omega.{arith}
 use lib.ListN.{length}
 use mir.Syntax.{w64}
@@ -10,6 +9,7 @@ use Rattle.rules.specs.Lowest.{least, least_but}
 use Rattle.reduction.proofs.Bits.{reduced_back}
 use Rattle.reduction.proofs.Turns.{least_but_none, least_but-same, least_but_other, least_but_pass}
 use Rattle.reduction.proofs.columns.least_other.Invariants.{at}
+use Rattle.reduction.proofs.columns.least_other.Goals.{then-k-j, else-k-j}
 use Rattle.reduction.proofs.columns.least_other.Goals as goal
 
 pub loop-k-init : goal.loop-k-init
@@ -35,12 +35,12 @@ loop-k-preserved c =
     let m = c.next_least-k.ensures in (
       m.most,
       least_but_pass f c.if-k-j.found u.j (k + 1) c.next_least-k.result m.on
-          (⊎_elim
-          (λ w. w.5 ∙ w.4.ensures ∙ ap₂ least l.invariant.1
-          (reduced_back (signed_at u.row.now k) (signed_at u.v.now k) w.3.result w.1.given w.2.given w.3.ok w.3.ensures) ∙ sym
-          (least_but_other f u.j k w.0.taken))
-          (λ w. w.1 ∙ l.invariant.1 ∙ sym (least_but-same f u.j k w.0.left))
-          c.if-k-j.branch) m.passed,
+          (elim c.if-k-j.branch [
+            | then-k-j w ↦ w.found-is ∙ w.least-found.ensures ∙ ap₂ least l.invariant.1
+                (reduced_back (signed_at u.row.now k) (signed_at u.v.now k) w.reduced_cost.result w.reduced_cost-arg-1.given w.reduced_cost-arg-then-k-j-1.given w.reduced_cost.type_inv w.reduced_cost.ensures) ∙ sym
+                (least_but_other f u.j k w.if-k-j.true)
+            | else-k-j w ↦ w.found-is ∙ l.invariant.1 ∙ sym (least_but-same f u.j k w.if-k-j.false)
+          ]) m.passed,
     )
 
 pub returns : goal.returns

@@ -5,7 +5,7 @@ use Prim.Native.Nat.{ℕ, ◌-◌, ◌≤◌}
 use lib.IntN.{ℤ, ◌-ℤ◌}
 use lib.ListN.{length}
 use Rattle.assignment.specs.Pairings.{signed_at}
-use Rattle.rules.specs.Lowest.{least, least_but}
+use Rattle.rules.specs.Lowest.{least_but}
 use Rattle.reduction.proofs.columns.least_other.Given as goal
 
 -- the reduced cost at column k

@@ -1,8 +1,7 @@
 use mathlib.Core.Path.{◌≡◌, sym, ap, ap₂, ◌∙◌}
 use mathlib.Core.Bool.{Bool, true, false, cond}
-use mathlib.Core.Logic.{⊎_elim}
 use mathlib.Core.List.{List, ◌++◌}
-use Prim.Native.Nat.{ℕ, ◌+◌, ◌-◌, ◌<◌}
+use Prim.Native.Nat.{ℕ, ◌+◌, ◌<◌}
 use native.Mathlib.Omega.{arith}
 use lib.IntN.{ℤ, pos}
 use lib.Signed.{lt_z}
@@ -17,6 +16,7 @@ use Rattle.rules.specs.Lowest.{low}
 use Rattle.matrix.proofs.SmallLimits.{side_small}
 use Rattle.reduction.specs.Columns.{low_at}
 use Rattle.reduction.proofs.columns.lower_minima.Invariants.{Filled}
+use Rattle.reduction.proofs.columns.lower_minima.Goals.{then-cost-v, else-cost-v}
 use Rattle.reduction.proofs.columns.lower_minima.Goals as goal
 
 same-price : (i j : ℕ) (row v₀ v : List ℤ) (rows₀ : List ℕ) → j < length v₀ → v ≡ table j (λ k. (low_at i row v₀ rows₀ k).value) ++ drop j v₀
@@ -62,12 +62,12 @@ loop-j-preserved c =
     let wide = read_wide (signed_at u.row.now j) c.cost-1.given in
     let tested = ap₂ lt_z wide (read_back w64 (signed_at l.v j) c.t12-1.given ∙ same-price u.i j u.row.now u.v.now l.v u.rows.now here l.invariant.3.1) in
     let next : Filled u.i (j + 1) u.row.now u.v.now c.if-cost-v.v u.rows.now c.if-cost-v.rows =
-    ⊎_elim
-    (λ w. lowered u.i j u.row.now u.v.now l.v c.if-cost-v.v u.rows.now l.rows c.if-cost-v.rows here there l.invariant.3.0 l.invariant.3.1
-    (sym tested ∙ w.0.taken) w.1 (w.2 ∙ ap (set l.v j) wide))
-    (λ w. kept u.i j u.row.now u.v.now l.v c.if-cost-v.v u.rows.now l.rows c.if-cost-v.rows here there l.invariant.3.0 l.invariant.3.1
-    (sym tested ∙ w.0.left) w.1 w.2)
-    c.if-cost-v.branch in (
+    elim c.if-cost-v.branch [
+      | then-cost-v w ↦ lowered u.i j u.row.now u.v.now l.v c.if-cost-v.v u.rows.now l.rows c.if-cost-v.rows here there l.invariant.3.0 l.invariant.3.1
+          (sym tested ∙ w.if-cost-v.true) w.rows-is (w.v-is ∙ ap (set l.v j) wide)
+      | else-cost-v w ↦ kept u.i j u.row.now u.v.now l.v c.if-cost-v.v u.rows.now l.rows c.if-cost-v.rows here there l.invariant.3.0 l.invariant.3.1
+          (sym tested ∙ w.if-cost-v.false) w.rows-is w.v-is
+    ] in (
       ap length next.0 ∙ filled-length (j + 1) (λ k. (f k).place) u.rows.now (omega arith) ∙ c.requires.1,
       ap length next.1 ∙ filled-length (j + 1) (λ k. (f k).value) u.v.now (omega arith) ∙ c.requires.2,
       omega (arith, more),

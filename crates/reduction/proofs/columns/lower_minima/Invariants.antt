@@ -1,11 +1,10 @@
 -- `lower_minima` puts row i beside the minima, column by column. Assumes nothing.
 use mathlib.Core.Path.{◌≡◌}
 use mathlib.Core.List.{List, ◌++◌}
-use Prim.Native.Nat.{ℕ, ◌+◌, ◌-◌, ◌≤◌}
+use Prim.Native.Nat.{ℕ, ◌-◌, ◌≤◌}
 use lib.IntN.{ℤ}
 use lib.ListN.{length, drop}
-use Rattle.lists.specs.Permutations.{at, table}
-use Rattle.rules.specs.Lowest.{low}
+use Rattle.lists.specs.Permutations.{table}
 use Rattle.reduction.specs.Columns.{low_at}
 use Rattle.reduction.proofs.columns.lower_minima.Given as goal
 

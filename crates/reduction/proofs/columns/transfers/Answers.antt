@@ -1,6 +1,6 @@
 use mathlib.Core.Path.{◌≡◌, refl, sym, ◌∙◌, subst}
 use mathlib.Core.List.{[]}
-use Prim.Native.Nat.{ℕ, ◌+◌, ◌-◌}
+use Prim.Native.Nat.{ℕ, ◌+◌}
 use native.Mathlib.Omega.{arith}
 use Rattle.lists.specs.Parts.{part}
 use Rattle.matrix.proofs.SmallLimits.{side_small}
@@ -61,7 +61,7 @@ loop-i-preserved c =
     let h = c.loop-i.invariant.2 in (
       omega arith,
       refl,
-      run_next t i h _ _ _ c.transfer-count.auto.1.1.1.1.1.1.0
+      run_next t i h _ _ _ c.transfer-count.auto.frees
           (c.transfer-count.ensures
           (claims_of c.args.cols.now [] (part (c.args.n + c.args.n + c.args.n) c.args.n c.args.room.now))
           (mark_is t i h l) refl),

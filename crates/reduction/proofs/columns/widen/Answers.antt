@@ -1,9 +1,9 @@
 use mathlib.Core.Path.{ap, ap₂, ◌∙◌}
 use mathlib.Core.List.{List}
-use Prim.Native.Nat.{ℕ, ◌-◌}
+use Prim.Native.Nat.{ℕ}
 use native.Mathlib.Omega.{arith}
 use lib.IntN.{ℤ, pos}
-use lib.ListN.{length, set, length-set}
+use lib.ListN.{set, length-set}
 use Rattle.ints.proofs.Bits.{read_wide, wide_fits}
 use Rattle.lists.specs.Permutations.{table}
 use Rattle.lists.proofs.Tables.{table_get_d, filled_none, filled_more, filled_all}

@@ -1,7 +1,6 @@
 use mathlib.Core.Path.{◌≡◌, sym, ap, ap₂, ◌∙◌, subst}
-use mathlib.Core.Bool.{true}
 use mathlib.Core.List.{List}
-use Prim.Native.Nat.{ℕ, ◌+◌, ◌-◌, ◌^◌, ◌≤◌, ◌<◌}
+use Prim.Native.Nat.{ℕ, ◌+◌, ◌^◌, ◌≤◌, ◌<◌}
 use native.Mathlib.Omega.{arith}
 use lib.IntN.{ℤ}
 use lib.Signed.{mag}
@@ -61,9 +60,6 @@ pub reduced_cost-requires-in-loop-j : goal.reduced_cost-requires-in-loop-j
 reduced_cost-requires-in-loop-j c =
     let j = c.loop-j.j in
     rw (read_back w64 (signed_at c.args.v.now j) c.reduced_cost-arg-in-loop-j-2-1.given) (c.requires.prices j c.loop-j-test.true)
-
-pub overflow_add-j : goal.overflow_add-j
-overflow_add-j c = omega (arith, c.loop-j-test.true, c.good)
 
 pub next_below-j-requires-in-loop-j : goal.next_below-j-requires-in-loop-j
 next_below-j-requires-in-loop-j c =

@@ -8,7 +8,7 @@ use lib.Signed.{lt_z}
 use lib.ListN.{length}
 use Rattle.assignment.specs.Pairings.{signed_at}
 use Rattle.rules.specs.declared.TwoLowest.TheVariants.{Two}
-use Rattle.rules.specs.Lowest.{low, two_lowest}
+use Rattle.rules.specs.Lowest.{two_lowest}
 use Rattle.reduction.specs.declared.lowest.Pair.{Pair}
 use Rattle.reduction.proofs.lowest.find_umins_plain.Given as goal
 

@@ -1,5 +1,5 @@
 use mathlib.Core.Path.{sym, ap, ◌∙◌}
-use Prim.Native.Nat.{ℕ, ◌+◌, ◌-◌}
+use Prim.Native.Nat.{ℕ, ◌+◌}
 use Rattle.lists.specs.Parts.{part}
 use Rattle.lists.specs.Permutations.{table}
 use Rattle.assignment.specs.Pairings.{square}
@@ -23,7 +23,7 @@ loop-pass-init c =
       head_start c.requires.0,
       record {
         room_size = c.requires.1;
-        limits_size = c.forget.auto.0 ∙ c.requires.2;
+        limits_size = c.forget.auto.limits ∙ c.requires.2;
         kept = kept_none u.n (square u.n u.costs.now).cost u.v.now (part u.n (u.n + u.n + u.n) u.room.now) _ marked;
       },
     )
