@@ -13,9 +13,9 @@ use Rattle.lapjv.proofs.pair.Tie as Tie
 
 -- what augmentation leaves: lists of the night's side
 sizes : (c : Lts.After-ca_dense Tie.the-claims Reads.Pre Reads.Post)
-    → let left = c.ca_dense-scanned.new.cols in
+    → let left = c.ca_dense-scanned.new in
     let n = c.args.n in
-    (length left.0 ≡ n) × (length left.1.0 ≡ n) × (length left.1.1.0 ≡ n)
+    (length left.cols ≡ n) × (length left.rows ≡ n) × (length left.v ≡ n)
 sizes c =
     let a = c.reduce-reduced in
     let b = c.ca_dense-scanned in
@@ -27,7 +27,7 @@ reduce-reduced-requires c = (c.requires.0, c.requires.1, c.requires.3)
 pub ca_dense-scanned-requires : goal.ca_dense-scanned-requires
 ca_dense-scanned-requires c =
     let a = c.reduce-reduced in
-    pairing.can_augment c.args.n c.args.costs.now c.requires.0 _ _ _ _ a.result a.ensures a.new.1.1.1.1.1.1.0 (omega (arith, a.auto, c.requires.3))
+    pairing.can_augment c.args.n c.args.costs.now c.requires.0 _ _ _ _ a.result a.ensures a.new.numbers (omega (arith, a.auto, c.requires.3))
 
 pub write_row_prices-requires : goal.write_row_prices-requires
 write_row_prices-requires c =
@@ -44,18 +44,18 @@ total-total-requires c =
 
 pub shape_of-cols : goal.shape_of-cols
 shape_of-cols c =
-    (sizes c.before.before.before.before.before.before.before.before.before.before.before.before.before.before.before.before.before.before.before).0 ∙ sym c.requires.1.cols_size
+    (sizes c.before.before.before.before.before.before.before.before.before.before.before.before.before.before.before.before.before.before.before.before).0 ∙ sym c.requires.1.cols_size
 
 pub shape_of-rows : goal.shape_of-rows
 shape_of-rows c =
-    (sizes c.before.before.before.before.before.before.before.before.before.before.before.before.before.before.before.before.before.before.before).1 ∙ sym c.requires.1.rows_size
+    (sizes c.before.before.before.before.before.before.before.before.before.before.before.before.before.before.before.before.before.before.before.before).1 ∙ sym c.requires.1.rows_size
 
 pub shape_of-row_prices : goal.shape_of-row_prices
 shape_of-row_prices c = omega arith
 
 pub shape_of-v : goal.shape_of-v
 shape_of-v c =
-    (sizes c.before.before.before.before.before.before.before.before.before.before.before.before.before.before.before.before.before.before.before).2 ∙ sym c.requires.1.prices_size
+    (sizes c.before.before.before.before.before.before.before.before.before.before.before.before.before.before.before.before.before.before.before.before).2 ∙ sym c.requires.1.prices_size
 
 pub shape_of-room : goal.shape_of-room
 shape_of-room c = omega arith
@@ -71,6 +71,6 @@ returns c =
     let t = c.total-total in
     let e = c.fill in
     let f = c.clear_numbers in
-    pairing.paired_by c.args.n c.args.costs.now c.requires.0 _ _ _ _ a.result a.ensures _ _ _ b.last.1.1.1.1.1.1.1.0 b.result b.ensures
-    _ _ b.last.1.1.1.1.1.1.0 _ _ u.ensures (read_back w64 t.result t.ok ∙ t.ensures) (e.ensures ∙ table_constant _ 0)
-    (omega (arith, b.kept, a.ensures.room_size)) f.ensures (omega (arith, b.kept, a.kept, c.requires.3))
+    pairing.paired_by c.args.n c.args.costs.now c.requires.0 _ _ _ _ a.result a.ensures _ _ _ b.new.room b.result b.ensures
+    _ _ b.new.d _ _ u.ensures (read_back w64 t.result t.type_inv ∙ t.ensures) (e.ensures ∙ table_constant _ 0)
+    (omega (arith, b.auto, a.ensures.room_size)) f.ensures (omega (arith, b.auto, a.auto, c.requires.3))

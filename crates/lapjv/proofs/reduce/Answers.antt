@@ -12,7 +12,7 @@ ccrrt_dense-free_rows-requires c =
 pub carr_dense-one-requires : goal.carr_dense-one-requires
 carr_dense-one-requires c =
     let a = c.ccrrt_dense-free_rows in (
-      reducing.first_pass c.args.n c.args.costs.now c.requires.0 _ _ _ a.new.1.1.1.1.1.0 a.result a.ensures.0 _ (λ h. omega arith),
+      reducing.first_pass c.args.n c.args.costs.now c.requires.0 _ _ _ a.new.room a.result a.ensures.0 _ (λ h. omega arith),
       omega (arith, a.auto, c.requires.1.room_size),
       c.requires.2,
     )
@@ -21,9 +21,9 @@ pub carr_dense-two-requires : goal.carr_dense-two-requires
 carr_dense-two-requires c =
     let a = c.ccrrt_dense-free_rows in
     let b = c.carr_dense-one in (
-      reducing.second_pass c.args.n c.args.costs.now c.requires.0 _ _ _ a.last.1.1.1.1.1.0 a.result a.ensures.0
-          _ _ _ _ b.new.1.1.1.1.1.0 b.result b.ensures _ (λ h. (omega arith, omega arith)),
-      omega (arith, b.auto, a.kept, c.requires.1.room_size),
+      reducing.second_pass c.args.n c.args.costs.now c.requires.0 _ _ _ a.new.room a.result a.ensures.0
+          _ _ _ _ b.new.room b.result b.ensures _ (λ h. (omega arith, omega arith)),
+      omega (arith, b.auto, a.auto, c.requires.1.room_size),
       omega (arith, b.auto, c.requires.2),
     )
 
@@ -49,6 +49,6 @@ returns c =
     let a = c.ccrrt_dense-free_rows in
     let b = c.carr_dense-one in
     let d = c.carr_dense-two in
-    reducing.reduced_by c.args.n c.args.costs.now c.requires.0 _ _ _ a.last.1.1.1.1.1.0 a.result a.ensures.0
-    _ _ _ _ b.last.1.1.1.1.1.0 b.result b.ensures _ _ _ _ d.last.1.1.1.1.1.0 d.result d.ensures (omega arith) (omega arith)
-    (omega (arith, d.kept, b.kept, a.kept, c.requires.1.room_size))
+    reducing.reduced_by c.args.n c.args.costs.now c.requires.0 _ _ _ a.new.room a.result a.ensures.0
+    _ _ _ _ b.new.room b.result b.ensures _ _ _ _ d.new.room d.result d.ensures (omega arith) (omega arith)
+    (omega (arith, d.auto, b.auto, a.auto, c.requires.1.room_size))

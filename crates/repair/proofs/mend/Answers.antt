@@ -47,6 +47,6 @@ pub returns : goal.returns
 unfolding free
 returns c =
     let u = c.args in
-    let left = c.ca_dense.new.cols in
+    let left = c.ca_dense.new in
     mended_by u.n u.costs.now u.row u.cols.now u.rows.now u.v.now u.room.now u.d.now c.requires
-    left.0 left.1.0 left.1.1.0 left.1.1.1.1.0 c.ca_dense.result c.ca_dense.ensures
+    left.cols left.rows left.v left.room c.ca_dense.result c.ca_dense.ensures

@@ -23,5 +23,5 @@ returns c =
     let f = c.clear_numbers in
     let u = c.args in
     mending.repaired_by_lem u.n u.costs.now u.row u.cols.now u.rows.now u.v.now u.room.now u.d.now c.requires.0 _ _ _ _ c.mend.ensures
-    _ c.mend.new.room _ c.mend.new.d _ _ c.write_row_prices.ensures (read_back w64 c.total-total.result c.total-total.ok ∙ c.total-total.ensures)
+    _ c.mend.new.room _ c.mend.new.d _ _ c.write_row_prices.ensures (read_back w64 c.total-total.result c.total-total.type_inv ∙ c.total-total.ensures)
     (c.fill.ensures ∙ table_constant _ 0) (omega (arith, c.mend.auto, c.requires.0.room_size)) f.ensures (omega (arith, c.mend.auto, c.requires.0.distances_size))
