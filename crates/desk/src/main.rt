@@ -3,25 +3,42 @@
 // line.
 #![tactic(auto)]
 
+ghost use Rattle.std.specs.Prelude.{◌≡◌, take, IfOk, IfSome};
+
+use std::alloc::Global;
+use std::env::{Env, FillError};
+use std::io;
+use std::io::Read;
+
 // How the program is called, on standard error.
-fn tell_call() {
-    io::write_all(
-        2,
-        b"desk reads a sheet from standard input and takes no words: desk <SHEET\n",
-    );
+fn tell_call(rt: &impl Eprint) -> io::Result<()> {
+    eprintln!(rt; "desk reads a sheet from standard input and takes no words: desk <SHEET")
 }
 
-fn main() {
-    if 1 < os::arg_count() {
-        tell_call();
-        return;
+// Whether the program was called with a word.
+fn has_word(rt: &impl Env) -> bool {
+    let mut first = [0u8; 1];
+    !matches!(rt.arg(1, &mut first), Err(FillError::NotPresent))
+}
+
+// The first bytes of an input, at most so many.
+fn read_most<R: Read + Drop>(alloc: Global, input: R, most: u64) -> io::Result<Vec<u8>>
+    ensures { IfOk result (λ bytes. IfSome (R.remaining input) (λ held. bytes.items ≡ take most held)) }
+{
+    let mut bytes = Vec::new(alloc);
+    input.take(most).read_to_end(&mut bytes)?;
+    Ok(bytes)
+}
+
+fn main(rt: HostRuntime) -> io::Result<()> {
+    if has_word(&rt) {
+        return tell_call(&rt);
     }
-    let mut sheet = [0u8; 65537];
-    let read = io::read_full(0, &mut sheet);
-    if read == 0 {
-        tell_call();
+    let sheet = read_most(rt.alloc(), rt.stdin(), 65537)?;
+    if sheet.is_empty() {
+        tell_call(&rt)?;
     }
     let mut room = [0u8; 8192];
-    let count = lines::print(&sheet[0..read], &mut room);
-    io::write_all(1, &room[0..count]);
+    let count = lines::print(&sheet, &mut room);
+    rt.write_all(&room[..count])
 }

@@ -18,37 +18,50 @@ mod read;
 mod say;
 mod solver;
 
+use read::Input;
+use std::io;
+use std::io::{BufReader, BufWriter, Read, Write};
+
 // The night, by whom it is for.
-fn run(kind: usize, n: usize, costs: &[i32]) {
+fn run(
+    input: &mut Input<impl Read>,
+    out: &mut impl Write,
+    kind: usize,
+    n: usize,
+    costs: &[i32],
+) -> io::Result<()> {
     if kind == 0 {
-        solver::night(n, costs);
+        solver::night(input, out, n, costs)
     } else if kind == 1 {
-        checks::checked(n, costs);
+        checks::checked(input, out, n, costs)
     } else {
-        checks::totalled(n, costs);
+        checks::totalled(input, out, n, costs)
     }
 }
 
 // What every night begins with, and the night.
-fn night(costs: &mut [i32]) {
-    let kind = read::number();
-    read::name();
-    let n = read::long();
-    let lent = read::part(costs);
-    read::costs(lent);
-    run(kind, n, lent);
-    io::write_all(1, b"\n");
+fn night(input: &mut Input<impl Read>, out: &mut impl Write, costs: &mut [i32]) -> io::Result<()> {
+    let kind = read::number(input);
+    read::name(input, out)?;
+    let n = read::long(input);
+    let lent = read::part(input, costs);
+    read::costs(input, lent);
+    run(input, out, kind, n, lent)?;
+    out.write_all(b"\n")
 }
 
-fn nights(costs: &mut [i32]) {
-    let mut left = read::number();
-    while left > 0 {
-        night(costs);
-        left -= 1;
+fn nights(input: &mut Input<impl Read>, out: &mut impl Write, costs: &mut [i32]) -> io::Result<()> {
+    for _ in 0..read::number(input) {
+        night(input, out, costs)?;
     }
+    Ok(())
 }
 
-fn main() {
-    let mut costs: [i32; 1050625] = [0; 1050625];
-    nights(&mut costs);
+fn main(rt: HostRuntime) -> io::Result<()> {
+    let mut input = Input::new(BufReader::new(rt.alloc(), rt.stdin())?);
+    let mut out = BufWriter::new(rt.alloc(), rt.stdout())?;
+    let mut costs = vec![in rt.alloc(); 0i32; 1050625]?;
+    nights(&mut input, &mut out, &mut costs)?;
+    out.flush()?;
+    input.end()
 }

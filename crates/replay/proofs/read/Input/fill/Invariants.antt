@@ -1,0 +1,9 @@
+-- `fill` ends, since each turn but the last reads a byte or more.
+use Rattle.std.proofs.Common.{◌≤◌, ◌-◌, length}
+use Rattle.replay.proofs.read.Input.fill.Given as goal
+
+abbrev pub invariant-loop-done : goal.invariant-loop-done
+invariant-loop-done g l = l.done ≤ length l.buffer
+
+abbrev pub decreases-loop-done : goal.decreases-loop-done
+decreases-loop-done g l = length l.initial.buffer - l.done
