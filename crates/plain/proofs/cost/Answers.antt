@@ -29,6 +29,7 @@ use Rattle.plain.specs.declared.Found.TheVariants.{Costs}
 use Rattle.plain.proofs.Pairings.{wrong, wrong_fails, right_passes}
 use Rattle.plain.proofs.Answers.{cost_passed, cost_failed}
 use Rattle.plain.proofs.cost.Goals as goal
+use Rattle.plain.proofs.cost.Goals.{then-has-via-then-has, then-has-via-else-has+then-taken}
 use Rattle.plain.proofs.cost.Lts as Lts
 use Rattle.plain.proofs.cost.Reads as Reads
 use Rattle.plain.proofs.cost.Tie as Tie
@@ -91,9 +92,10 @@ returns-then-has c =
     let i = c.loop-i.i in
     let bars = u.bars.now in
     let cols = u.cols.now in
-    let w : bad bars cols i ≡ true = ⊎_elim
-    (λ y. row-barred bars cols i c.bits_at.result c.bits_at.ensures (sym c.has.ensures ∙ y.taken))
-    (λ y. row-taken bars cols i (sym y.1.ensures ∙ y.2.taken)) c.then-has.branch in
+    let w : bad bars cols i ≡ true = elim c.then-has.branch [
+      then-has-via-then-has y ↦ row-barred bars cols i c.bits_at.result c.bits_at.ensures (sym c.has.ensures ∙ y.if-has.true)
+    | then-has-via-else-has+then-taken y ↦ row-taken bars cols i (sym y.taken.ensures ∙ y.if-taken.true)
+    ] in
     sym (cost_failed (night_of (length cols) u.n u.costs.now bars) cols
     (wrong_fails (night_of (length cols) u.n u.costs.now bars) cols i c.loop-i-test.true w))
 
@@ -122,7 +124,7 @@ overflow_cast-total c = wide_fits (added-cost c.before.before.before.before.befo
 
 pub overflow_add-total-in-loop-i : goal.overflow_add-total-in-loop-i
 overflow_add-total-in-loop-i c =
-    added-fits c.loop-i.total (added-cost c.before.before.before.before.before.before.before) c.total-1.given (omega (arith, few c.before.before.before.before.before.before.before, c.loop-i.invariant.3))
+    added-fits c.loop-i.total-bits (added-cost c.before.before.before.before.before.before.before.before) c.total-1.given (omega (arith, few c.before.before.before.before.before.before.before.before, c.loop-i.invariant.3))
 
 pub loop-i-preserved : goal.loop-i-preserved
 loop-i-preserved c =
@@ -130,11 +132,11 @@ loop-i-preserved c =
     let u = c.args in
     let i : l.i < 8 = omega (arith, few c.before.before.before.before.before.before.before.before, c.loop-i-test.true) in (
       omega (arith, c.loop-i-test.true),
-      clear_more (wrong (λ k j. not (bit_of (at u.bars.now k) j)) u.cols.now) l.i l.inv.1
+      clear_more (wrong (λ k j. not (bit_of (at u.bars.now k) j)) u.cols.now) l.i l.invariant.1
           (row-right u.bars.now u.cols.now l.i c.bits_at.result c.bits_at.ensures
           (sym c.has.ensures ∙ c.if-has.false) (sym c.taken.ensures ∙ c.if-taken.false)),
-      rw (add-one, sum-last) (added_is l.total (added-cost c.before.before.before.before.before.before.before) c.total-1.given (omega (arith, l.inv.3)) ∙ ap (λ (z : ℤ). z +ℤ added-cost c.before.before.before.before.before.before.before) l.inv.2),
-      added_within l.total (added-cost c.before.before.before.before.before.before.before) c.total-1.given l.i i l.inv.3,
+      rw (add-one, sum-last) (added_is l.total-bits (added-cost c.before.before.before.before.before.before.before.before) c.total-1.given (omega (arith, l.invariant.3)) ∙ ap (λ (z : ℤ). z +ℤ added-cost c.before.before.before.before.before.before.before.before) l.invariant.2),
+      added_within l.total-bits (added-cost c.before.before.before.before.before.before.before.before) c.total-1.given l.i i l.invariant.3,
     )
 
 pub returns : goal.returns

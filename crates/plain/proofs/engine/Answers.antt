@@ -39,13 +39,13 @@ next-requires c =
 
 
 -- what `keep` leaves in the columns, and `next` in the list
-abbrev left : Lts.After-next Tie.the-claims Reads.Pre Reads.Post goal.the-invariant-loop-found goal.the-decreases-loop-found → List ℕ
+abbrev left : Lts.After-next Tie.the-claims Reads.Pre Reads.Post goal.the-invariant-loop-found goal.the-decreases-loop-found Tie.handed_clauses → List ℕ
 left c = c.keep-found.new.cols
 
-abbrev following : Lts.After-next Tie.the-claims Reads.Pre Reads.Post goal.the-invariant-loop-found goal.the-decreases-loop-found → List ℕ
+abbrev following : Lts.After-next Tie.the-claims Reads.Pre Reads.Post goal.the-invariant-loop-found goal.the-decreases-loop-found Tie.handed_clauses → List ℕ
 following c = c.next.new.list
 
-module _ (c : Lts.After-next Tie.the-claims Reads.Pre Reads.Post goal.the-invariant-loop-found goal.the-decreases-loop-found) where
+module _ (c : Lts.After-next Tie.the-claims Reads.Pre Reads.Post goal.the-invariant-loop-found goal.the-decreases-loop-found Tie.handed_clauses) where
   abbrev n : ℕ
   n = c.args.n
 
@@ -80,28 +80,29 @@ module _ (c : Lts.After-next Tie.the-claims Reads.Pre Reads.Post goal.the-invari
 
 pub shape_of-list-then-not-next : goal.shape_of-list-then-not-next
 shape_of-list-then-not-next c =
-    ap length (next-is c.before.before.before).0 ∙ length_digits (n c.before.before.before) (m c.before.before.before) _ ∙ sym c.requires.3
+    ap length (next-is c.before.before.before.before).0 ∙ length_digits (n c.before.before.before.before) (m c.before.before.before.before) _ ∙ sym c.requires.3
 
 pub shape_of-cols-then-not-next : goal.shape_of-cols-then-not-next
-shape_of-cols-then-not-next c = left-size c.before.before.before
+shape_of-cols-then-not-next c = left-size c.before.before.before.before
 
 pub returns-then-not-next : goal.returns-then-not-next
 returns-then-not-next c =
     let u = c.args in
     let l = c.loop-found in
-    head_last (n c.before.before.before.before) (m c.before.before.before.before) u.costs.now u.bars.now u.cols.now l.list l.cols l.found l.inv c.keep-found.result (left c.before.before.before.before) (found_is c.before.before.before.before) (left_is c.before.before.before.before)
-    c.requires.0 (sym (next-is c.before.before.before.before).1 ∙ c.if-not-next.true)
+    let h = head_last (n c.before.before.before.before) (m c.before.before.before.before) u.costs.now u.bars.now u.cols.now l.list l.cols l.found l.invariant c.keep-found.result (left c.before.before.before.before) (found_is c.before.before.before.before) (left_is c.before.before.before.before)
+    c.requires.0 (sym (next-is c.before.before.before.before).1 ∙ c.if-not-next.true) in
+    record { found = h.0; columns = h.1 }
 
 pub loop-found-smaller : goal.loop-found-smaller
 loop-found-smaller c =
     let u = c.args in
     let l = c.loop-found in
-    head_nearer (n c.before.before.before) (m c.before.before.before) u.costs.now u.bars.now u.cols.now l.list l.cols l.found l.inv c.keep-found.result (left c.before.before.before) (found_is c.before.before.before) (left_is c.before.before.before)
-    (following c.before.before.before) (next-is c.before.before.before).0 (sym (next-is c.before.before.before).1 ∙ c.if-not-next.false)
+    head_nearer (n c.before.before.before.before) (m c.before.before.before.before) u.costs.now u.bars.now u.cols.now l.list l.cols l.found l.invariant c.keep-found.result (left c.before.before.before.before) (found_is c.before.before.before.before) (left_is c.before.before.before.before)
+    (following c.before.before.before.before) (next-is c.before.before.before.before).0 (sym (next-is c.before.before.before.before).1 ∙ c.if-not-next.false)
 
 pub loop-found-preserved : goal.loop-found-preserved
 loop-found-preserved c =
     let u = c.args in
     let l = c.loop-found in
-    head_more (n c.before.before.before) (m c.before.before.before) u.costs.now u.bars.now u.cols.now l.list l.cols l.found l.inv c.keep-found.result (left c.before.before.before) (found_is c.before.before.before) (left_is c.before.before.before)
-    (following c.before.before.before) (next-is c.before.before.before).0 (sym (next-is c.before.before.before).1 ∙ c.if-not-next.false) (left-size c.before.before.before)
+    head_more (n c.before.before.before.before) (m c.before.before.before.before) u.costs.now u.bars.now u.cols.now l.list l.cols l.found l.invariant c.keep-found.result (left c.before.before.before.before) (found_is c.before.before.before.before) (left_is c.before.before.before.before)
+    (following c.before.before.before.before) (next-is c.before.before.before.before).0 (sym (next-is c.before.before.before.before).1 ∙ c.if-not-next.false) (left-size c.before.before.before.before)
