@@ -136,7 +136,7 @@ first_way-requires c =
     let h = c.requires in
     let x = c.args.x in
     let l = c.if-x-m.true in
-    let size : length c.row-row.result.now ≡ n s = ap length c.row-row.ensures ∙ row_size c.before.before.before.before.before.before.before.before.before.before.before l in (
+    let size : length c.row-row.result.now ≡ c.args.n = ap length c.row-row.ensures ∙ row_size c.before.before.before.before.before.before.before.before.before.before.before l in (
       rw (read_back w64 (signed_at (us c.before.before.before.before.before.before.before.before.before.before.before) x) c.first_way-arg-1.given) (h.fair.row_prices.within x l),
       omega (arith, h.lowered.size),
       λ j q. h.lowered.bounded j (omega arith),
@@ -151,7 +151,7 @@ returns-then-x-m c =
     c.first_way.ensures
     ∙ row_chosen (m c.before.before.before.before.before.before.before.before.before.before.before.before) (n c.before.before.before.before.before.before.before.before.before.before.before.before) (costs c.before.before.before.before.before.before.before.before.before.before.before.before) (bars c.before.before.before.before.before.before.before.before.before.before.before.before) (cols c.before.before.before.before.before.before.before.before.before.before.before.before) (us c.before.before.before.before.before.before.before.before.before.before.before.before) (vs c.before.before.before.before.before.before.before.before.before.before.before.before) (ts c.before.before.before.before.before.before.before.before.before.before.before.before) c.args.top (room c.before.before.before.before.before.before.before.before.before.before.before.before) x c.requires c.if-x-m.true (rows-lent c.before.before.before.before.before.before.before.before.before.before.before.before) (marks-lent c.before.before.before.before.before.before.before.before.before.before.before.before)
     (first (n c.before.before.before.before.before.before.before.before.before.before.before.before) (room c.before.before.before.before.before.before.before.before.before.before.before.before) c.requires.room_size).1 (third (n c.before.before.before.before.before.before.before.before.before.before.before.before) (room c.before.before.before.before.before.before.before.before.before.before.before.before) c.requires.room_size).1 c.row-row.result.now c.row-row.ensures
-    c.bits_of-bits.result c.bits_of-bits.ensures _ (read_back w64 (signed_at (us c.before.before.before.before.before.before.before.before.before.before.before.before) x) c.first_way-arg-1.given) _ (to_z-of_z c.fits.top)
+    c.bits_of-bits.result c.bits_of-bits.ensures _ (read_back w64 (signed_at (us c.before.before.before.before.before.before.before.before.before.before.before.before) x) c.first_way-arg-1.given) _ (to_z-of_z c.ranges.top)
 
 pub first_down-requires : goal.first_down-requires
 first_down-requires c =
@@ -166,4 +166,4 @@ pub returns : goal.returns
 returns c =
     c.first_down.ensures
     ∙ down-chosen (m c.before.before.before.before.before.before.before.before) (n c.before.before.before.before.before.before.before.before) (costs c.before.before.before.before.before.before.before.before) (bars c.before.before.before.before.before.before.before.before) (cols c.before.before.before.before.before.before.before.before) (us c.before.before.before.before.before.before.before.before) (vs c.before.before.before.before.before.before.before.before) (ts c.before.before.before.before.before.before.before.before) c.args.top (room c.before.before.before.before.before.before.before.before) c.args.x c.requires c.if-x-m.false (marks-lent c.before.before.before.before.before.before.before.before)
-    (third (n c.before.before.before.before.before.before.before.before) (room c.before.before.before.before.before.before.before.before) c.requires.room_size).1 _ (to_z-of_z c.fits.top)
+    (third (n c.before.before.before.before.before.before.before.before) (room c.before.before.before.before.before.before.before.before) c.requires.room_size).1 _ (to_z-of_z c.ranges.top)

@@ -1,7 +1,7 @@
 use mathlib.Core.Path.{◌≡◌, sym, ap, ◌∙◌}
 use mathlib.Core.Bool.{Bool, true, false, not, ◌&&◌}
 use mathlib.Core.List.{List}
-use Prim.Native.Nat.{ℕ, ◌≤◌, ◌<◌, ◌-◌}
+use Prim.Native.Nat.{ℕ, ◌≤◌, ◌<◌}
 use native.Mathlib.Decide.{dec_lt}
 use native.Mathlib.Omega.{arith}
 use borrow.Author.Rules.{rules}
@@ -65,14 +65,13 @@ pub returns-then-comes_down : goal.returns-then-comes_down
 returns-then-comes_down c =
     since_found c.args.from (held c.before.before.before.before.before.before.before.before.before.before) c.args.n c.loop-i.i c.loop-i.invariant.0 (omega (arith, c.loop-i-test.true, c.requires.0))
     c.loop-i.invariant.1 (sym (tested c.before.before) ∙ c.if-comes_down.true)
-    ∙ ap (λ (f : ℕ → Bool). first_from c.args.from c.args.n f) (same c.before.before.before.before.before.before.before.before.before)
+    ∙ ap (λ (f : ℕ → Bool). first_from c.args.from c.args.n f) (same c.before.before.before.before.before.before.before.before.before.before)
 
 pub loop-i-preserved : goal.loop-i-preserved
-loop-i-preserved c =
-    (
-      omega (arith, c.loop-i.invariant.0),
-      since_more c.args.from (held c.before.before.before.before.before.before.before.before.before.before) c.loop-i.i c.loop-i.invariant.0 c.loop-i.invariant.1 (sym (tested c.before.before) ∙ c.if-comes_down.false),
-    )
+loop-i-preserved c = (
+  omega (arith, c.loop-i.invariant.0),
+  since_more c.args.from (held c.before.before.before.before.before.before.before.before.before.before) c.loop-i.i c.loop-i.invariant.0 c.loop-i.invariant.1 (sym (tested c.before.before) ∙ c.if-comes_down.false),
+)
 
 -- no row from m on comes down
 none_above : (from m : ℕ) (top : ℤ) (cols : List ℕ) (vs : List ℤ) (marks : List ℕ) (i : ℕ) → m ≤ i → Clear (since from (comes_down m top cols vs marks)) i

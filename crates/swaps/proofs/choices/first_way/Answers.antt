@@ -1,6 +1,6 @@
 use mathlib.Core.Path.{◌≡◌, sym, ap, ap₂, ◌∙◌}
 use mathlib.Core.Bool.{Bool, ◌&&◌}
-use Prim.Native.Nat.{ℕ, ◌-◌}
+use Prim.Native.Nat.{ℕ}
 use native.Mathlib.Omega.{arith}
 use lib.IntN.{ℤ, ◌+ℤ◌}
 use lib.ListN.{length}
@@ -30,18 +30,18 @@ loop-j-init c = (omega arith, c.requires.5, since_start c.args.from (held c.befo
 pub goes_over-requires : goal.goes_over-requires
 goes_over-requires c =
     let j = c.loop-j.j in (
-      rw (to_z-of_z c.fits.u) c.requires.0,
+      rw (to_z-of_z c.ranges.u) c.requires.0,
       rw (read_back w64 (signed_at c.args.vs.now j) c.goes_over-arg-in-loop-j-1.given) (c.requires.2 j c.loop-j-test.true),
       omega (arith, c.loop-j-test.true, c.requires.3),
       c.requires.4 j c.loop-j-test.true,
     )
 
 -- what the call answers is the test of column j
-tested : (c : Lts.After-goes_over Tie.the-claims Reads.Pre Reads.Post goal.the-invariant-loop-j goal.the-decreases-loop-j) → c.Goes-over.result ≡ held c.before.before.before.before.before.before.before c.loop-j.j
+tested : (c : Lts.After-goes_over Tie.the-claims Reads.Pre Reads.Post goal.the-invariant-loop-j goal.the-decreases-loop-j) → c.goes_over.result ≡ held c.before.before.before.before.before.before.before c.loop-j.j
 tested c =
     let u = c.args in
     let j = c.loop-j.j in
-    c.Goes-over.ensures
+    c.goes_over.ensures
     ∙ ap₂ (λ (x v : ℤ). le_z x (to_z w64 (of_z w64 u.u) +ℤ v) && free u.m (to_z w64 (of_z w64 u.top)) u.bits u.i v u.rows.now u.marks.now j)
     (read_back w32 (signed_at u.row.now j) c.goes_over-arg-1.given)
     (read_back w64 (signed_at u.vs.now j) c.goes_over-arg-in-loop-j-1.given)
@@ -56,16 +56,15 @@ same s =
 pub returns-then-goes_over : goal.returns-then-goes_over
 returns-then-goes_over c =
     since_found c.args.from (held c.before.before.before.before.before.before.before.before.before) (length c.args.row.now) c.loop-j.j c.loop-j.invariant.0 c.loop-j-test.true
-    c.loop-j.invariant.2 (sym (tested c.before) ∙ c.if-goes_over.true)
-    ∙ ap (λ (f : ℕ → Bool). first_from c.args.from (length c.args.row.now) f) (same c.before.before.before.before.before.before.before.before)
+    c.loop-j.invariant.2 (sym (tested c.before.before) ∙ c.if-goes_over.true)
+    ∙ ap (λ (f : ℕ → Bool). first_from c.args.from (length c.args.row.now) f) (same c.before.before.before.before.before.before.before.before.before)
 
 pub loop-j-preserved : goal.loop-j-preserved
-loop-j-preserved c =
-    (
-      omega (arith, c.loop-j.invariant.0),
-      omega (arith, c.loop-j-test.true),
-      since_more c.args.from (held c.before.before.before.before.before.before.before.before.before) c.loop-j.j c.loop-j.invariant.0 c.loop-j.invariant.2 (sym (tested c.before) ∙ c.if-goes_over.false),
-    )
+loop-j-preserved c = (
+  omega (arith, c.loop-j.invariant.0),
+  omega (arith, c.loop-j-test.true),
+  since_more c.args.from (held c.before.before.before.before.before.before.before.before.before) c.loop-j.j c.loop-j.invariant.0 c.loop-j.invariant.2 (sym (tested c.before.before) ∙ c.if-goes_over.false),
+)
 
 pub returns : goal.returns
 returns c =

@@ -1,7 +1,7 @@
 use mathlib.Core.Path.{◌≡◌, refl, sym, ap, ◌∙◌}
 use mathlib.Core.Logic.{◌⊎◌, inl, inr, ⊎_elim}
 use mathlib.Core.List.{List}
-use Prim.Native.Nat.{ℕ, ◌+◌, ◌^◌, ◌≤◌, ◌<◌, ◌-◌}
+use Prim.Native.Nat.{ℕ, ◌+◌, ◌^◌, ◌≤◌, ◌<◌}
 use native.Mathlib.Numerals.{add-one}
 use native.Mathlib.Omega.{arith}
 use borrow.Author.Tests.{lt-ltb, le-ltb}
@@ -12,6 +12,7 @@ use Rattle.lists.proofs.Runs.{upward_none, upward-last}
 use Rattle.matrix.proofs.SmallLimits.{side_small}
 use Rattle.swaps.specs.Rooms.{come_to, move_at}
 use Rattle.swaps.proofs.moves.move_rows.Goals as goal
+use Rattle.swaps.proofs.moves.move_rows.Goals.{then-x-m, else-x-m}
 use Rattle.swaps.proofs.moves.move_rows.Lts as Lts
 use Rattle.swaps.proofs.moves.move_rows.Reads as Reads
 use Rattle.swaps.proofs.moves.move_rows.Tie as Tie
@@ -90,7 +91,7 @@ loop-k-preserved c =
     let l = c.loop-k in
     let u = c.args in
     let e = moved u.m u.n u.from l.k u.room.now u.cols.now l.second c.if-x-m.second l.invariant.0 l.invariant.4 l.invariant.3
-    (⊎_elim (λ z. inl (z.0.taken, z.2)) (λ z. inr (z.0.left, z.1)) c.if-x-m.branch) in
+    (elim c.if-x-m.branch [ then-x-m w ↦ inl (w.if-x-m.true, w.second-is) | else-x-m w ↦ inr (w.if-x-m.false, w.second-is) ]) in
     (omega (arith, l.invariant.0), omega (arith, c.loop-k-test.true), l.invariant.2, e.0, e.1)
 
 pub shape_of-second : goal.shape_of-second

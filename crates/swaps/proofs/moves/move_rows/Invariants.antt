@@ -3,7 +3,6 @@ use mathlib.Core.Path.{◌≡◌}
 use Prim.Native.Nat.{◌+◌, ◌≤◌, ◌-◌}
 use lib.ListN.{length}
 use Rattle.lists.specs.Runs.{upward}
-use Rattle.lists.specs.Permutations.{at}
 use Rattle.swaps.specs.Rooms.{move_at}
 use Rattle.swaps.proofs.moves.move_rows.Given as goal
 

@@ -13,13 +13,12 @@ use Rattle.lists.proofs.Tables.{length-table}
 use Rattle.assignment.specs.Pairings.{signed_at}
 use Rattle.assignment.proofs.Pairings.{pairing_injective}
 use Rattle.bars.specs.Barred.{night_of}
-use Rattle.swaps.specs.Second.{behind, dearest}
+use Rattle.swaps.specs.Second.{behind}
 use Rattle.swaps.proofs.Choosing.{rows_columns}
 use Rattle.swaps.proofs.Finding.{found-dearest, can_walk, none_found, can_move, one_found}
 use Rattle.swaps.proofs.search.search.Goals as goal
 
 -- ---- over plain lists
-
 
 module _ (n : ℕ) (room zeros : List ℕ) (size : length room ≡ n + n + n + n) (e : zeros ≡ table (length room) (λ k. 0)) where
   front_size : length (take (n - 0) zeros) ≡ n
@@ -33,7 +32,6 @@ module _ (n : ℕ) (room zeros : List ℕ) (size : length room ≡ n + n + n + n
       (ap (λ (k : ℕ). drop k zeros) (sub-zero n) ∙ ap (drop n) (e ∙ ap (λ (k : ℕ). table k (λ i. 0)) size))
 
 -- ---- the needs
-
 
 pub list_rows-requires : goal.list_rows-requires
 list_rows-requires c =

@@ -1,7 +1,7 @@
 use mathlib.Core.Path.{◌≡◌, sym, ap, ap₂, ◌∙◌}
 use mathlib.Core.Bool.{cond}
 use mathlib.Core.List.{List}
-use Prim.Native.Nat.{ℕ, ◌+◌, ◌^◌, ◌<◌, ◌-◌}
+use Prim.Native.Nat.{ℕ, ◌+◌, ◌^◌, ◌<◌}
 use native.Mathlib.Numerals.{add-one}
 use native.Mathlib.Omega.{arith}
 use borrow.Author.Rules.{rules}
@@ -11,7 +11,6 @@ use lib.Signed.{lt_z, mag}
 use mir.Syntax.{w64}
 use mir.Val.{to_z, of_z}
 use Rattle.ints.proofs.Bits.{read_back}
-use Rattle.lists.specs.Runs.{upward}
 use Rattle.lists.specs.Permutations.{at}
 use Rattle.lists.proofs.Runs.{upward_none, upward-last}
 use Rattle.assignment.specs.Pairings.{signed_at}
@@ -72,7 +71,7 @@ pub loop-i-preserved : goal.loop-i-preserved
 loop-i-preserved c =
     let u = c.args in (
       omega (arith, c.loop-i-test.true),
-      turned u.vs.now u.cols.now c.loop-i.i c.loop-i.top c.higher-top.result _ c.loop-i.invariant.1 c.higher-top.ensures
+      turned u.vs.now u.cols.now c.loop-i.i c.loop-i.top-bits c.higher-top.result _ c.loop-i.invariant.1 c.higher-top.ensures
           (read_back w64 (signed_at u.vs.now (at u.cols.now c.loop-i.i)) c.higher-arg-1.given) c.higher-top.type_inv,
     )
 

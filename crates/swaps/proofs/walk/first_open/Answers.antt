@@ -1,9 +1,8 @@
 use mathlib.Core.Path.{refl, ap}
 use mathlib.Core.Bool.{not}
-use Prim.Native.Nat.{◌+◌, ◌-◌}
+use Prim.Native.Nat.{◌+◌}
 use native.Mathlib.Omega.{arith}
 use borrow.Author.Tests.{eq-eqb, ne_eqb}
-use lib.Dec.{eqb}
 use Rattle.lists.specs.Permutations.{at}
 use Rattle.matrix.proofs.First.{clear_start, clear_more, found, ended}
 use Rattle.swaps.proofs.walk.first_open.Invariants.{test}

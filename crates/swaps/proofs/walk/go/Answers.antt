@@ -21,7 +21,6 @@ use Rattle.swaps.proofs.walk.go.Tie as Tie
 
 -- ---- over plain numbers and lists
 
-
 module _ (m n size x c : ℕ) (room : List ℕ) (h : CanGo m n size x c room) where
   abbrev next : List ℕ
   next = advanced n x c room
@@ -50,7 +49,6 @@ module _ (m n size x c : ℕ) (room : List ℕ) (h : CanGo m n size x c room) wh
   path-fits l k e q = h.path_room l (ne_eqb (at next (n + n + y)) 1 (rw e at q))
 
 -- ---- the needs
-
 
 record Facts (n size x c room : ℕ) : Type 0 where
   small : n < 2 ^ 16

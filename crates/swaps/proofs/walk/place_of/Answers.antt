@@ -1,7 +1,6 @@
-use Prim.Native.Nat.{◌+◌, ◌-◌}
+use Prim.Native.Nat.{◌+◌}
 use native.Mathlib.Omega.{arith}
 use borrow.Author.Tests.{eq-eqb, ne_eqb}
-use lib.Dec.{eqb}
 use Rattle.lists.specs.Permutations.{at}
 use Rattle.matrix.proofs.First.{clear_start, clear_more, found, ended}
 use Rattle.swaps.proofs.walk.place_of.Invariants.{test}

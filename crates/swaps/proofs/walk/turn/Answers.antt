@@ -98,7 +98,7 @@ choose-c-requires c =
     let u = c.args in
     let p = c.requires in
     can_choose u.m u.n u.costs.now u.bars.now u.cols.now u.us.now u.vs.now u.ts.now p.fair u.size u.room.now p.holds p.lowered p.underway _
-    (to_z-of_z c.fits.top ∙ p.highest) (at u.room.now (u.n + u.size - 1))
+    (to_z-of_z c.ranges.top ∙ p.highest) (at u.room.now (u.n + u.size - 1))
     (omega (arith, is_last c.before.before, last_inside u.m u.n u.costs.now u.bars.now u.cols.now u.us.now u.vs.now u.ts.now p.fair u.size u.room.now p.holds p.lowered p.underway (some c.before.before)))
 
 pub lower-requires : goal.lower-requires

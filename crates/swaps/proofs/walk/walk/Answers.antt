@@ -1,8 +1,8 @@
 use mathlib.Core.Path.{sym, ap, ◌∙◌}
-use Prim.Native.Nat.{◌+◌, ◌-◌, ◌^◌, ◌<◌}
+use Prim.Native.Nat.{◌+◌, ◌^◌, ◌<◌}
 use native.Mathlib.Omega.{arith}
 use mir.Facts.{to_z-of_z}
-use Rattle.lists.specs.Runs.{on, left}
+use Rattle.lists.specs.Runs.{on}
 use Rattle.assignment.specs.Pairings.{Night}
 use Rattle.bars.specs.Barred.{night_of}
 use Rattle.matrix.proofs.SmallLimits.{side_small}
@@ -20,7 +20,7 @@ few s =
     omega (arith, side_small, s.requires.fair.small, s.requires.counted, nodes_columns (night_of u.m u.n u.costs.now u.bars.now) u.cols.now s.requires.fair.pairing)
 
 pub overflow_add-turns : goal.overflow_add-turns
-overflow_add-turns c = omega (arith, few c.before.before.before)
+overflow_add-turns c = omega (arith, few c.before.before.before.before)
 
 pub loop-k-init : goal.loop-k-init
 loop-k-init c =
@@ -35,7 +35,7 @@ pub turn-requires : goal.turn-requires
 turn-requires c =
     record {
       fair = c.requires.fair;
-      highest = to_z-of_z c.fits.top ∙ c.requires.highest;
+      highest = to_z-of_z c.ranges.top ∙ c.requires.highest;
       counted = c.requires.counted;
       holds = c.loop-k.invariant.1;
       lowered = c.loop-k.invariant.3;
