@@ -11,6 +11,8 @@ use Rattle.ints.proofs.Bits.{read_back}
 use Rattle.layout.proofs.Stores.{sets_front}
 use Rattle.matrix.specs.Limits.{sheet_side}
 use Rattle.sheet.specs.Reading.{Read, read}
+use Rattle.sheet.specs.declared.Reply.TheVariants.{Accepted}
+use Rattle.sheet.specs.declared.Settled.{Settled}
 use Rattle.sheet.specs.Settle.{settled_as, settled}
 use Rattle.sheet.proofs.Determined.{settled_values_determine}
 use Rattle.lines.specs.Put.{Put}
@@ -19,9 +21,6 @@ use Rattle.lines.specs.Asked.{state_lines}
 use Rattle.lines.proofs.Put.{put_as}
 use Rattle.lines.proofs.Night.{refused_lines, blocked_lines, Written, night_lines_lem}
 use Rattle.lines.proofs.print.Goals as goal
-use Rattle.lines.proofs.print.Lts as Lts
-use Rattle.lines.proofs.print.Reads as Reads
-use Rattle.lines.proofs.print.Tie as Tie
 
 -- what stands at the front of the room is what was printed
 printed-as : (sheet out : List ℕ) {after : List ℕ} {r : ℕ} → Put out 0 (output sheet) after r → r ≤ length out
@@ -39,37 +38,41 @@ output-as : (sheet : List ℕ) → lines_as (reading sheet) ≡ output sheet
 unfolding output sheet_side
 output-as sheet = refl
 
-settled-as : (c : Lts.After-settle Tie.the-claims Reads.Pre Reads.Post) → c.settle-settled.result ≡ settled_as (reading c.args.sheet.now)
+settled-as : (s : Settled) (sheet : List ℕ) → settled_values s ≡ settled_values (settled 1174 sheet) → s ≡ settled_as (reading sheet)
 unfolding settled
-settled-as c = settled_values_determine _ _ c.settle-settled.ensures
+settled-as s sheet e = settled_values_determine s (settled_as (reading sheet)) e
 
-ready : (c : Lts.Past-After-reply2 Tie.the-claims Reads.Pre Reads.Post) → Written 1174 c.settle-settled.result c.in-Accepted.m c.in-Accepted.n c.in-Accepted.total c.args.out.now (lines_as (reading c.args.sheet.now))
-ready c =
-    let u = c.args in
-    night_lines_lem 1174 c.settle-settled.result u.sheet.now (reading u.sheet.now) refl (settled-as c.before) c.in-Accepted.field-0 c.in-Accepted.m c.in-Accepted.n c.in-Accepted.total c.in-Accepted.is u.out.now (omega (arith, c.room-1.given.0))
+-- what the night is written with, and its lines
+ready : (s : Settled) (sheet out : List ℕ) → settled_values s ≡ settled_values (settled 1174 sheet) → length out ≡ 8192 → (edition m n : ℕ) (total : ℤ)
+    → s.reply ≡ Accepted edition m n total → Written 1174 s m n total out (lines_as (reading sheet))
+ready s sheet out e long edition m n total v =
+    night_lines_lem 1174 s sheet (reading sheet) refl (settled-as s sheet e) edition m n total v out (omega (arith, long))
 
 pub put_night-requires : goal.put_night-requires
-put_night-requires c = (ready c.UP).0
+put_night-requires c =
+    let a = c.in-Accepted in
+    (ready c.settle-settled.result c.args.sheet.now c.args.out.now c.settle-settled.ensures ? a.field-0 a.m a.n a.total a.is).0
 
 pub returns-in-Refused : goal.returns-in-Refused
 returns-in-Refused c =
     let u = c.args in
-    let lines = refused_lines 1174 c.settle-settled.result (reading u.sheet.now) (settled-as c.before.before) c.in-Refused.refusal c.in-Refused.is in
-    printed-as u.sheet.now u.out.now (put_as (lines ∙ output-as u.sheet.now) c.Put-refused.ensures.0) (omega (arith, c.Put-refused.ensures.1, c.room-1.given.0))
+    let s = c.settle-settled in
+    let lines = refused_lines 1174 s.result (reading u.sheet.now) (settled-as s.result u.sheet.now s.ensures) c.in-Refused.refusal c.in-Refused.is in
+    printed-as u.sheet.now u.out.now (put_as (lines ∙ output-as u.sheet.now) c.put_refused.ensures.0) ?
 
 pub returns-in-Blocked : goal.returns-in-Blocked
 returns-in-Blocked c =
     let u = c.args in
-    let lines = ap refused_line c.no_pairing.ensures ∙ blocked_lines 1174 c.settle-settled.result (reading u.sheet.now) (settled-as c.before.before.before) c.in-Blocked.field-0 c.in-Blocked.is in
-    printed-as u.sheet.now u.out.now (put_as (lines ∙ output-as u.sheet.now) c.put_refused-in-Blocked.ensures.0) (omega (arith, c.put_refused-in-Blocked.ensures.1, c.room-1.given.0))
+    let s = c.settle-settled in
+    let lines = ap refused_line c.no_pairing.ensures ∙ blocked_lines 1174 s.result (reading u.sheet.now) (settled-as s.result u.sheet.now s.ensures) c.in-Blocked.field-0 c.in-Blocked.is in
+    printed-as u.sheet.now u.out.now (put_as (lines ∙ output-as u.sheet.now) c.put_refused-in-Blocked.ensures.0) ?
 
 pub returns-in-Accepted : goal.returns-in-Accepted
 returns-in-Accepted c =
     let u = c.args in
-    let r = ready c.UP in
-    let m = c.in-Accepted.m in
-    let n = c.in-Accepted.n in
-    let state = c.settle-settled.result.state in
-    let total = read_back w64 c.in-Accepted.total c.known_told-in-Accepted-1.given.1.1.1.0.1 in
-    let lines = ap (λ (t : ℤ). state_lines m n t state) total ∙ r.1 ∙ output-as u.sheet.now in
-    printed-as u.sheet.now u.out.now (put_as lines c.put_night.ensures.0) (omega (arith, c.put_night.ensures.1, r.0.searchable.few, r.0.searchable.fewer, c.room-1.given.0))
+    let a = c.in-Accepted in
+    let s = c.settle-settled.result in
+    let r = ready s u.sheet.now u.out.now c.settle-settled.ensures ? a.field-0 a.m a.n a.total a.is in
+    let total = read_back w64 a.total ? in
+    let lines = ap (λ (t : ℤ). state_lines a.m a.n t s.state) total ∙ r.1 ∙ output-as u.sheet.now in
+    printed-as u.sheet.now u.out.now (put_as lines c.put_night.ensures.0) (omega (arith, c.put_night.ensures.1, r.0.searchable.few, r.0.searchable.fewer))

@@ -12,7 +12,7 @@ overflow_mul-count c = omega (arith, mul-le-mul c.requires.0 c.requires.0)
 
 pub slice_bounds-put_rows-end : goal.slice_bounds-put_rows-end
 slice_bounds-put_rows-end c =
-    omega (arith, mul-le-mul c.requires.0 c.requires.0, c.all_costs-1.given.0)
+    omega (arith, mul-le-mul c.requires.0 c.requires.0)
 
 pub put_rows-next-requires : goal.put_rows-next-requires
 put_rows-next-requires c =
@@ -24,7 +24,7 @@ put_spares-requires c =
     let put = c.put_rows-next in
     let r = c.requires.1 in
     let listed = r.listed in
-    (simp sub-zero listed, omega (arith, r.roomy, put.ensures.1, put.auto.0))
+    (simp sub-zero listed, omega (arith, r.roomy, put.ensures.1, put.auto.out))
 
 pub returns : goal.returns
 returns c =

@@ -9,7 +9,7 @@ use Rattle.lines.proofs.put_column.Goals as goal
 pub put_decimal-requires : goal.put_decimal-requires
 put_decimal-requires c =
     let put = c.put_byte-after_blank in
-    omega (arith, column_short c.args.column c.requires.0, c.requires.1, put.ensures.past, put.auto.0)
+    omega (arith, column_short c.args.column c.requires.0, c.requires.1, put.ensures.past, put.auto.out)
 
 pub returns : goal.returns
 returns c =

@@ -38,7 +38,7 @@ loop-i-preserved c =
     let put = c.put_column-next in
     let l = c.loop-i in
     let u = c.args in
-    (omega arith, omega (arith, put.ensures.1), put.auto.0 ∙ l.invariant.2, turn u.cols.now l.i l.invariant.3 put.ensures.0)
+    (omega arith, omega (arith, put.ensures.1), put.auto.out ∙ l.invariant.2, turn u.cols.now l.i l.invariant.3 put.ensures.0)
 
 pub returns : goal.returns
 returns c =

@@ -11,6 +11,7 @@ use Rattle.ints.proofs.Bits.{read_back}
 use Rattle.lists.specs.Permutations.{at}
 use Rattle.assignment.specs.Pairings.{signed_at}
 use Rattle.matrix.proofs.Places.{place-below}
+use Rattle.lines.specs.Asked.{Rows}
 use Rattle.lines.specs.Put.{Put}
 use Rattle.lines.specs.Lines.{row_line, row_lines}
 use Rattle.lines.proofs.Put.{put_then, put_as}
@@ -33,10 +34,10 @@ turn n costs cols i start z s e so_far new =
     let line = row_line i (at cols i) z in
     rw add-one (put_then (row_lines n costs cols i) (row_line i (at cols i) (signed_at costs (i * n + at cols i))) so_far (put_as (ap (row_line i (at cols i)) cost) new))
 
-reached : (c : Lts.After-shared_slice_known2 Tie.the-claims Reads.Pre Reads.Post goal.the-invariant-loop-i goal.the-decreases-loop-i) → c.loop-i.start + at c.args.cols.now c.loop-i.i < length c.args.costs.now
-reached c =
-    let i = c.loop-i.i in
-    omega (arith, place-below c.args.n i (at c.args.cols.now i) (omega (arith, c.requires.fewer)) (c.requires.inside i c.loop-i-test.true), c.requires.squared)
+-- the place of the cost that is read
+reached : {m n room : ℕ} {costs : List ℤ} {cols out : List ℕ} (i start : ℕ) → Rows m n costs cols room out → i < m → start ≡ i * n
+    → start + at cols i < length costs
+reached {n} {cols} i start h l s = omega (arith, place-below n i (at cols i) (omega (arith, h.fewer)) (h.inside i l), h.squared)
 
 pub loop-i-init : goal.loop-i-init
 loop-i-init c =
@@ -47,19 +48,19 @@ pub bounds-cols-i : goal.bounds-cols-i
 bounds-cols-i c = omega (arith, c.requires.listed)
 
 pub overflow_cast-at : goal.overflow_cast-at
-overflow_cast-at c = omega (arith, c.shared_slice_known-in-loop-i-1.given c.loop-i.i)
+overflow_cast-at c = omega (arith, c.type_inv.cols c.loop-i.i)
 
 pub overflow_add-at : goal.overflow_add-at
-overflow_add-at c = omega (arith, reached c)
+overflow_add-at c = omega (arith, reached c.loop-i.i c.loop-i.start c.requires c.loop-i-test.true c.loop-i.invariant.1)
 
 pub bounds-cols-i-in-loop-i : goal.bounds-cols-i-in-loop-i
 bounds-cols-i-in-loop-i c = omega (arith, c.requires.listed)
 
 pub offset_bounds-costs-at : goal.offset_bounds-costs-at
-offset_bounds-costs-at c = omega (arith, reached c.before.before)
+offset_bounds-costs-at c = omega (arith, reached c.loop-i.i c.loop-i.start c.requires c.loop-i-test.true c.loop-i.invariant.1)
 
 pub bounds-costs-at : goal.bounds-costs-at
-bounds-costs-at c = omega (arith, reached c.before.before)
+bounds-costs-at c = omega (arith, reached c.loop-i.i c.loop-i.start c.requires c.loop-i-test.true c.loop-i.invariant.1)
 
 pub put_row-next-requires : goal.put_row-next-requires
 put_row-next-requires c = omega (arith, c.requires.roomy)
@@ -79,7 +80,7 @@ loop-i-preserved c =
       omega arith,
       omega arith,
       omega (arith, put.ensures.1),
-      put.auto.0 ∙ l.invariant.3,
+      put.auto.out ∙ l.invariant.3,
       turn u.n u.costs.now u.cols.now i l.start _ l.invariant.1 (read_back w32 z c.put_row-arg-in-loop-i-1.given) l.invariant.4 put.ensures.0,
     )
 

@@ -24,14 +24,14 @@ put_text-after_word-requires c = omega (arith, c.requires.2)
 pub put_columns-after_columns-requires : goal.put_columns-after_columns-requires
 put_columns-after_columns-requires c =
     record {
-      listed = omega (arith, c.requires.0, c.cols-1.given.0);
+      listed = omega (arith, c.requires.0);
       short = c.requires.1 c.if-another.true;
-      roomy = omega (arith, c.requires.2, c.put_text-after_word.ensures.past, c.put_text-after_word.auto.0);
+      roomy = omega (arith, c.requires.2, c.put_text-after_word.ensures.past, c.put_text-after_word.auto.out);
     }
 
 pub put_byte-requires : goal.put_byte-requires
 put_byte-requires c =
-    omega (arith, c.requires.2, c.put_text-after_word.ensures.past, c.put_text-after_word.auto.0, c.put_columns-after_columns.ensures.1, c.put_columns-after_columns.auto.0)
+    omega (arith, c.requires.2, c.put_text-after_word.ensures.past, c.put_text-after_word.auto.out, c.put_columns-after_columns.ensures.1, c.put_columns-after_columns.auto.out)
 
 pub returns-then-another : goal.returns-then-another
 returns-then-another c =
@@ -39,7 +39,7 @@ returns-then-another c =
     let cols = columns_text u.list.now u.m in
     let rest = put_then cols feed c.put_columns-after_columns.ensures.0 c.put_byte.ensures in
     let all = put_then also_text (cols ++ feed) c.put_text-after_word.ensures rest in
-    let same = ap (λ (l : List ℕ). also_text ++ (l ++ feed)) (columns_first u.m u.list.now (omega (arith, c.requires.0, c.cols-1.given.0))) in
+    let same = ap (λ (l : List ℕ). also_text ++ (l ++ feed)) (columns_first u.m u.list.now (omega (arith, c.requires.0))) in
     (put_as (same ∙ line_as (take u.m u.list.now) c.if-another.true) all, omega (arith, c.put_text-after_word.ensures.past, c.put_columns-after_columns.ensures.1, c.put_byte.ensures.past))
 
 pub put_text-requires : goal.put_text-requires

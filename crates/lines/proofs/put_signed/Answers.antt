@@ -1,63 +1,49 @@
 -- `put_signed` writes a minus sign before the magnitude of a negative number. Assumes nothing.
-use mathlib.Core.Path.{◌≡◌, sym, ap, ◌∙◌}
+use mathlib.Core.Path.{◌≡◌, refl, sym, ap, ◌∙◌}
+use mathlib.Core.Bool.{true, false}
 use mathlib.Core.List.{[], ◌∷◌}
 use Prim.Native.Nat.{ℕ}
 use native.Mathlib.Omega.{arith}
-use lib.IntN.{ℤ, nat_abs}
+use lib.IntN.{ℤ, pos, nat_abs}
 use lib.ListN.{length}
+use lib.Signed.{lt_z}
 use mir.Syntax.{w64}
-use mir.Val.{to_z, of_z}
+use mir.Val.{SFits, to_z, of_z}
 use mir.Facts.{to_z-of_z}
 use Rattle.ints.proofs.Signs.{negative, positive}
 use Rattle.lines.specs.Decimal.{decimal, signed_decimal}
 use Rattle.lines.proofs.Put.{put_then, put_as}
 use Rattle.lines.proofs.put_signed.Goals as goal
-use Rattle.lines.proofs.put_signed.Lts as Lts
-use Rattle.lines.proofs.put_signed.Reads as Reads
-use Rattle.lines.proofs.put_signed.Tie as Tie
 
--- the number, as a call reads it
-read : (c : Lts.After-slice_known Tie.the-claims Reads.Pre Reads.Post) → let z = c.args.z in to_z w64 (of_z w64 z) ≡ z
-read c = to_z-of_z c.ranges.z
+-- A number that the code found negative, or not, and its magnitude as the call reads it.
+module _ {z : ℤ} {m : ℕ} (f : SFits w64 z) (e : m ≡ nat_abs (to_z w64 (of_z w64 z))) where
+  read : m ≡ nat_abs z
+  read = e ∙ ap nat_abs (to_z-of_z f)
 
--- what is written of a negative number, and of any other
-with-sign : (c : Lts.Then1 Tie.the-claims Reads.Pre Reads.Post) → let z = c.args.z in signed_decimal z ≡ 45 ∷ decimal (nat_abs z)
-with-sign c =
-    let n = (negative c.args.z c.ranges.z c.if-z-lt0.true).is in
-    ap signed_decimal n ∙ sym (ap (λ (z : ℤ). 45 ∷ decimal (nat_abs z)) n)
+  with_sign : lt_z (to_z w64 (of_z w64 z)) (pos 0) ≡ true → 45 ∷ decimal m ≡ signed_decimal z
+  with_sign t =
+      let n = (negative z f t).is in
+      ap (λ (k : ℕ). 45 ∷ decimal k) read ∙ ap (λ (y : ℤ). 45 ∷ decimal (nat_abs y)) n ∙ sym (ap signed_decimal n)
 
-without : (c : Lts.Else1 Tie.the-claims Reads.Pre Reads.Post) → let z = c.args.z in signed_decimal z ≡ decimal (nat_abs z)
-without c =
-    let n = (positive c.args.z c.ranges.z c.if-z-lt0.false).is in
-    ap signed_decimal n ∙ sym (ap (λ (z : ℤ). decimal (nat_abs z)) n)
-
--- the magnitude that is written
-module _ (c : Lts.After-magnitude Tie.the-claims Reads.Pre Reads.Post) where
-  abbrev put : Lts.After-put_byte Tie.the-claims Reads.Pre Reads.Post
-  put = c
-
-  abbrev sign : Lts.Then1 Tie.the-claims Reads.Pre Reads.Post
-  sign = put.before.before
-
-  written : 45 ∷ decimal c.magnitude.result ≡ signed_decimal sign.before.before.args.z
-  written = ap (λ (m : ℕ). 45 ∷ decimal m) (c.magnitude.ensures ∙ ap nat_abs (read sign.before)) ∙ sym (with-sign sign)
-
-written-plain : (c : Lts.After-magnitude2 Tie.the-claims Reads.Pre Reads.Post) → decimal c.magnitude-else-z-lt0.result ≡ signed_decimal c.args.z
-written-plain c =
-    ap decimal (c.magnitude-else-z-lt0.ensures ∙ ap nat_abs (read c.before.before.before)) ∙ sym (without c.before.before)
+  without : lt_z (to_z w64 (of_z w64 z)) (pos 0) ≡ false → decimal m ≡ signed_decimal z
+  without t =
+      let n = (positive z f t).is in
+      ap decimal read ∙ ap (λ (y : ℤ). decimal (nat_abs y)) n ∙ sym (ap signed_decimal n)
 
 pub put_byte-next-requires : goal.put_byte-next-requires
-put_byte-next-requires c = omega (arith, ap length (with-sign c.before), c.requires)
+put_byte-next-requires c = omega (arith, ap length (with_sign c.ranges.z refl c.if-z-lt0.true), c.requires)
 
 pub put_decimal-requires : goal.put_decimal-requires
-put_decimal-requires c = omega (arith, ap length (written c), (put c).put_byte.ensures.past, (put c).put_byte.auto.0, (sign c).before.before.requires)
+put_decimal-requires c =
+    omega (arith, ap length (with_sign c.ranges.z c.magnitude.ensures c.if-z-lt0.true), c.put_byte-next.ensures.past, c.put_byte-next.auto.out, c.requires)
 
 pub put_decimal-requires-else-z-lt0 : goal.put_decimal-requires-else-z-lt0
-put_decimal-requires-else-z-lt0 c = omega (arith, ap length (written-plain c), c.requires)
+put_decimal-requires-else-z-lt0 c = omega (arith, ap length (without c.ranges.z c.magnitude-else-z-lt0.ensures c.if-z-lt0.false), c.requires)
 
 pub returns-then-z-lt0 : goal.returns-then-z-lt0
 returns-then-z-lt0 c =
-    put_as (written c.before.before.before) (put_then (45 ∷ []) _ (put c.before.before.before).put_byte.ensures c.put_decimal.ensures)
+    put_as (with_sign c.ranges.z c.magnitude.ensures c.if-z-lt0.true)
+    (put_then (45 ∷ []) (decimal c.magnitude.result) c.put_byte-next.ensures c.put_decimal.ensures)
 
 pub returns-else-z-lt0 : goal.returns-else-z-lt0
-returns-else-z-lt0 c = put_as (written-plain c.before.before.before) c.put_decimal-else-z-lt0.ensures
+returns-else-z-lt0 c = put_as (without c.ranges.z c.magnitude-else-z-lt0.ensures c.if-z-lt0.false) c.put_decimal-else-z-lt0.ensures

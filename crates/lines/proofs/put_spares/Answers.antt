@@ -27,7 +27,7 @@ loop-j-preserved c =
     let put = c.put_if_spare-next in
     let l = c.loop-j in
     let u = c.args in
-    (omega arith, omega (arith, put.ensures.1), put.auto.0 ∙ l.invariant.2, turn u.m u.cols.now l.j l.invariant.3 put.ensures.0)
+    (omega arith, omega (arith, put.ensures.1), put.auto.out ∙ l.invariant.2, turn u.m u.cols.now l.j l.invariant.3 put.ensures.0)
 
 pub returns : goal.returns
 returns c =

@@ -13,7 +13,7 @@ pub loop-i-init : goal.loop-i-init
 loop-i-init c = (omega arith, clear_start _)
 
 pub overflow_cast-cols : goal.overflow_cast-cols
-overflow_cast-cols c = omega (arith, c.shared_slice_known-1.given c.loop-i.i)
+overflow_cast-cols c = omega (arith, c.type_inv.cols c.loop-i.i)
 
 pub returns-then-cols-i : goal.returns-then-cols-i
 returns-then-cols-i c =
