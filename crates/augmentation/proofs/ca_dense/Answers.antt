@@ -1,5 +1,4 @@
 use mathlib.Core.Path.{refl}
-use Prim.Native.Nat.{◌-◌}
 use native.Mathlib.Omega.{arith}
 use borrow.Author.Rules.{rules}
 use Rattle.matrix.proofs.SmallLimits.{side_small}
@@ -19,13 +18,12 @@ overflow_add-scanned c =
     omega (arith, side_small, A.can.small, A.can.few, A.few, A.reach, c.augment_row-scanned.ensures.few)
 
 pub loop-k-preserved : goal.loop-k-preserved
-loop-k-preserved c =
-    (
-      next_turn c.loop-k.invariant.0 c.loop-k-test.true c.augment_row-scanned.ensures (search rules) (search rules),
-      search rules,
-      search rules,
-      search rules,
-    )
+loop-k-preserved c = (
+  next_turn c.loop-k.invariant.0 c.loop-k-test.true c.augment_row-scanned.ensures (search rules) (search rules),
+  search rules,
+  search rules,
+  search rules,
+)
 
 pub returns : goal.returns
 returns c = augmented c.loop-k.invariant.0 (omega (arith, c.loop-k-test.false))

@@ -1,7 +1,5 @@
 use mathlib.Core.Path.{◌≡◌, ap, ◌∙◌}
-use mathlib.Core.Logic.{⊎_elim}
-use mathlib.Core.Bool.{true}
-use Prim.Native.Nat.{ℕ, ◌+◌, ◌-◌, ◌<◌}
+use Prim.Native.Nat.{ℕ, ◌+◌, ◌<◌}
 use native.Mathlib.Omega.{arith}
 use mir.Syntax.{w64}
 use mir.Val.{to_z, of_z}
@@ -10,6 +8,7 @@ use Rattle.lists.specs.Permutations.{exchange}
 use Rattle.rules.specs.Block.{Block}
 use Rattle.augmentation.specs.Near.{distance_at}
 use Rattle.augmentation.proofs.Block.{blocked_at, Blocked, first_block, whole-block, here_below, restart, join, pass_by}
+use Rattle.augmentation.proofs.find_dense.Goals.{then-h-minimum, else-h-minimum}
 use Rattle.augmentation.proofs.find_dense.Goals as goal
 use Rattle.augmentation.proofs.find_dense.Lts as Lts
 use Rattle.augmentation.proofs.find_dense.Reads as Reads
@@ -45,35 +44,27 @@ bounds-d-j c = omega (arith, here_below c.loop-k.invariant.0 c.loop-k-test.true)
 end_below : (c : Lts.Joined1 Tie.the-claims Reads.Pre Reads.Post goal.the-invariant-loop-k goal.the-decreases-loop-k) → c.if-h-minimum.hi < c.args.n
 end_below c =
     let B = c.loop-k.invariant.0 in
-    ⊎_elim (λ a. omega (arith, a.1, B.past, B.within)) (λ a. omega (arith, a.1, B.block-end, c.loop-k-test.true)) c.if-h-minimum.branch
+    elim c.if-h-minimum.branch [ then-h-minimum w ↦ omega (arith, w.hi-is, B.past, B.within) | else-h-minimum w ↦ omega (arith, w.hi-is, B.block-end, c.loop-k-test.true) ]
 
 pub exchange-requires : goal.exchange-requires
 exchange-requires c = omega (arith, end_below c.before, c.loop-k-test.true, c.loop-k.invariant.0.listed.size)
 
 -- The column at place k restarts the block or joins it.
 turn : (c : Lts.After-exchange Tie.the-claims Reads.Pre Reads.Post goal.the-invariant-loop-k goal.the-decreases-loop-k) → let u = c.args in
-    Blocked u.n u.lo u.d.now u.list.now c.exchange.new.list (c.if-h-minimum.hi + 1) (to_z w64 c.if-h-minimum.minimum) (c.loop-k.k + 1)
+    Blocked u.n u.lo u.d.now u.list.now c.exchange.new.list (c.if-h-minimum.hi + 1) (to_z w64 c.if-h-minimum.minimum-bits) (c.loop-k.k + 1)
 turn c =
     let l = c.loop-k in
-    let B = c.invariant.0 in
+    let B = l.invariant.0 in
     let t = c.loop-k-test.true in
-    let z = distance_at c.args.d.now c.list c.k in
+    let z = distance_at c.args.d.now l.list l.k in
     let hz : to_z w64 (of_z w64 z) ≡ z = read_back w64 z c.h-1.given in
-    let le = c.invariant.1 t in
-    ⊎_elim
-    (λ a. blocked_at (restart B t (rw hz at a.0.taken) le) (c.exchange.ensures ∙ ap (exchange c.list c.k) a.1) (ap (λ (m : ℕ). m + 1) a.1)
-    (ap (to_z w64) a.2 ∙ hz))
-    (λ a. blocked_at (join B t (rw hz at a.0.left) le) (c.exchange.ensures ∙ ap (exchange c.list c.k) a.1) (ap (λ (m : ℕ). m + 1) a.1)
-    (ap (to_z w64) a.2))
-    c.if-h-minimum.branch
-
-pub overflow_add-hi-in-loop-k : goal.overflow_add-hi-in-loop-k
-overflow_add-hi-in-loop-k c =
-    omega (arith, end_below c.before.before.before.before.before, c.fits.n)
-
-pub overflow_add-k : goal.overflow_add-k
-overflow_add-k c =
-    omega (arith, c.loop-k-test.true, c.fits.n)
+    let le = l.invariant.1 t in
+    elim c.if-h-minimum.branch [
+      | then-h-minimum w ↦ blocked_at (restart B t (rw hz at w.if-h-minimum.true) le) (c.exchange.ensures ∙ ap (exchange l.list l.k) w.hi-is) (ap (λ (m : ℕ). m + 1) w.hi-is)
+          (w.minimum-is ∙ hz)
+      | else-h-minimum w ↦ blocked_at (join B t (rw hz at w.if-h-minimum.false) le) (c.exchange.ensures ∙ ap (exchange l.list l.k) w.hi-is) (ap (λ (m : ℕ). m + 1) w.hi-is)
+          w.minimum-is
+    ]
 
 pub next_near-k-requires-in-loop-k : goal.next_near-k-requires-in-loop-k
 next_near-k-requires-in-loop-k c =

@@ -1,9 +1,9 @@
 -- `find_dense` makes the block of minima: a turn is the definition's at a place not above the minimum, after the places above it. Assumes
+-- nothing.
 use mathlib.Core.Path.{◌≡◌}
 use mathlib.Core.Bool.{true}
 use Prim.Native.Nat.{◌-◌, ◌<◌}
 use lib.Signed.{le_z}
-use Rattle.rules.specs.Block.{Block}
 use Rattle.augmentation.specs.Near.{distance_at}
 use Rattle.augmentation.proofs.Block.{Blocked}
 use Rattle.augmentation.proofs.find_dense.Given as goal

@@ -1,12 +1,11 @@
 use mathlib.Core.Path.{◌≡◌, ap, sym, ◌∙◌}
-use mathlib.Core.Logic.{⊎_elim}
-use Prim.Native.Nat.{◌-◌}
 use native.Mathlib.Omega.{arith}
 use Rattle.rules.specs.declared.Cursor.{Cursor}
 use Rattle.augmentation.proofs.Loops.{Leaving, leaving_at}
 use Rattle.augmentation.proofs.ScanLoop as scans
 use Rattle.augmentation.proofs.Search as laws
 use Rattle.augmentation.proofs.Leave as leave
+use Rattle.augmentation.proofs.find_path_dense.Goals.{in-At, in-NoneYet+then-loop-scan-test+in-Hit}
 use Rattle.augmentation.proofs.find_path_dense.Goals as goal
 use Rattle.augmentation.proofs.find_path_dense.Lts as Lts
 use Rattle.augmentation.proofs.find_path_dense.Reads as Reads
@@ -58,16 +57,16 @@ exit : (c : Lts.At-match-branch Tie.the-claims Reads.Pre Reads.Post goal.the-inv
     c.match-last_free.d c.match-last_free.room c.match-last_free.cursor.lo c.match-last_free.scanned c.match-last_free.column
 exit c =
     let o = c.last_free.ensures in
-    ⊎_elim
-    (λ a.
-    let lo : c.match-last_free.cursor.lo ≡ c.search.cursor.hi = omega (arith, ap (λ (x : Cursor). x.lo) a.5) in
-    leaving_at (laws.leave_fresh _ _ _ _ _ c.requires.0 c.search.invariant _ _ c.find_dense-hi.ensures.0 c.find_dense-hi.ensures.1 _ (sym a.1.given.1 ∙ o)) a.3 a.4 lo a.6 a.7)
-    (λ a.
-    let lo : c.match-last_free.cursor.lo ≡ c.search.cursor.hi = omega (arith, ap (λ (x : Cursor). x.lo) a.18) in
-    let k = scans.scan_left _ _ _ _ _ c.requires.0 a.2.inv a.4.taken _ a.14.given.1 a.9.ensures in
-    leaving_at (laws.leave_scan _ _ _ _ _ c.requires.0 c.search.invariant _ _ c.find_dense-hi.ensures.0 c.find_dense-hi.ensures.1 (sym a.1.given.1 ∙ o) k.0 _ _ k.1 k.2 k.3 k.4)
-    a.16 a.17 lo a.19 a.20)
-    c.match-last_free.branch
+    elim c.match-last_free.branch [
+      | in-At w ↦
+          let lo : c.match-last_free.cursor.lo ≡ c.search.cursor.hi = omega (arith, ap (λ (x : Cursor). x.lo) w.cursor-is) in
+          leaving_at (laws.leave_fresh _ _ _ _ _ c.requires.0 c.search.invariant _ _ c.find_dense-hi.ensures.0 c.find_dense-hi.ensures.1 _ (sym w.in-At.is ∙ o)) w.d-is w.room-is lo w.scanned-is w.column-is
+      | in-NoneYet+then-loop-scan-test+in-Hit w ↦
+          let lo : c.match-last_free.cursor.lo ≡ c.search.cursor.hi = omega (arith, ap (λ (x : Cursor). x.lo) w.cursor-is) in
+          let k = scans.scan_left _ _ _ _ _ c.requires.0 w.loop-scan.invariant w.loop-scan-test.true _ w.in-Hit.is w.scan_dense.ensures in
+          leaving_at (laws.leave_scan _ _ _ _ _ c.requires.0 c.search.invariant _ _ c.find_dense-hi.ensures.0 c.find_dense-hi.ensures.1 (sym w.in-NoneYet.is ∙ o) k.0 _ _ k.1 k.2 k.3 k.4)
+          w.d-is w.room-is lo w.scanned-is w.column-is
+    ]
 
 pub slice_bounds-change_prices-end : goal.slice_bounds-change_prices-end
 slice_bounds-change_prices-end c =
@@ -75,16 +74,16 @@ slice_bounds-change_prices-end c =
 
 pub change_prices-requires : goal.change_prices-requires
 change_prices-requires c =
-    leave.can_change _ _ _ _ _ c.requires.0 c.requires.2 c.start_search.ensures (exit c.before.before)
+    leave.can_change _ _ _ _ _ c.requires.0 c.requires.2 c.start_search.ensures (exit c.before.before.before)
 
 pub shape_of-d : goal.shape_of-d
 shape_of-d c =
-    leave.leave_distances _ _ _ _ _ c.requires.0 c.requires.2 c.start_search.ensures (exit c.before.before.before.before) ∙ sym c.requires.1
+    leave.leave_distances _ _ _ _ _ c.requires.0 c.requires.2 c.start_search.ensures (exit c.before.before.before.before.before) ∙ sym c.requires.1
 
 pub shape_of-room : goal.shape_of-room
 shape_of-room c =
-    leave.leave_long _ _ _ _ _ c.requires.0 c.requires.2 c.start_search.ensures (exit c.before.before.before.before) ∙ sym c.requires.2
+    leave.leave_long _ _ _ _ _ c.requires.0 c.requires.2 c.start_search.ensures (exit c.before.before.before.before.before) ∙ sym c.requires.2
 
 pub returns : goal.returns
 returns c =
-    leave.searched _ _ _ _ _ c.requires.0 c.requires.2 c.start_search.ensures (exit c.before.before.before.before) _ c.change_prices.ensures
+    leave.searched _ _ _ _ _ c.requires.0 c.requires.2 c.start_search.ensures (exit c.before.before.before.before.before) _ c.change_prices.ensures

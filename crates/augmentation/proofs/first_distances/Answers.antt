@@ -1,5 +1,5 @@
 use mathlib.Core.Path.{ap₂, ◌≡◌, sym, ap, ◌∙◌, subst}
-use Prim.Native.Nat.{ℕ, ◌-◌, ◌≤◌, ◌<◌}
+use Prim.Native.Nat.{ℕ, ◌≤◌, ◌<◌}
 use native.Mathlib.Omega.{arith}
 use lib.IntN.{◌-ℤ◌}
 use lib.ListN.{length}

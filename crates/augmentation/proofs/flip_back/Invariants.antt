@@ -1,5 +1,4 @@
 -- `flip_back` flips the pairs back to the start row: the loop is the definition's, a flip a turn, and each leaves fewer to go. Assumes nothing.
-use Rattle.lists.specs.Permutations.{at}
 use Rattle.augmentation.specs.Augmentation.{open_at}
 use Rattle.augmentation.proofs.Flips.{togo, Flipping}
 use Rattle.augmentation.proofs.flip_back.Given as goal

@@ -1,5 +1,5 @@
 use mathlib.Core.Path.{◌≡◌, ap, ◌∙◌}
-use Prim.Native.Nat.{◌-◌, ◌<◌}
+use Prim.Native.Nat.{◌<◌}
 use native.Mathlib.Omega.{arith}
 use Rattle.lists.specs.Permutations.{at}
 use Rattle.rules.specs.Search.{last_free}
@@ -37,7 +37,7 @@ overflow_cast-rows c =
 pub loop-k-preserved : goal.loop-k-preserved
 loop-k-preserved c =
     let s = c.args in
-    let more = last_more s.n (at s.rows.now) s.list.now s.lo c.loop-k.k c.loop-k.new c.loop-k.invariant.0 c.loop-k.invariant.2 in
+    let more = last_more s.n (at s.rows.now) s.list.now s.lo c.loop-k.k c.loop-k.last c.loop-k.invariant.0 c.loop-k.invariant.2 in
     (omega arith, omega arith, c.later-last.ensures ∙ more)
 
 pub returns : goal.returns

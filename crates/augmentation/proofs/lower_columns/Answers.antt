@@ -1,7 +1,6 @@
 use mathlib.Core.Path.{◌≡◌, sym, ap, ap₂, ◌∙◌, subst}
-use mathlib.Core.Logic.{⊎_elim}
 use mathlib.Core.List.{List}
-use Prim.Native.Nat.{ℕ, ◌+◌, ◌-◌, ◌*◌, ◌^◌, ◌≤◌, ◌<◌}
+use Prim.Native.Nat.{ℕ, ◌+◌, ◌*◌, ◌^◌, ◌≤◌, ◌<◌}
 use native.Mathlib.Omega.{arith}
 use borrow.Author.Tests.{lt-ltb, le-ltb}
 use lib.IntN.{ℤ, ◌-ℤ◌}
@@ -11,13 +10,13 @@ use mir.Val.{to_z, of_z}
 use mir.Facts.{to_z-of_z}
 use Rattle.ints.specs.Parts.{Within}
 use Rattle.ints.proofs.Bits.{read_back}
-use Rattle.lists.specs.Permutations.{at}
 use Rattle.assignment.specs.Pairings.{signed_at}
 use Rattle.matrix.specs.Limits.{near}
 use Rattle.matrix.proofs.SmallLimits.{side_small}
 use Rattle.rules.specs.declared.ScanEnd.{ScanEnd}
 use Rattle.augmentation.specs.Scan.{ColumnsLowered}
 use Rattle.augmentation.proofs.Lowering.{first_lowering, room_long_lem, columns_lowered, column_below, pass_by, lower, swap_in, hit, lowering_at, same_equal, same_other}
+use Rattle.augmentation.proofs.lower_columns.Goals.{then-x-d+then-x-minimum+then-rows-j, then-x-d+else-x-minimum, else-x-d}
 use Rattle.augmentation.proofs.lower_columns.Goals as goal
 use Rattle.augmentation.proofs.lower_columns.Lts as Lts
 use Rattle.augmentation.proofs.lower_columns.Reads as Reads
@@ -170,16 +169,15 @@ loop-k-preserved c =
     let old : to_z w64 (of_z w64 (signed_at c.loop-k.d j)) ≡ signed_at c.loop-k.d j = read_back w64 (signed_at c.loop-k.d j) c.t24-1.given in
     let x = to_z w64 (of_z w64 c.lowered-x.result) in
     let xr : x ≡ c.lowered-x.result = read_back w64 c.lowered-x.result c.lowered-x.type_inv in
-    ⊎_elim
-    (λ a. lowering_at
-    (swap_in _ _ _ _ _ _ _ _ _ _ c.loop-k.invariant t x (distance c.before.before.before) (rw old at a.0.taken) (same_equal _ _ (ap (to_z w64) a.1.taken))
-    (lt-ltb _ _ a.3.taken)) a.8 (a.9 ∙ a.5.ensures) a.10)
-    (⊎_elim
-    (λ a. lowering_at
-    (lower _ _ _ _ _ _ _ _ _ _ c.loop-k.invariant t x (distance c.before.before.before) (rw old at a.0.taken)
-    (same_other _ _ (λ e. a.1.left (ap (of_z w64) (sym xr ∙ e ∙ to_z-of_z c.ranges.minimum))))) a.2 a.3 a.4)
-    (λ a. lowering_at (pass_by _ _ _ _ _ _ _ _ _ _ c.loop-k.invariant t x (distance c.before.before) (rw old at a.0.left)) a.1 a.2 a.3))
-    c.if-x-d.branch
+    elim c.if-x-d.branch [
+      | then-x-d+then-x-minimum+then-rows-j w ↦ lowering_at
+          (swap_in _ _ _ _ _ _ _ _ _ _ c.loop-k.invariant t x (distance c.before.before.before) (rw old at w.if-x-d.true) (same_equal _ _ (ap (to_z w64) w.if-x-minimum.true))
+          (lt-ltb _ _ w.if-rows-j.true)) w.d-is (w.room-is ∙ w.exchange.ensures) w.hi-is
+      | then-x-d+else-x-minimum w ↦ lowering_at
+          (lower _ _ _ _ _ _ _ _ _ _ c.loop-k.invariant t x (distance c.before.before.before) (rw old at w.if-x-d.true)
+          (same_other _ _ (λ e. w.if-x-minimum.false (ap (of_z w64) (sym xr ∙ e ∙ to_z-of_z c.ranges.minimum))))) w.d-is w.room-is w.hi-is
+      | else-x-d w ↦ lowering_at (pass_by _ _ _ _ _ _ _ _ _ _ c.loop-k.invariant t x (distance c.before.before.before) (rw old at w.if-x-d.false)) w.d-is w.room-is w.hi-is
+    ]
 
 pub shape_of-d : goal.shape_of-d
 shape_of-d c = c.loop-k.invariant.distances_size ∙ sym c.requires.0.distances_size

@@ -1,12 +1,10 @@
 use mathlib.Core.Path.{◌≡◌, sym, ◌∙◌, subst}
 use mathlib.Core.List.{List}
-use Prim.Native.Nat.{ℕ, ◌-◌}
+use Prim.Native.Nat.{ℕ}
 use native.Mathlib.Omega.{arith}
 use lib.IntN.{ℤ}
-use mir.Val.{to_z}
 use mir.Facts.{to_z-of_z}
-use Rattle.lists.specs.Permutations.{at}
-use Rattle.augmentation.specs.DirectHit.{free_at, LastOf}
+use Rattle.augmentation.specs.DirectHit.{LastOf}
 use Rattle.augmentation.proofs.Hits.{none_passed, one_more_passed, last_found, none_found}
 use Rattle.augmentation.proofs.direct.last_free_at.Invariants.{test}
 use Rattle.augmentation.proofs.direct.last_free_at.Goals as goal

@@ -1,5 +1,5 @@
 use mathlib.Core.Path.{◌≡◌, sym, ap, ap₂, ◌∙◌}
-use Prim.Native.Nat.{ℕ, ◌+◌, ◌-◌, ◌≤◌}
+use Prim.Native.Nat.{ℕ, ◌+◌, ◌≤◌}
 use native.Mathlib.Omega.{arith}
 use lib.ListN.{length}
 use mir.Syntax.{w64}
@@ -59,9 +59,6 @@ loop-j-2-init c = c.loop-j.invariant
 
 pub reduced_at-requires : goal.reduced_at-requires
 reduced_at-requires c = (c.requires.0, c.loop-j-2-test.true)
-
-pub overflow_add-j-in-loop-j-2 : goal.overflow_add-j-in-loop-j-2
-overflow_add-j-in-loop-j-2 c = omega (arith, c.loop-j-2-test.true, c.good)
 
 pub loop-j-2-preserved : goal.loop-j-2-preserved
 loop-j-2-preserved c =

@@ -4,7 +4,6 @@ use mathlib.Core.Bool.{false}
 use Prim.Native.Nat.{ℕ, ◌-◌, ◌≤◌, ◌<◌}
 use lib.IntN.{ℤ}
 use lib.Signed.{le_z}
-use Rattle.lists.specs.Permutations.{at}
 use Rattle.augmentation.specs.Near.{distance_at}
 use Rattle.augmentation.proofs.near.next_near.Given as goal
 
