@@ -1,6 +1,7 @@
 -- `told_any` answers as its definition says. Assumes nothing.
 use mathlib.Core.Path.{ap, ap₂, ◌∙◌}
 use Prim.Native.Nat.{ℕ}
+use borrow.Author.Rules.{rules}
 use lib.IntN.{ℤ, pos}
 use mir.Syntax.{w64}
 use Rattle.ints.proofs.Bits.{read_back}
@@ -18,7 +19,7 @@ abbrev with-refusal : ℕ → ℤ → Checked
 with-refusal code slack = record { refusal = code; total = pos 0; slack = slack }
 
 pub returns-in-Total : goal.returns-in-Total
-returns-in-Total c = rw c.in-Total.is (ap with-total (read_back w64 c.in-Total.total c.known_told-1.given.0.1))
+returns-in-Total c = rw c.in-Total.is (ap with-total (read_back w64 c.in-Total.total (search rules)))
 
 pub returns-in-Refused : goal.returns-in-Refused
 returns-in-Refused c =

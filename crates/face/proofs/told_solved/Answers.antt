@@ -12,9 +12,6 @@ use Rattle.lapjv.specs.Values.{solved_values}
 use Rattle.face.specs.declared.Solution.{Solution}
 use Rattle.face.specs.Face.{solution}
 use Rattle.face.proofs.told_solved.Goals as goal
-use Rattle.face.proofs.told_solved.Lts as Lts
-use Rattle.face.proofs.told_solved.Reads as Reads
-use Rattle.face.proofs.told_solved.Tie as Tie
 
 pub code-requires : goal.code-requires
 code-requires c = rw c.in-Refused.is at c.requires
@@ -26,13 +23,10 @@ with-total counts t = solution (solved_values (Paired (record { total = t; count
 abbrev with-refusal : ℕ → Solution
 with-refusal code = record { refusal = code; total = pos 0; free_rows = 0; looks_one = 0; left_one = 0; looks_two = 0; rows_left = 0; columns_scanned = 0 }
 
-total_fits : (c : Lts.After-struct_told Tie.the-claims Reads.Pre Reads.Post) → SFits w64 c.in-Paired.night.total
-total_fits c = search rules
-
 pub returns-in-Paired : goal.returns-in-Paired
 returns-in-Paired c =
-    let a = c.answer-1 in
-    rw a.given.1 (ap (with-total a.given.0.0.counts) (to_z-of_z (total_fits c)))
+    let fits : SFits w64 c.in-Paired.night.total = search rules in
+    rw c.in-Paired.is (ap (with-total c.in-Paired.night.counts) (to_z-of_z fits))
 
 pub returns-in-Refused : goal.returns-in-Refused
 returns-in-Refused c = rw c.in-Refused.is (ap with-refusal c.code.ensures)
