@@ -22,8 +22,8 @@ use Rattle.sheet.proofs.solve_night.Tie as Tie
 
 abbrev left : Lts.After-solve_arrays Tie.the-claims Reads.Pre Reads.Post → Lent
 left c =
-    let l = c.solve_arrays.new.cols in
-    lent_of l.0 l.1.0 l.1.1.0 l.1.1.1.0 l.1.1.1.1.0 l.1.1.1.1.1.0
+    let l = c.solve_arrays.new in
+    lent_of l.cols l.rows l.row_prices l.col_prices l.indices l.numbers
 
 abbrev state : Lts.After-solve_arrays Tie.the-claims Reads.Pre Reads.Post → State
 state c = state_of c.args.state.costs c.args.state.bars (left c)
@@ -39,7 +39,7 @@ done c =
 pub unless_barred-requires : goal.unless_barred-requires
 unless_barred-requires c =
     let u = c.args in
-    (c.requires, paired_inside u.n (take (u.n * u.n) u.state.costs) (lent u.state) c.in-Paired.night (left c.before.before) (ap (λ (a : Solved). outcome_of a (left c.before.before)) (sym c.in-Paired.is) ∙ c.solve_arrays.ensures))
+    (c.requires, paired_inside u.n (take (u.n * u.n) u.state.costs) (lent u.state) c.in-Paired.night (left c.before.before.before) (ap (λ (a : Solved). outcome_of a (left c.before.before.before)) (sym c.in-Paired.is) ∙ c.solve_arrays.ensures))
 
 pub returns-in-Refused : goal.returns-in-Refused
 returns-in-Refused c =
@@ -48,7 +48,7 @@ returns-in-Refused c =
 pub returns-in-Paired : goal.returns-in-Paired
 returns-in-Paired c =
     let u = c.args in
-    let bar = first_barred u.n (state c.before.before.before.before).bars (state c.before.before.before.before).cols in
+    let bar = first_barred u.n (state c.before.before.before).bars (state c.before.before.before).cols in
     c.unless_barred.ensures
-    ∙ ap (λ (t : ℤ). unless_barred u.n bar (record { reply = Accepted u.edition u.m u.n t; state = state c.before.before.before.before }) (state c.before.before.before.before)) (read_back w64 c.in-Paired.night.total c.struct_told-1.given.0.1)
-    ∙ ap (by c.before.before.before.before) (sym c.in-Paired.is) ∙ done c.before.before.before.before
+    ∙ ap (λ (t : ℤ). unless_barred u.n bar (record { reply = Accepted u.edition u.m u.n t; state = state c.before.before.before }) (state c.before.before.before)) (read_back w64 c.in-Paired.night.total c.struct_told-1.given.0.1)
+    ∙ ap (by c.before.before.before) (sym c.in-Paired.is) ∙ done c.before.before.before
