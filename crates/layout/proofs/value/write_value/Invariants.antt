@@ -1,7 +1,7 @@
 -- `write_value` writes the lowest bytes: after k of them, what is left to be written is the rest of the number. Assumes nothing.
 use mathlib.Core.Path.{◌≡◌}
 use Prim.Native.Nat.{◌+◌, ◌-◌, ◌≤◌}
-use lib.ListN.{length, set}
+use lib.ListN.{length}
 use lib.Seq.{sets}
 use Rattle.layout.specs.Values.{bytes_of}
 use Rattle.layout.proofs.value.write_value.Given as goal

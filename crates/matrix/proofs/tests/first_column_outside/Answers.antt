@@ -1,7 +1,5 @@
-use Prim.Native.Nat.{◌-◌}
 use native.Mathlib.Omega.{arith}
 use borrow.Author.Tests.{le-leb, lt-leb}
-use lib.Dec.{leb}
 use Rattle.matrix.proofs.First.{clear_start, clear_more, found, ended}
 use Rattle.matrix.proofs.tests.first_column_outside.Invariants.{test}
 use Rattle.matrix.proofs.tests.first_column_outside.Goals as goal
