@@ -1,12 +1,10 @@
 -- Refusals as one number: the numbers of `plain` are below 256, and its places far below 2^48. Assumes nothing.
-use mathlib.Core.Path.{◌≡◌}
 use mathlib.Core.List.{List}
 use Prim.Native.Nat.{ℕ, ◌*◌, ◌≤◌}
 use native.Mathlib.Nat.{mul-le-mul}
 use native.Mathlib.Omega.{arith}
 use lib.Dec.{lit<}
 use lib.IntN.{ℤ}
-use lib.ListN.{length}
 use Rattle.assignment.specs.Pairings.{square}
 use Rattle.matrix.specs.Asked.{TellableIn}
 use Rattle.matrix.specs.declared.Verdict.{Verdict}

@@ -11,7 +11,6 @@ use lib.ListN.{length, take, drop}
 use lib.Seq.{length-take-le}
 use Rattle.ints.specs.Parts.{Within}
 use Rattle.lists.specs.Permutations.{table}
-use Rattle.lists.specs.Runs.{first}
 use Rattle.lists.proofs.BitSets.{bit_none}
 use Rattle.lists.proofs.Counts.{some_cong}
 use Rattle.lists.proofs.Tables.{length-table, get_d_table}

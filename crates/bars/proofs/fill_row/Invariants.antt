@@ -1,7 +1,7 @@
 -- `fill_row` leaves its cost on barred places: the first j places are filled. Assumes nothing.
 use mathlib.Core.Path.{◌≡◌}
 use mathlib.Core.List.{◌++◌}
-use Prim.Native.Nat.{◌+◌, ◌-◌, ◌≤◌}
+use Prim.Native.Nat.{◌-◌, ◌≤◌}
 use lib.ListN.{length, drop}
 use Rattle.lists.specs.Permutations.{table}
 use Rattle.bars.specs.Barred.{filled_in}

@@ -1,9 +1,7 @@
 use mathlib.Core.Path.{◌≡◌, sym, ◌∙◌}
 use mathlib.Core.Bool.{false}
-use Prim.Native.Nat.{◌-◌}
 use native.Mathlib.Omega.{arith}
 use borrow.Author.Count.{below_none, below_more}
-use Rattle.lists.specs.Permutations.{at}
 use Rattle.lists.proofs.Runs.{first-at, first_none}
 use Rattle.bars.proofs.first_barred.Invariants.{test}
 use Rattle.bars.proofs.first_barred.Goals as goal

@@ -1,6 +1,6 @@
 use mathlib.Core.Path.{◌≡◌, sym, ◌∙◌}
 use mathlib.Core.Bool.{false}
-use Prim.Native.Nat.{◌-◌, ◌^◌}
+use Prim.Native.Nat.{◌^◌}
 use native.Mathlib.Omega.{arith}
 use lib.Pow.{pow_pos}
 use borrow.Author.Count.{below_none, below_more}

@@ -1,8 +1,7 @@
 use mathlib.Core.Path.{◌≡◌, refl, sym, ap, ◌∙◌}
 use mathlib.Core.Bool.{Bool, true, false, not}
-use mathlib.Core.Logic.{⊎_elim}
 use mathlib.Core.List.{List}
-use Prim.Native.Nat.{ℕ, ◌+◌, ◌*◌, ◌^◌, ◌≤◌, ◌<◌, ◌-◌}
+use Prim.Native.Nat.{ℕ, ◌+◌, ◌*◌, ◌^◌, ◌≤◌, ◌<◌}
 use native.Mathlib.Nat.{mul-le-mul, mul-le-mul_right}
 use native.Mathlib.Numerals.{add-one}
 use native.Mathlib.Omega.{arith}
@@ -20,7 +19,7 @@ use Rattle.lists.specs.Counts.{bit_of}
 use Rattle.lists.specs.Permutations.{at}
 use Rattle.lists.proofs.Cases.{or_second}
 use Rattle.lists.proofs.Sums.{sum_none, sum-last}
-use Rattle.assignment.specs.Pairings.{signed_at, total}
+use Rattle.assignment.specs.Pairings.{signed_at}
 use Rattle.bars.specs.Barred.{night_of}
 use Rattle.matrix.specs.Cost.{total_of}
 use Rattle.matrix.proofs.First.{clear_start, clear_more}
@@ -93,14 +92,13 @@ returns-then-has c =
     let bars = u.bars.now in
     let cols = u.cols.now in
     let w : bad bars cols i ≡ true = elim c.then-has.branch [
-      then-has-via-then-has y ↦ row-barred bars cols i c.bits_at.result c.bits_at.ensures (sym c.has.ensures ∙ y.if-has.true)
-    | then-has-via-else-has+then-taken y ↦ row-taken bars cols i (sym y.taken.ensures ∙ y.if-taken.true)
+      | then-has-via-then-has y ↦ row-barred bars cols i c.bits_at.result c.bits_at.ensures (sym c.has.ensures ∙ y.if-has.true)
+      | then-has-via-else-has+then-taken y ↦ row-taken bars cols i (sym y.taken.ensures ∙ y.if-taken.true)
     ] in
     sym (cost_failed (night_of (length cols) u.n u.costs.now bars) cols
     (wrong_fails (night_of (length cols) u.n u.costs.now bars) cols i c.loop-i-test.true w))
 
 -- ---- a row that is right
-
 
 abbrev added-cost : Lts.In-loop Tie.the-claims Reads.Pre Reads.Post goal.the-invariant-loop-i goal.the-decreases-loop-i → ℤ
 added-cost c =

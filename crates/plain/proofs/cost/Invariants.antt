@@ -6,7 +6,6 @@ use lib.ListN.{length}
 use Rattle.ints.specs.Parts.{Within}
 use Rattle.lists.specs.Counts.{bit_of}
 use Rattle.lists.specs.Permutations.{at}
-use Rattle.assignment.specs.Pairings.{total}
 use Rattle.matrix.specs.Cost.{total_of}
 use Rattle.matrix.proofs.First.{Clear}
 use Rattle.plain.proofs.Pairings.{wrong}

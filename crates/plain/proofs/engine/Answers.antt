@@ -1,6 +1,6 @@
 use mathlib.Core.Path.{◌≡◌, refl, sym, ap, ◌∙◌}
 use mathlib.Core.List.{List}
-use Prim.Native.Nat.{ℕ, suc, ◌-◌, ◌*◌, ◌^◌}
+use Prim.Native.Nat.{ℕ, suc, ◌*◌, ◌^◌}
 use native.Mathlib.Omega.{arith}
 use lib.Dec.{ltb}
 use lib.ListN.{length}
@@ -36,7 +36,6 @@ next-requires c =
     (c.requires.1, λ i b. c.loop-found.invariant.below i (omega (arith, c.loop-found.invariant.size)))
 
 -- ---- after `next`
-
 
 -- what `keep` leaves in the columns, and `next` in the list
 abbrev left : Lts.After-next Tie.the-claims Reads.Pre Reads.Post goal.the-invariant-loop-found goal.the-decreases-loop-found Tie.handed_clauses → List ℕ

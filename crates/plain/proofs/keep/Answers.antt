@@ -1,10 +1,9 @@
 use mathlib.Core.Path.{◌≡◌, refl, sym, ap, ◌∙◌}
-use Prim.Native.Nat.{ℕ, ◌-◌, ◌<◌}
+use Prim.Native.Nat.{ℕ, ◌<◌}
 use native.Mathlib.Omega.{arith}
 use lib.ListN.{length}
 use Rattle.lists.specs.Permutations.{at, table}
 use Rattle.lists.proofs.Tables.{filled_none, filled_more, filled-length, filled_all, table_get_d}
-use Rattle.plain.specs.Engine.{less}
 use Rattle.plain.proofs.keep.Goals as goal
 use Rattle.plain.proofs.keep.Lts as Lts
 use Rattle.plain.proofs.keep.Reads as Reads

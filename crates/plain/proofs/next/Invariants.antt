@@ -1,7 +1,7 @@
 -- `next` leaves the list after the one it is lent: what stands before i and is not yet written goes on, what stands from i on is written. Assumes nothing.
 use mathlib.Core.Path.{◌≡◌}
 use mathlib.Core.List.{◌++◌}
-use Prim.Native.Nat.{◌+◌, ◌-◌, ◌≤◌}
+use Prim.Native.Nat.{◌≤◌}
 use lib.ListN.{length, drop}
 use Rattle.plain.proofs.Numbers.{Below}
 use Rattle.plain.proofs.Following.{after, more}

@@ -2,7 +2,7 @@ use mathlib.Core.Path.{◌≡◌, refl, sym, ap, ◌∙◌}
 use mathlib.Core.Bool.{Bool, true, false}
 use mathlib.Core.Logic.{◌⊎◌, inl, inr, ⊎_elim}
 use mathlib.Core.List.{List}
-use Prim.Native.Nat.{ℕ, suc, ◌+◌, ◌-◌, ◌^◌}
+use Prim.Native.Nat.{ℕ, suc, ◌+◌, ◌^◌}
 use native.Mathlib.Omega.{arith}
 use lib.Bits.{bit_or}
 use Rattle.lists.specs.Runs.{upward}

@@ -1,6 +1,6 @@
 use mathlib.Core.Path.{◌≡◌, refl, sym, ap, ◌∙◌}
 use mathlib.Core.List.{List}
-use Prim.Native.Nat.{ℕ, suc, ◌+◌, ◌-◌, ◌^◌}
+use Prim.Native.Nat.{ℕ, suc, ◌+◌, ◌^◌}
 use native.Mathlib.Omega.{arith}
 use lib.Bits.{or_zero_l}
 use Rattle.lists.specs.Runs.{upward}

@@ -1,5 +1,5 @@
 -- `write_scores` writes four bytes a score: after k of them the later ones are left. Assumes nothing.
-use mathlib.Core.Path.{◌≡◌, ap}
+use mathlib.Core.Path.{◌≡◌}
 use mathlib.Core.List.{List, flat_map}
 use Prim.Native.Nat.{ℕ, ◌*◌, ◌-◌, ◌≤◌}
 use lib.IntN.{ℤ}

@@ -1,9 +1,7 @@
 use mathlib.Core.Path.{sym, ◌∙◌}
-use Prim.Native.Nat.{◌-◌}
 use native.Mathlib.Omega.{arith}
 use lib.ListN.{length}
 use Rattle.matrix.proofs.First.{clear_start, clear_more, found, ended}
-use Rattle.score.specs.Characters.{foreign}
 use Rattle.score.proofs.tests.first_foreign.Invariants.{test}
 use Rattle.score.proofs.tests.first_foreign.Goals as goal
 
