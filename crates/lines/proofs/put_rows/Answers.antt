@@ -1,6 +1,6 @@
 use mathlib.Core.Path.{◌≡◌, refl, ap, ◌∙◌}
 use mathlib.Core.List.{List}
-use Prim.Native.Nat.{ℕ, ◌+◌, ◌*◌, ◌-◌, ◌^◌, ◌<◌}
+use Prim.Native.Nat.{ℕ, ◌+◌, ◌*◌, ◌^◌, ◌<◌}
 use native.Mathlib.Nat.{mul-le-mul_right}
 use native.Mathlib.Numerals.{add-one}
 use native.Mathlib.Omega.{arith}
@@ -17,9 +17,6 @@ use Rattle.lines.specs.Put.{Put}
 use Rattle.lines.specs.Lines.{row_line, row_lines}
 use Rattle.lines.proofs.Put.{put_then, put_as}
 use Rattle.lines.proofs.put_rows.Goals as goal
-use Rattle.lines.proofs.put_rows.Lts as Lts
-use Rattle.lines.proofs.put_rows.Reads as Reads
-use Rattle.lines.proofs.put_rows.Tie as Tie
 
 none : (n : ℕ) (costs : List ℤ) (cols out : List ℕ) (place : ℕ) → Put out place (row_lines n costs cols 0) out place
 unfolding row_lines
