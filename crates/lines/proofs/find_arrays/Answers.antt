@@ -16,13 +16,12 @@ pub overflow_mul-count : goal.overflow_mul-count
 overflow_mul-count c = omega (arith, count_small c.args.m c.args.n c.requires.fewer c.requires.few)
 
 pub slice_bounds-find_second-end : goal.slice_bounds-find_second-end
-slice_bounds-find_second-end c =
-    omega (arith, count_small c.args.m c.args.n c.requires.fewer c.requires.few)
+slice_bounds-find_second-end c = omega (arith, count_small c.args.m c.args.n c.requires.fewer c.requires.few)
 
 pub find_second-requires : goal.find_second-requires
 find_second-requires c =
     let h = c.requires in
-    let costs-long : c.args.m * c.args.n ≤ length c.args.costs.now = omega (arith, count_small c.args.m c.args.n c.requires.fewer c.requires.few) in
+    let costs-long : c.args.m * c.args.n ≤ length c.args.costs.now = omega (arith, count_small c.args.m c.args.n h.fewer h.few) in
     simp sub-zero
     (record {
       small = h.small;

@@ -1,9 +1,8 @@
 -- `put_refused` writes the parts of its line, one after the other. Assumes nothing.
 use mathlib.Core.Path.{ap₂}
 use mathlib.Core.List.{List, ◌++◌}
-use Prim.Native.Nat.{ℕ, ◌≤◌}
+use Prim.Native.Nat.{ℕ}
 use native.Mathlib.Omega.{arith}
-use lib.ListN.{length}
 use Rattle.lines.specs.Decimal.{decimal}
 use Rattle.lines.specs.Lines.{refused_text, place_text, feed, refused_line}
 use Rattle.lines.proofs.Decimal.{length-decimal}

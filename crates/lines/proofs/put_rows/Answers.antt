@@ -1,11 +1,12 @@
 use mathlib.Core.Path.{◌≡◌, refl, ap, ◌∙◌}
 use mathlib.Core.List.{List}
-use Prim.Native.Nat.{ℕ, ◌+◌, ◌*◌, ◌-◌, ◌<◌}
+use Prim.Native.Nat.{ℕ, ◌+◌, ◌*◌, ◌^◌, ◌<◌}
 use native.Mathlib.Nat.{mul-le-mul_right}
 use native.Mathlib.Numerals.{add-one}
 use native.Mathlib.Omega.{arith}
 use lib.IntN.{ℤ}
 use lib.ListN.{length}
+use lib.Signed.{mag}
 use mir.Syntax.{w32}
 use Rattle.ints.proofs.Bits.{read_back}
 use Rattle.lists.specs.Permutations.{at}
@@ -16,9 +17,6 @@ use Rattle.lines.specs.Put.{Put}
 use Rattle.lines.specs.Lines.{row_line, row_lines}
 use Rattle.lines.proofs.Put.{put_then, put_as}
 use Rattle.lines.proofs.put_rows.Goals as goal
-use Rattle.lines.proofs.put_rows.Lts as Lts
-use Rattle.lines.proofs.put_rows.Reads as Reads
-use Rattle.lines.proofs.put_rows.Tie as Tie
 
 none : (n : ℕ) (costs : List ℤ) (cols out : List ℕ) (place : ℕ) → Put out place (row_lines n costs cols 0) out place
 unfolding row_lines
@@ -76,12 +74,13 @@ loop-i-preserved c =
     let l = c.loop-i in
     let u = c.args in
     let i = l.i in
-    let z = signed_at u.costs.now (l.start + at u.cols.now i) in (
+    let z = signed_at u.costs.now (l.start + at u.cols.now i) in
+    let fits : mag z < 2 ^ 31 = omega arith in (
       omega arith,
       omega arith,
       omega (arith, put.ensures.1),
       put.auto.out ∙ l.invariant.3,
-      turn u.n u.costs.now u.cols.now i l.start _ l.invariant.1 (read_back w32 z c.put_row-arg-in-loop-i-1.given) l.invariant.4 put.ensures.0,
+      turn u.n u.costs.now u.cols.now i l.start _ l.invariant.1 (read_back w32 z fits) l.invariant.4 put.ensures.0,
     )
 
 pub returns : goal.returns

@@ -3,7 +3,7 @@ use mathlib.Core.Path.{◌≡◌}
 use Prim.Native.Nat.{◌+◌, ◌*◌, ◌-◌, ◌≤◌}
 use lib.ListN.{length}
 use Rattle.lines.specs.Put.{Put}
-use Rattle.lines.specs.Lines.{row_line, row_lines}
+use Rattle.lines.specs.Lines.{row_lines}
 use Rattle.lines.proofs.put_rows.Given as goal
 
 abbrev pub invariant-loop-i : goal.invariant-loop-i

@@ -11,9 +11,6 @@ use Rattle.lines.proofs.Put.{put_then, put_as}
 use Rattle.lines.proofs.Columns.{columns_first}
 use Rattle.lines.proofs.put_second.Goals as goal
 
--- ---- the start, from each write
-
-
 -- the line of an answer that is known
 line_as : {t u : Bool} (list : List ℕ) → t ≡ u → second_line (cond u (also list) only) ≡ second_line (cond t (also list) only)
 line_as list e = ap (λ (b : Bool). second_line (cond b (also list) only)) (sym e)

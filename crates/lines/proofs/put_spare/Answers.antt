@@ -1,8 +1,6 @@
 -- `put_spare` writes the parts of its line, one after the other. Assumes nothing.
 use mathlib.Core.List.{◌++◌}
-use Prim.Native.Nat.{◌≤◌}
 use native.Mathlib.Omega.{arith}
-use lib.ListN.{length}
 use Rattle.lines.specs.Decimal.{decimal}
 use Rattle.lines.specs.Lines.{spare_text, feed, spare_line}
 use Rattle.lines.proofs.Decimal.{length-decimal}

@@ -1,7 +1,7 @@
 -- `put_text` writes a text byte by byte: after i of them the later ones are left. Assumes nothing.
 use mathlib.Core.Path.{◌≡◌}
 use Prim.Native.Nat.{◌+◌, ◌-◌, ◌≤◌}
-use lib.ListN.{length, set, drop}
+use lib.ListN.{length, drop}
 use lib.Seq.{sets}
 use Rattle.lines.proofs.put_text.Given as goal
 

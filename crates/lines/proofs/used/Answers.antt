@@ -1,8 +1,6 @@
 use mathlib.Core.Path.{sym}
-use Prim.Native.Nat.{◌-◌}
 use native.Mathlib.Omega.{arith}
 use borrow.Author.Tests.{eq-eqb, ne_eqb, le-ltb}
-use lib.Dec.{eqb}
 use Rattle.lists.specs.Runs.{first}
 use Rattle.lists.proofs.Counts.{some_make}
 use Rattle.matrix.proofs.First.{clear_start, clear_more, ended}
