@@ -1,7 +1,6 @@
 -- How long a sheet and its note may be: all that proofs need of it. Assumes nothing.
 use Prim.Native.Nat.{◌+◌, ◌^◌, ◌≤◌}
 use native.Mathlib.Omega.{arith}
-use Rattle.matrix.specs.Limits.{K}
 use Rattle.sheet.specs.Reading.{sheet_most, note_most}
 
 -- A place on a sheet is told by few bytes.

@@ -2,7 +2,7 @@
 use mathlib.Core.Path.{◌≡◌, refl, ap}
 use mathlib.Core.Bool.{Bool, true, false, ◌||◌}
 use mathlib.Core.List.{List}
-use Prim.Native.Nat.{ℕ, ◌+◌, ◌*◌, ◌-◌, ◌≤◌}
+use Prim.Native.Nat.{ℕ, ◌+◌, ◌-◌, ◌≤◌}
 use native.Mathlib.Omega.{arith}
 use borrow.Author.Tests.{ltb-false, eqb-true, not-false}
 use lib.ListN.{length}
@@ -12,7 +12,7 @@ use Rattle.matrix.specs.Limits.{sheet_side}
 use Rattle.matrix.specs.Verdicts.{Passes, ◌then◌}
 use Rattle.matrix.proofs.Verdicts.{then_iff, fails_if_iff}
 use Rattle.sheet.specs.Reading.{sheet_most, rows_of, distance_due, laid_at, laid_of, trailed, rows_fit, pointed, sheet_tests}
-use Rattle.sheet.specs.Asked.{Ended, Counted}
+use Rattle.sheet.specs.Asked.{Counted}
 
 -- A sheet that is not refused by 11 has a trailer.
 pub has-trailer : (mark : ℕ) (sheet : List ℕ) → unmarked mark sheet ≡ false → 12 ≤ length sheet

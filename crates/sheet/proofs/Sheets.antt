@@ -5,7 +5,7 @@ use mathlib.Core.List.{List, [], ◌++◌, flat_map}
 use Prim.Native.Nat.{ℕ, ◌+◌, ◌*◌, ◌-◌, ◌/◌, ◌^◌, ◌≤◌, ◌<◌}
 use native.Mathlib.Nat.{zero-lt-suc, lt_of_lt_of_le, pow-le-pow_right}
 use native.Mathlib.Omega.{arith}
-use borrow.Author.Tests.{le-ltb, lt-leb, eq-eqb, ne_eqb, eqb-true}
+use borrow.Author.Tests.{le-ltb, lt-leb, eq-eqb, eqb-true}
 use lib.Dec.{ltb, eqb}
 use lib.IntN.{ℤ, pos, negsuc}
 use lib.ListN.{length, replicate, get_or-append}
@@ -28,7 +28,7 @@ use Rattle.matrix.specs.Verdicts.{Passes}
 use Rattle.matrix.proofs.SmallLimits.{sheet_side_small, K_small}
 use Rattle.matrix.proofs.Verdicts.{then_iff, fails_if_iff, fails_at_iff}
 use Rattle.matrix.proofs.Passed.{costs_in_lem}
-use Rattle.sheet.specs.Reading.{sheet_most, note_most, has_bars, unknown, rows_of, distance_due, cost_most, Laid, laid_at, laid_of, bars_in, note_length, unprintable, unfit, trailed, rows_fit, pointed, note_fit, room_long, sheet_tests, night_tests, night_if, read_if, night_tested, night, read, Printable, Layable}
+use Rattle.sheet.specs.Reading.{sheet_most, note_most, has_bars, unknown, rows_of, distance_due, cost_most, Laid, laid_of, bars_in, note_length, unprintable, unfit, trailed, rows_fit, pointed, note_fit, sheet_tests, night_tests, night_if, read_if, night_tested, night, read, Printable, Layable}
 use Rattle.sheet.proofs.Limits.{sheet_most_large}
 use Rattle.sheet.proofs.Editions.{cost_most_within, due_short, barred_uncounted, counted_unbarred}
 

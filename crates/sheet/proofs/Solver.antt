@@ -1,6 +1,6 @@
 -- A sheet's night in the state: what is read, tested, filled and solved in the arrays is what is settled of the sheet. It rests on the solver's
 -- definition alone, none of whose tests can apply. Assumes nothing.
-use mathlib.Core.Path.{◌≡◌, refl, sym, ap, ap₂, ◌∙◌, subst}
+use mathlib.Core.Path.{◌≡◌, refl, sym, ap, ap₂, ◌∙◌}
 use mathlib.Core.Bool.{Bool, true, false, cond}
 use mathlib.Core.List.{List, ◌++◌}
 use Prim.Native.Nat.{ℕ, zero, suc, ◌+◌, ◌*◌, ◌-◌, ◌/◌, ◌%◌, ◌≤◌, ◌<◌}
@@ -9,11 +9,11 @@ use native.Mathlib.Decide.{dec_lt}
 use native.Mathlib.Omega.{arith}
 use lib.Dec.{ltb}
 use lib.IntN.{ℤ, pos}
-use lib.ListN.{length, take, drop, replicate, length-replicate, get_or-replicate, replicate-append-replicate, get_or-append, get_or-eq_default}
+use lib.ListN.{length, drop, replicate, length-replicate, get_or-replicate, replicate-append-replicate, get_or-append, get_or-eq_default}
 use lib.Seq.{take_at, drop_at, drop-drop, drop-append-add, get_or-drop, get_or-append-add, sets}
 use Rattle.ints.specs.Parts.{Within}
 use Rattle.ints.proofs.Ranges.{within_mono}
-use Rattle.lists.specs.Permutations.{at, table}
+use Rattle.lists.specs.Permutations.{at}
 use Rattle.lists.specs.Counts.{bit_of}
 use Rattle.lists.proofs.Tables.{table_cong}
 use Rattle.layout.specs.Trailers.{side_of, edition_of}
@@ -21,12 +21,11 @@ use Rattle.layout.specs.Sheets.{costs_at, bars_at}
 use Rattle.layout.proofs.Fields.{length_fields}
 use Rattle.layout.proofs.Stores.{sets_front}
 use Rattle.assignment.specs.Pairings.{signed_at}
-use Rattle.bars.specs.Barred.{bits_above, first_barred, filled_at, filled_costs}
-use Rattle.bars.specs.Masks.{shown_rows}
-use Rattle.bars.proofs.FilledCosts.{filled_costs_length, filled_costs_at, filled_costs_within, filled_costs_first}
+use Rattle.bars.specs.Barred.{bits_above, filled_at, filled_costs}
+use Rattle.bars.proofs.FilledCosts.{filled_costs_length, filled_costs_within}
 use Rattle.bars.proofs.Longer.{first_barred_same, shown_rows_same}
 use Rattle.matrix.specs.Limits.{sheet_side, K}
-use Rattle.matrix.specs.Verdicts.{Passes, ◌then◌, fails_at}
+use Rattle.matrix.specs.Verdicts.{Passes, ◌then◌}
 use Rattle.matrix.specs.Refusals.{BarsPastSide}
 use Rattle.matrix.specs.Tests.{costs_in}
 use Rattle.matrix.specs.declared.Verdict.{Verdict}
@@ -34,10 +33,7 @@ use Rattle.matrix.specs.declared.Verdict.TheVariants.{Passed, Fails}
 use Rattle.matrix.proofs.SmallLimits.{sheet_side_small, sheet_side_within}
 use Rattle.matrix.proofs.Verdicts.{then_iff, fails_at_cong}
 use Rattle.matrix.proofs.Passed.{costs_in_lem}
-use Rattle.rules.specs.Run.{Result}
 use Rattle.rules.specs.Right.{Right}
-use Rattle.lapjv.specs.Answers.{answer}
-use Rattle.lapjv.specs.Solve as lapjv
 use Rattle.lapjv.specs.Solve.{Outcome, solve}
 use Rattle.lapjv.specs.WithinLimits.{WithinLimits}
 use Rattle.lapjv.proofs.Tests.{passes_paired}

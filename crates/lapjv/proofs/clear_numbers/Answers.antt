@@ -1,11 +1,10 @@
 use mathlib.Core.Path.{ap, ◌∙◌}
 use mathlib.Core.List.{List}
-use Prim.Native.Nat.{◌-◌, ◌<◌}
+use Prim.Native.Nat.{◌<◌}
 use native.Mathlib.Omega.{arith}
 use borrow.Author.Rules.{rules}
 use lib.IntN.{ℤ, pos}
 use lib.ListN.{length, set}
-use Rattle.lists.specs.Permutations.{table}
 use Rattle.lists.proofs.Tables.{filled_none, filled_more, filled-length, filled_all, table_constant}
 use Rattle.lapjv.proofs.clear_numbers.Goals as goal
 use Rattle.lapjv.proofs.clear_numbers.Lts as Lts

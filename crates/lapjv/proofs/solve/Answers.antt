@@ -5,7 +5,7 @@ use native.Mathlib.Omega.{arith}
 use Rattle.matrix.proofs.SmallLimits.{side_small}
 use Rattle.lapjv.specs.declared.Sums.{Sums}
 use Rattle.lapjv.specs.declared.Solved.TheVariants.{Paired}
-use Rattle.lapjv.specs.Solve.{lent_of, outcome_of, tested}
+use Rattle.lapjv.specs.Solve.{lent_of, outcome_of}
 use Rattle.lapjv.specs.Values.{told_of}
 use Rattle.lapjv.specs.WithinLimits.{WithinLimits}
 use Rattle.lapjv.proofs.Tests.{tested_iff, fails_refused}

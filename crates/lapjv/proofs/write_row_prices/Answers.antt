@@ -1,6 +1,6 @@
 use mathlib.Core.Path.{◌≡◌, ap, ap₂, ◌∙◌}
 use mathlib.Core.List.{List}
-use Prim.Native.Nat.{ℕ, ◌+◌, ◌*◌, ◌-◌, ◌^◌, ◌<◌}
+use Prim.Native.Nat.{ℕ, ◌+◌, ◌*◌, ◌^◌, ◌<◌}
 use native.Mathlib.Omega.{arith}
 use borrow.Author.Rules.{rules}
 use lib.IntN.{ℤ, ◌-ℤ◌}
@@ -11,10 +11,9 @@ use mir.Val.{to_z, of_z}
 use Rattle.ints.proofs.Bits.{read_back}
 use Rattle.lists.specs.Permutations.{at, table}
 use Rattle.lists.proofs.Tables.{filled_none, filled_more, filled-length, filled_all}
-use Rattle.assignment.specs.Pairings.{signed_at, square}
+use Rattle.assignment.specs.Pairings.{signed_at}
 use Rattle.matrix.proofs.SmallLimits.{side_small}
 use Rattle.matrix.proofs.Places.{place-below}
-use Rattle.rules.specs.Lowest.{reduced}
 use Rattle.lapjv.proofs.write_row_prices.Invariants.{written, rowPrice}
 use Rattle.lapjv.proofs.write_row_prices.Goals as goal
 use Rattle.lapjv.proofs.write_row_prices.Lts as Lts
@@ -67,7 +66,7 @@ pub bounds-cols-i : goal.bounds-cols-i
 bounds-cols-i c = omega (arith, facts c.before.before)
 
 pub overflow_cast-j : goal.overflow_cast-j
-overflow_cast-j c = omega (arith, c.shared_slice_known-in-loop-i-1.given c.loop-i.i)
+overflow_cast-j c = omega (arith, c.type_inv.cols c.loop-i.i)
 
 pub overflow_add-at : goal.overflow_add-at
 overflow_add-at c = omega (arith, facts c.before.before, c.requires.squared)
@@ -87,7 +86,7 @@ bounds-v-j c = omega (arith, facts c.before.before.before)
 pub reduced_cost-requires : goal.reduced_cost-requires
 reduced_cost-requires c =
     let j = at c.args.cols.now c.loop-i.i in
-    rw (read_back w64 (signed_at c.args.v.now j) c.reduced_cost-arg-in-loop-i-1.given) (c.requires.prices_near_lem j (facts c.before.before.before.before).column)
+    rw (read_back w64 (signed_at c.args.v.now j) (omega arith)) (c.requires.prices_near_lem j (facts c.before.before.before.before).column)
 
 pub offset_bounds-row_prices-i : goal.offset_bounds-row_prices-i
 offset_bounds-row_prices-i c = omega (arith, facts c.before.before.before.before.before)
@@ -112,7 +111,7 @@ loop-i-preserved c =
       omega (arith, f),
       omega (arith, l.invariant.1),
       turn u.n u.costs.now u.cols.now u.v.now u.row_prices.now l.row_prices l.start l.i c.reduced_cost.result (omega (arith, f, c.requires.us_size)) l.invariant.1 l.invariant.2
-          c.reduced_cost-arg-1.given c.reduced_cost-arg-in-loop-i-1.given c.reduced_cost.ensures c.reduced_cost.type_inv,
+          (omega arith) (omega arith) c.reduced_cost.ensures c.reduced_cost.type_inv,
     )
 
 abbrev priceIn : Lts.After-loop Tie.the-claims Reads.Pre Reads.Post goal.the-invariant-loop-i goal.the-decreases-loop-i → ℕ → ℤ

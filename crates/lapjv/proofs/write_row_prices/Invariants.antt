@@ -1,7 +1,7 @@
 -- `write_row_prices` leaves the row prices: `start` is i * n, and the first i are written. Assumes nothing.
 use mathlib.Core.Path.{◌≡◌}
 use mathlib.Core.List.{List, ◌++◌}
-use Prim.Native.Nat.{ℕ, ◌+◌, ◌*◌, ◌-◌, ◌≤◌}
+use Prim.Native.Nat.{ℕ, ◌*◌, ◌-◌, ◌≤◌}
 use lib.IntN.{ℤ}
 use lib.ListN.{drop}
 use Rattle.lists.specs.Permutations.{at, table}

@@ -13,7 +13,7 @@ use Rattle.sheet.proofs.fill_arrays.Goals as goal
 
 pub fill-requires : goal.fill-requires
 fill-requires c =
-    (c.requires, omega (arith, mul-le-mul c.requires c.requires, c.all-1.given.0), omega (arith, c.requires, c.barred-1.given))
+    (c.requires, omega (arith, mul-le-mul c.requires c.requires), omega arith)
 
 pub returns : goal.returns
 returns c =

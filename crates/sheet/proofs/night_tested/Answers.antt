@@ -27,7 +27,7 @@ overflow_mul-count c = omega (arith, places c)
 
 pub slice_bounds-costs_in-end : goal.slice_bounds-costs_in-end
 slice_bounds-costs_in-end c =
-    omega (arith, places c.before.before.before, c.all-1.given)
+    omega (arith, places c.before.before.before)
 
 pub costs_in-inside-requires : goal.costs_in-inside-requires
 costs_in-inside-requires c =

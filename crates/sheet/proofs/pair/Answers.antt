@@ -1,12 +1,14 @@
 -- `pair` answers the refusal, or writes the slip of what is settled. Assumes nothing.
-use mathlib.Core.Path.{◌≡◌, sym, ap, ◌∙◌}
+use mathlib.Core.Path.{◌≡◌, ap, ◌∙◌}
 use mathlib.Core.List.{List, ◌++◌}
 use Prim.Native.Nat.{ℕ}
 use native.Mathlib.Omega.{arith}
 use lib.IntN.{ℤ}
 use lib.ListN.{length, take, drop}
-use mir.Syntax.{w64}
+use mir.Syntax.{w8, w64}
+use mir.Val.{Fits}
 use Rattle.ints.proofs.Bits.{read_back}
+use Rattle.lists.specs.Permutations.{at}
 use Rattle.layout.specs.Values.{bytes_of}
 use Rattle.layout.specs.Slips.{slip_of, slip_length}
 use Rattle.layout.proofs.Values.{length-bytes_of}
@@ -38,8 +40,8 @@ right : (c : Lts.After-settle Tie.the-claims Reads.Pre Reads.Post) → ReadRight
 right c = read_right (length c.args.slip.now) c.args.sheet.now
 
 -- its entries are bytes
-bytes : (c : Lts.After-settle Tie.the-claims Reads.Pre Reads.Post) → Bytes c.args.sheet.now
-bytes c k l = omega (arith, c.shared_slice_known-1.given k)
+bytes : (sheet : List ℕ) → ((k : ℕ) → Fits w8 (at sheet k)) → Bytes sheet
+bytes sheet fits k l = omega (arith, fits k)
 
 settled-as : (c : Lts.After-settle Tie.the-claims Reads.Pre Reads.Post) → c.settle-settled.result ≡ settled_as (reading c)
 unfolding settled
@@ -47,7 +49,7 @@ settled-as c = settled_values_determine _ _ c.settle-settled.ensures
 
 pub code-requires : goal.code-requires
 code-requires c =
-    (refused-outcome c.args.sheet.now c.args.slip.now c.settle-settled.result (bytes c.before.before) (reading c.before.before) (right c.before.before) (settled-as c.before.before) c.in-Refused.refusal c.in-Refused.is).0
+    (refused-outcome c.args.sheet.now c.args.slip.now c.settle-settled.result (bytes c.args.sheet.now c.type_inv.sheet) (reading c.before.before) (right c.before.before) (settled-as c.before.before) c.in-Refused.refusal c.in-Refused.is).0
 
 pub write_value-requires : goal.write_value-requires
 write_value-requires c =
@@ -63,7 +65,7 @@ unfolding pair
 returns-in-Refused c =
     let slip = c.args.slip.now in
     ap (λ (m : ℕ). record { number = m; slip = slip }) c.code.ensures
-    ∙ (refused-outcome c.args.sheet.now slip c.settle-settled.result (bytes c.before.before.before) (reading c.before.before.before) (right c.before.before.before) (settled-as c.before.before.before) c.in-Refused.refusal c.in-Refused.is).1
+    ∙ (refused-outcome c.args.sheet.now slip c.settle-settled.result (bytes c.args.sheet.now c.type_inv.sheet) (reading c.before.before.before) (right c.before.before.before) (settled-as c.before.before.before) c.in-Refused.refusal c.in-Refused.is).1
 
 pub returns-in-Blocked : goal.returns-in-Blocked
 unfolding pair

@@ -5,4 +5,4 @@ use Rattle.sheet.proofs.read_array.Goals as goal
 pub read_costs-requires : goal.read_costs-requires
 read_costs-requires c =
     let p = c.requires in
-    (omega (arith, p.near, p.long), omega (arith, p.few, c.all-1.given.0))
+    (omega (arith, p.near, p.long), omega (arith, p.few))

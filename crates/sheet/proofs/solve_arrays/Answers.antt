@@ -12,7 +12,7 @@ pub overflow_mul-count : goal.overflow_mul-count
 overflow_mul-count c = omega (arith, mul-le-mul c.requires c.requires)
 
 pub slice_bounds-solve-end : goal.slice_bounds-solve-end
-slice_bounds-solve-end c = omega (arith, mul-le-mul c.requires c.requires, c.all-1.given)
+slice_bounds-solve-end c = omega (arith, mul-le-mul c.requires c.requires)
 
 pub returns : goal.returns
 returns c =

@@ -1,11 +1,11 @@
 -- `solve_night` hands the state's arrays to the solver, puts them back, and answers what is settled by the answer. Assumes nothing.
 use mathlib.Core.Path.{◌≡◌, sym, ap, ◌∙◌}
+use native.Mathlib.Omega.{arith}
 use lib.IntN.{ℤ}
 use lib.ListN.{take}
 use mir.Syntax.{w64}
 use Prim.Native.Nat.{◌*◌}
 use Rattle.ints.proofs.Bits.{read_back}
-use Rattle.lists.specs.Permutations.{at}
 use Rattle.bars.specs.Barred.{first_barred}
 use Rattle.lapjv.specs.declared.Solved.{Solved}
 use Rattle.lapjv.specs.Solve.{Lent, lent_of, Outcome, outcome_of}
@@ -50,5 +50,5 @@ returns-in-Paired c =
     let u = c.args in
     let bar = first_barred u.n (state c.before.before.before).bars (state c.before.before.before).cols in
     c.unless_barred.ensures
-    ∙ ap (λ (t : ℤ). unless_barred u.n bar (record { reply = Accepted u.edition u.m u.n t; state = state c.before.before.before }) (state c.before.before.before)) (read_back w64 c.in-Paired.night.total c.struct_told-1.given.0.1)
+    ∙ ap (λ (t : ℤ). unless_barred u.n bar (record { reply = Accepted u.edition u.m u.n t; state = state c.before.before.before }) (state c.before.before.before)) (read_back w64 c.in-Paired.night.total (omega arith))
     ∙ ap (by c.before.before.before) (sym c.in-Paired.is) ∙ done c.before.before.before

@@ -21,16 +21,16 @@ fronts slip edition m n cols prices_of_rows prices_of_columns {total} e h k =
     (ap₂ (λ (a b : ℕ). slip_of edition a b (take m cols) (take m prices_of_rows) (take n prices_of_columns) total ++ drop (slip_length edition a b) slip) (length-take-le m cols h) (length-take-le n prices_of_columns k))
 
 pub slice_bounds-write_slip-end : goal.slice_bounds-write_slip-end
-slice_bounds-write_slip-end c = omega (arith, c.all_cols-1.given)
+slice_bounds-write_slip-end c = omega arith
 
 pub slice_bounds-write_slip-end-2 : goal.slice_bounds-write_slip-end-2
-slice_bounds-write_slip-end-2 c = omega (arith, c.all_row_prices-1.given)
+slice_bounds-write_slip-end-2 c = omega arith
 
 pub slice_bounds-write_slip-end-3 : goal.slice_bounds-write_slip-end-3
-slice_bounds-write_slip-end-3 c = omega (arith, c.all_col_prices-1.given)
+slice_bounds-write_slip-end-3 c = omega arith
 
 pub returns : goal.returns
 returns c =
     let u = c.args in
     c.write_slip.ensures
-    ∙ fronts u.slip.now u.edition u.m u.n u.cols.now u.row_prices.now u.col_prices.now (to_z-of_z c.ranges.total) (omega (arith, c.all_cols-1.given, c.requires.0, c.requires.1)) (omega (arith, c.all_col_prices-1.given, c.requires.1))
+    ∙ fronts u.slip.now u.edition u.m u.n u.cols.now u.row_prices.now u.col_prices.now (to_z-of_z c.ranges.total) (omega arith) (omega arith)

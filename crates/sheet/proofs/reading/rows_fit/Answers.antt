@@ -1,5 +1,5 @@
 -- `rows_fit_lem` hands a refusal on, and answers test 23 where none came. Assumes nothing.
-use mathlib.Core.Path.{sym, ap, ap₂, ◌∙◌}
+use mathlib.Core.Path.{sym, ap₂, ◌∙◌}
 use Prim.Native.Nat.{ℕ}
 use lib.Dec.{ltb}
 use Rattle.matrix.specs.Verdicts.{fails_if}

@@ -6,7 +6,7 @@ use lib.ListN.{length}
 use Rattle.layout.specs.Trailers.{distance_of}
 use Rattle.matrix.specs.Verdicts.{Passes, ◌then◌}
 use Rattle.matrix.proofs.Verdicts.{then_iff, after}
-use Rattle.sheet.specs.Reading.{trailed, rows_fit, pointed, note_fit, room_long, sheet_tests}
+use Rattle.sheet.specs.Reading.{trailed, rows_fit, pointed, note_fit, sheet_tests}
 use Rattle.sheet.proofs.Passing.{trailed_passed, rows_passed, pointed_passed}
 use Rattle.sheet.proofs.reading.tests.Goals as goal
 use Rattle.sheet.proofs.reading.tests.Lts as Lts

@@ -7,8 +7,7 @@ use borrow.Author.Tests.{lt-ltb, le-ltb}
 use lib.Dec.{ltb}
 use lib.ListN.{length}
 use Rattle.layout.specs.Values.{value_of}
-use Rattle.layout.specs.Trailers.{sheet_mark, side_of, edition_of, unmarked}
-use Rattle.matrix.specs.Limits.{sheet_side}
+use Rattle.layout.specs.Trailers.{sheet_mark, edition_of, unmarked}
 use Rattle.matrix.specs.Verdicts.{◌then◌, fails_by, fails_if}
 use Rattle.matrix.specs.Refusals.{SheetSideOver}
 use Rattle.sheet.specs.Reading.{sheet_most, unknown}
@@ -19,7 +18,6 @@ use Rattle.sheet.proofs.reading.trailed.Reads as Reads
 use Rattle.sheet.proofs.reading.trailed.Tie as Tie
 
 -- ---- what each test that was passed says
-
 
 not-over : (c : Lts.Else1 Tie.the-claims Reads.Pre Reads.Post) → ltb sheet_most (length c.args.sheet.now) ≡ false
 not-over c = le-ltb sheet_most (length c.args.sheet.now) (omega (arith, c.sheet_most.ensures))
