@@ -9,7 +9,6 @@ use native.Mathlib.Omega.{arith}
 use lib.IntN.{ℤ}
 use lib.ListN.{set, length-set}
 use lib.Seq.{get_or-set_same, get_or-set_other}
-use Rattle.lists.specs.Permutations.{at}
 use Rattle.lists.proofs.Runs.{first_le, first_before, first-at}
 use Rattle.lists.proofs.Parts.{part-set, part_set_before, part_set_after}
 use Rattle.assignment.specs.Pairings.{Night}

@@ -1,7 +1,5 @@
-use Prim.Native.Nat.{◌-◌}
 use native.Mathlib.Omega.{arith}
 use borrow.Author.Tests.{eq-eqb, ne_eqb}
-use lib.Dec.{eqb}
 use Rattle.matrix.proofs.First.{clear_start, clear_more, found, ended}
 use Rattle.checker.proofs.choices.first_with.Invariants.{test}
 use Rattle.checker.proofs.choices.first_with.Goals as goal

@@ -1,6 +1,5 @@
 use mathlib.Core.Path.{sym, ◌∙◌}
 use mathlib.Core.List.{[]}
-use Prim.Native.Nat.{◌-◌}
 use native.Mathlib.Omega.{arith}
 use Rattle.bars.specs.Barred.{night_of}
 use Rattle.matrix.proofs.First.{clear_start, clear_more, found, ended}
