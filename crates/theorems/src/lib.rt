@@ -1,3 +1,2 @@
 // What holds of the solver, the checker and the slips together, for an auditor: see proofs/.
 #![tactic(auto)]
-
