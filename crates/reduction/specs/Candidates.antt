@@ -1,5 +1,5 @@
 -- What is kept of a row: three of its columns, and a limit that no other column is below. Columns stand in the order by value, then place.
-use Rattle.std.specs.Prelude.{◌≡◌, Bool, true, false, cond, ◌≢◌, List, ℕ, ◌+◌, ◌*◌, ◌≤◌, ◌<◌, ℤ, pos, length, ◌≤ℤ◌, ltb}
+use Rattle.std.specs.Prelude.{◌≡◌, Bool, true, false, cond, ◌≢◌, List, ℕ, ◌+◌, ◌*◌, ◌<◌, ℤ, pos, length, ◌≤ℤ◌, ltb}
 use Rattle.std.specs.Int.Signed.{lt_z}
 use Rattle.lists.specs.Permutations.{at}
 use Rattle.assignment.specs.Pairings.{signed_at}
