@@ -1,11 +1,11 @@
 -- What a slip says, tested: what passes is a least pairing, shown by its prices. For any m rows and n columns, and any bars. Assumes nothing.
-use mathlib.Core.Path.{◌≡◌, refl, sym, ap, ◌∙◌}
+use mathlib.Core.Path.{◌≡◌, sym, ap, ◌∙◌}
 use mathlib.Core.Logic.{◌↔◌}
 use mathlib.Core.List.{List, ◌++◌, append-nil}
 use Prim.Native.Nat.{ℕ, ◌*◌, ◌-◌, ◌≤◌, ◌<◌}
 use native.Mathlib.Omega.{arith}
 use lib.IntN.{ℤ}
-use lib.ListN.{length, take, drop, replicate, drop_of_length-le, length-replicate, get_or-replicate}
+use lib.ListN.{length, take, replicate, drop_of_length-le, length-replicate, get_or-replicate}
 use lib.Seq.{sets, ext_get_or, get_or-take, length-take-le}
 use Rattle.lists.specs.Permutations.{at}
 use Rattle.layout.specs.Values.{value_of, signed_value}

@@ -1,5 +1,4 @@
 -- Refusals as one number: the numbers of an audit are below 256, and its places far below 2^48. Assumes nothing.
-use mathlib.Core.Path.{◌≡◌, refl}
 use mathlib.Core.List.{List}
 use Prim.Native.Nat.{ℕ, ◌≤◌}
 use native.Mathlib.Omega.{arith}
@@ -13,7 +12,7 @@ use Rattle.matrix.proofs.SmallLimits.{sheet_side_small, sheet_side_within}
 use Rattle.matrix.proofs.Verdicts.{Small, then_small, fails_if_small, fails_at_small}
 use Rattle.checker.proofs.Codes.{prices_small}
 use Rattle.sheet.specs.Reading.{Laid, Read, refused, night, read}
-use Rattle.sheet.proofs.Pairing.{Bytes, Readable, ReadRight, read_right}
+use Rattle.sheet.proofs.Pairing.{Bytes, ReadRight, read_right}
 use Rattle.audit.specs.Asked.{TellableAudited}
 use Rattle.audit.specs.Audit.{proof_tests, audit_tests, audited_by, audited_as, audit}
 

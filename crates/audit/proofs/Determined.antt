@@ -1,9 +1,6 @@
 -- The values of what the auditor is told determine it. Assumes nothing.
 use mathlib.Core.Path.{◌≡◌, sym, ap, ap₂}
 use mathlib.Core.Bool.{true≢false}
-use Prim.Native.Nat.{ℕ}
-use lib.IntN.{ℤ}
-use Rattle.matrix.specs.Refusals.{number_of, place_of, slack_of}
 use Rattle.matrix.proofs.Determined.{refusal_determined}
 use Rattle.audit.specs.Values.{AuditedValues, audited_values}
 use Rattle.audit.specs.declared.Audited.{Audited}

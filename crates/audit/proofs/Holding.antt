@@ -2,7 +2,7 @@
 use mathlib.Core.Path.{◌≡◌, refl, sym, ap, ◌∙◌}
 use mathlib.Core.Bool.{Bool, true, false, true≢false, cond, not, ◌&&◌, ◌||◌}
 use mathlib.Core.List.{List, [], ◌++◌, append_assoc}
-use Prim.Native.Nat.{ℕ, ◌+◌, ◌*◌, ◌^◌, ◌≤◌, ◌<◌}
+use Prim.Native.Nat.{ℕ, ◌^◌, ◌≤◌, ◌<◌}
 use native.Mathlib.Omega.{arith}
 use lib.Dec.{eqb}
 use lib.IntN.{ℤ}
@@ -16,12 +16,12 @@ use Rattle.layout.proofs.Trailers.{length-trailer, row_count_read, distance_read
 use Rattle.assignment.specs.Pairings.{total}
 use Rattle.bars.specs.Barred.{night_of}
 use Rattle.matrix.specs.Limits.{sheet_side}
-use Rattle.matrix.specs.Verdicts.{Passes, ◌then◌}
+use Rattle.matrix.specs.Verdicts.{Passes}
 use Rattle.matrix.specs.declared.Verdict.{Verdict}
 use Rattle.matrix.specs.declared.Verdict.TheVariants.{Passed, Fails}
 use Rattle.matrix.proofs.Verdicts.{then_iff, fails_if_iff}
 use Rattle.checker.proofs.Places.{differ_same}
-use Rattle.sheet.specs.Reading.{Laid, laid_of, rows_of, unknown, sheet_tests, night_tests, night_if, night_tested, Read, refused, night, read_if, read}
+use Rattle.sheet.specs.Reading.{Laid, laid_of, rows_of, unknown, sheet_tests, night_tests, night_if, night_tested, refused, night, read_if, read}
 use Rattle.sheet.proofs.Editions.{count-short}
 use Rattle.sheet.proofs.Passing.{rows_passed}
 use Rattle.audit.specs.Audit.{unlike, slip_tests, audit_tests, audited_by, audited_as, audit}

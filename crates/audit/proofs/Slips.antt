@@ -4,7 +4,7 @@ use mathlib.Core.Bool.{Bool, true, false, ◌||◌}
 use mathlib.Core.List.{List}
 use Prim.Native.Nat.{ℕ, ◌≤◌}
 use lib.IntN.{ℤ}
-use Rattle.assignment.specs.Pairings.{Night, total}
+use Rattle.assignment.specs.Pairings.{total}
 use Rattle.bars.specs.Barred.{night_of}
 use Rattle.layout.specs.Slips.{slip_total}
 use Rattle.matrix.specs.declared.Refusal.{Refusal}

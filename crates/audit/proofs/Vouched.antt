@@ -9,7 +9,7 @@ use Rattle.layout.specs.Slips.{slip_length, slip_columns, slip_total}
 use Rattle.assignment.specs.Pairings.{Night, Least, total}
 use Rattle.bars.specs.Barred.{night_of}
 use Rattle.matrix.specs.Limits.{sheet_side}
-use Rattle.matrix.specs.Verdicts.{Passes, ◌then◌}
+use Rattle.matrix.specs.Verdicts.{Passes}
 use Rattle.matrix.specs.declared.Refusal.{Refusal}
 use Rattle.matrix.specs.declared.Verdict.{Verdict}
 use Rattle.matrix.specs.declared.Verdict.TheVariants.{Passed, Fails}

@@ -6,7 +6,7 @@ use Prim.Native.Nat.{ℕ, ◌≤◌}
 use native.Mathlib.Omega.{arith}
 use lib.IntN.{ℤ}
 use lib.ListN.{length, take}
-use Rattle.layout.specs.Slips.{slip_length, slip_columns, slip_row_prices, slip_column_prices}
+use Rattle.layout.specs.Slips.{slip_length}
 use Rattle.assignment.specs.Pairings.{Night}
 use Rattle.matrix.specs.Limits.{K}
 use Rattle.matrix.specs.Verdicts.{Passes}

@@ -1,7 +1,7 @@
 -- From references to pairs. Where a sheet of scores is written, its bytes are read back as exactly these scores, and the sheet entry never refuses
 -- them where the slip has room. Assumes nothing.
 use mathlib.Core.Path.{◌≡◌, refl, ap, ◌∙◌}
-use mathlib.Core.Bool.{Bool, false, cond}
+use mathlib.Core.Bool.{Bool, cond}
 use mathlib.Core.List.{List, []}
 use Prim.Native.Nat.{ℕ, ◌*◌, ◌/◌, ◌%◌, ◌≤◌}
 use lib.Pow.{pow_pos}
@@ -10,7 +10,6 @@ use borrow.Author.Tests.{le-ltb}
 use lib.IntN.{pos}
 use lib.ListN.{length, take, replicate, length-replicate, get_or-replicate}
 use Rattle.ints.proofs.Ranges.{within_mono}
-use Rattle.lists.specs.Permutations.{at}
 use Rattle.lists.proofs.Tables.{length-table, get_d_table}
 use Rattle.bars.proofs.Barred.{no_pair_barred}
 use Rattle.layout.specs.Slips.{slip_length}

@@ -6,7 +6,7 @@ use native.Mathlib.Omega.{arith}
 use lib.IntN.{pos}
 use lib.ListN.{replicate, length-replicate}
 use Rattle.layout.specs.Slips.{slip_length}
-use Rattle.layout.specs.Trailers.{edition_of, side_of}
+use Rattle.layout.specs.Trailers.{edition_of}
 use Rattle.matrix.specs.Limits.{sheet_side}
 use Rattle.matrix.proofs.SmallLimits.{sheet_side_small}
 use Rattle.sheet.specs.Reading.{Laid, rows_of, sheet_tests, laid_at, distance_due, night_tested}

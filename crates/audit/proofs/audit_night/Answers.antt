@@ -3,7 +3,7 @@ use mathlib.Core.Path.{◌≡◌, ap, ap₂, ◌∙◌}
 use mathlib.Core.List.{List}
 use Prim.Native.Nat.{ℕ, ◌*◌, ◌-◌}
 use lib.IntN.{ℤ}
-use lib.ListN.{length, replicate, length-replicate}
+use lib.ListN.{length, length-replicate}
 use Rattle.layout.specs.Values.{signed_value}
 use Rattle.layout.specs.Fields.{fields}
 use Rattle.layout.specs.Sheets.{costs_at}

@@ -8,7 +8,7 @@ use Rattle.matrix.specs.Tests.{costs_in}
 use Rattle.matrix.specs.Verdicts.{Passes, ◌then◌, fails_if}
 use Rattle.matrix.proofs.SmallLimits.{K_small, sheet_side_small}
 use Rattle.matrix.proofs.Verdicts.{then_iff, after, fails_if_iff}
-use Rattle.sheet.specs.Reading.{Laid, cost_most, night_tests}
+use Rattle.sheet.specs.Reading.{Laid, night_tests}
 use Rattle.sheet.proofs.Editions.{cost_most_within}
 use Rattle.audit.specs.Audit.{SlipWrong, unlike}
 use Rattle.audit.proofs.Nights.{like_long, tests_fail, tests_pass}
