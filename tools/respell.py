@@ -5,7 +5,8 @@ usage: python3 tools/respell.py [--dry]      at the top, once, after port.py
 
 A name counts as the repository's own where a file of specs/ or a law file of proofs/ declares it. It is respelled in every .antt file, in the clauses and
 `ghost use` lines of every .rt file, and in the must-fail edits; a name that a file imports from the library stays there. What the source of Rust code
-names, strings and types stay. Where two names of one file would fall together it says so and writes nothing.
+names, strings and types stay. It prints each file in which two names fall together, to be read: a function of the source that bears its definition's name,
+or a field beside a field of another type, is no harm.
 """
 import collections
 import glob
