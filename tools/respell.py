@@ -104,8 +104,6 @@ def main(dry):
                     f.write(new)
     print("\n".join(clashes))
     print(f"respell: {len(renamed)} names, {changed} files, {len(clashes)} names that would fall together")
-    with open("/tmp/respelled.txt", "w") as f:
-        f.write("\n".join(f"{a} {b}" for a, b in sorted(renamed.items())) + "\n")
 
 
 main("--dry" in sys.argv)
