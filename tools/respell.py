@@ -1,5 +1,6 @@
 #!/usr/bin/env python3
-"""Gives the repository's own definitions, fields and lemmas today's spelling: words in snake case, a dash only between two names of definitions.
+"""Gives the repository's own definitions, fields and lemmas today's spelling: words in snake case, a dash only between two names of definitions, none in
+a field.
 
 usage: python3 tools/respell.py [--dry]      at the top, once, after port.py
 
@@ -15,12 +16,14 @@ import sys
 
 WORD = r"[A-Za-z][A-Za-z0-9_'₀₁₂₃₄]*(?:-[A-Za-z0-9_'₀₁₂₃₄]+)*"
 TOKEN = re.compile(r"(?<![\w'₀₁₂₃₄◌≤≡∙ℤℕ+*-])" + WORD + r"(?![\w'₀₁₂₃₄◌≤≡∙ℤℕ+*-])")
+RECORD = re.compile(r"^([ \t]*)(?:pub )?record [^\n]* where\n(?:\1[ \t]+[^\n]*\n)*", re.M)
 DECLARED = re.compile(r"^[ \t]*(?:abbrev |unfoldable |pub )*(" + WORD + r") +:(?!:)", re.M)
 LIBRARY = {"length", "append", "take", "drop", "get_or", "set", "map", "replicate", "reverse", "bit_and", "bit_or", "nat_abs"}
 # Names that a rule would spell badly, or that would fall together with another name of a file.
 BY_HAND = {
     "bit-or": "bit_of-bit_or",
     "left-one": "left_one",
+    "row-Below": "row_below",
     "with-list": "with_list_lem",
     "rowOf": "costs_of_row",
     "rowPrices": "prices_of_rows",
@@ -45,12 +48,27 @@ def snake(word):
     return word if word[:1].isupper() and "_" not in word else word[:1] + word[1:].lower() if word[:1].isupper() else word.lower()
 
 
+def field_at(text, m, name, aliases, records):
+    """Whether the word at m is a field: behind a dot that follows no module's name, set in braces, or in the record that has it."""
+    if text[m.start() - 1 : m.start()] == ".":
+        before = re.search(r"[\w'₀₁₂₃₄]+$", text[: m.start() - 1])
+        return not (before and before.group(0) in aliases)
+    if re.match(r"\s*=(?!=)", text[m.end() :]):
+        head = text[: m.start()]
+        if head.count("{") > head.count("}"):
+            return True
+    return any(a <= m.start() < b and name in fields for a, b, fields in records)
+
+
 def main(dry):
     laws = [p for p in files("specs/**/*.antt", "proofs/*.antt")]
     own = collections.defaultdict(set)
     defined = set()
+    fields = set()
     definitions = set(LIBRARY)
     for p in laws:
+        for m in RECORD.finditer(read(p)):
+            fields |= set(DECLARED.findall(m.group(0)))
         for m in DECLARED.finditer(read(p)):
             name = m.group(1)
             own[name].add(p)
@@ -60,6 +78,7 @@ def main(dry):
             if name[0].islower() and "-" not in name and snake(name) != name:
                 defined.add(BY_HAND.get(name, snake(name)))
     renamed = {}
+    as_field = {}
     for name in [*own, *BY_HAND]:
         if name[0].isupper() and "-" not in name:
             continue
@@ -67,10 +86,13 @@ def main(dry):
         spelled = [snake(w) if w[:1].islower() else w for w in parts]
         new = spelled[0]
         for left, right in zip(spelled, spelled[1:]):
-            joined = len(spelled) == 2 and (left in definitions or left[:1].isupper()) and right in definitions
+            joined = len(spelled) == 2 and name not in fields and (left in definitions or left[:1].isupper()) and right in definitions
             new += ("-" if joined else "_") + right
-        # A lemma that would have its definition's name.
-        new += "_lem" if "-" in name and new in defined else ""
+        # A lemma that would have its definition's name; a field may.
+        if "-" in name and new in defined:
+            if name in fields:
+                as_field[name] = new
+            new += "_lem"
         new = BY_HAND.get(name, new)
         if new != name:
             renamed[name] = new
@@ -88,8 +110,13 @@ def main(dry):
             to[renamed[t] if t in renamed and t not in kept else t].add(t)
         clashes += [f"{p}: {new}: {sorted(olds)}" for new, olds in to.items() if len(olds) > 1]
 
+        aliases = set(re.findall(r"^use \S+ as (\w+)", text, re.M))
+        records = [(m.start(), m.end(), set(DECLARED.findall(m.group(0)))) for m in RECORD.finditer(text)]
+
         def one(m):
             t = m.group(0)
+            if t in as_field and field_at(m.string, m, t, aliases, records):
+                return as_field[t]
             return renamed[t] if t in renamed and t not in kept else t
 
         new = text

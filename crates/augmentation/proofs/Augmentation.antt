@@ -72,12 +72,12 @@ module _ {n : ℕ} {costs : List ℤ} {count : ℕ} {cols₀ rows₀ : List ℕ}
         record {
           small = A.can.small;
           costs_size = A.can.costs_size;
-          costs-near = A.can.costs-near;
+          costs_near = A.can.costs_near;
           distances_size = A.distances_size;
           room_size = A.room_size;
           turn = record {
             can = record { agree = C.agree; prices_size = C.prices_size; fair = C.fair; start_below = C.start_below; start_unpaired = C.start_unpaired };
-            prices_near_lem = turn.prices_near_lem;
+            prices_near = turn.prices_near;
           };
         }
 

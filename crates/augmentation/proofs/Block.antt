@@ -31,7 +31,7 @@ pub record Blocked (n lo : ℕ) (d : List ℤ) (list₀ list : List ℕ) (hi : �
   pub past : lo < k
   pub within : k ≤ n
   pub listed : Permutation n list
-  pub block-end : (lo < hi) × (hi ≤ k)
+  pub block_end : (lo < hi) × (hi ≤ k)
   pub same : block_of hi minimum list ≡ upward (lo + 1) k (block_step d lo) (block_start d lo list₀)
 
 pub first_block : (n lo : ℕ) (d : List ℤ) (list : List ℕ) (minimum : ℤ) → Permutation n list → lo < n → minimum ≡ signed_at d (at list lo)
@@ -40,7 +40,7 @@ first_block n lo d list minimum p l e = record {
   past = omega arith;
   within = omega arith;
   listed = p;
-  block-end = omega arith;
+  block_end = omega arith;
   same = ap (λ (x : ℤ). block_of (lo + 1) x list) e ∙ sym (upward_none (lo + 1) (lo + 1) (block_step d lo) (block_start d lo list) (omega arith));
 }
 
@@ -56,7 +56,7 @@ module _ {n lo : ℕ} {d : List ℤ} {list₀ list : List ℕ} {hi : ℕ} {minim
     past = omega (arith, B.past, N.on);
     within = N.most;
     listed = B.listed;
-    block-end = omega (arith, B.block-end, N.on);
+    block_end = omega (arith, B.block_end, N.on);
     same =
         upward_stays (lo + 1) k r (block_step d lo) (block_start d lo list₀) (block_of hi minimum list) (omega (arith, B.past)) N.on B.same
         (λ m l h. rw (N.passed m h l));
@@ -77,7 +77,7 @@ module _ {n lo : ℕ} {d : List ℤ} {list₀ list : List ℕ} {hi : ℕ} {minim
       past = omega (arith, B.past);
       within = omega arith;
       listed = exchange_permutation B.listed k lo l (omega (arith, B.past));
-      block-end = omega (arith, B.past);
+      block_end = omega (arith, B.past);
       same = rw (f, e) at turn;
     }
 
@@ -88,8 +88,8 @@ module _ {n lo : ℕ} {d : List ℤ} {list₀ list : List ℕ} {hi : ℕ} {minim
         record {
           past = omega (arith, B.past);
           within = omega arith;
-          listed = exchange_permutation B.listed k hi l (omega (arith, B.block-end));
-          block-end = omega (arith, B.block-end);
+          listed = exchange_permutation B.listed k hi l (omega (arith, B.block_end));
+          block_end = omega (arith, B.block_end);
           same = ap (λ (x : ℤ). block_of (hi + 1) x (exchange list k hi)) (sym z) ∙ (rw (f, e) at turn);
         }
 

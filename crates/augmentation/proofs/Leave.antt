@@ -41,13 +41,13 @@ module _ (n : ℕ) (costs : List ℤ) (rows : List ℕ) (start : ℕ) (v : List 
       found_is =
           left_same f (search n cost (signed_at v) (at rows) start)
           (sym L.same ∙ ap (blocks n) T.same
-          ∙ search_left n cost (signed_at v) (at rows) start floor C.fair C.has-free.column C.has-free.below C.has-free.free
+          ∙ search_left n cost (signed_at v) (at rows) start floor C.fair C.has_free.column C.has_free.below C.has_free.free
           (floor_under n cost (signed_at v) start (one n costs rows start v C)))
 
       good : Good n cost (signed_at v) (at rows) start floor f
       good =
           subst (Good n cost (signed_at v) (at rows) start floor) (sym found_is)
-          (search_good n cost (signed_at v) (at rows) start floor C.fair C.has-free.column C.has-free.below C.has-free.free
+          (search_good n cost (signed_at v) (at rows) start floor C.fair C.has_free.column C.has_free.below C.has_free.free
           (floor_under n cost (signed_at v) start (one n costs rows start v C)))
 
       S : Sound n cost (signed_at v) (at rows) start floor f.work
@@ -71,7 +71,7 @@ module _ (n : ℕ) (costs : List ℤ) (rows : List ℕ) (start : ℕ) (v : List 
         listed = subst (Permutation n) (sym lent_list_is) S.permutation;
         distances_size = S.distances_size;
         distances_near = distances_near n costs rows start v C f.work S;
-        prices_near_lem = C.prices_near_lem;
+        prices_near = C.prices_near;
       })
 
       pub searched : (v' : List ℤ) → v' ≡ new_prices (ready_at lo (take (n + n - n) (drop n room)) d) v

@@ -118,7 +118,7 @@ module _ (n : ℕ) (costs : List ℤ) (rows : List ℕ) (start : ℕ) (v : List 
     pub distances_near : (w : Work) → Sound n cost (signed_at v) (at rows) start floor w → (j : ℕ) → Within (2 * near) (signed_at w.distances j)
     distances_near w S =
         within_everywhere (2 * near) w.distances
-        (λ j l. distances_within n cost (signed_at v) start one (at rows) near near (λ i k. C.costs-near (i * n + k)) C.prices_near_lem w S j (omega (arith, S.distances_size)))
+        (λ j l. distances_within n cost (signed_at v) start one (at rows) near near (λ i k. C.costs_near (i * n + k)) C.prices_near w S j (omega (arith, S.distances_size)))
 
 -- The same, at equal values.
 pub leaving_at : {n : ℕ} {costs : List ℤ} {rows : List ℕ} {start : ℕ} {v d₀ : List ℤ} {room₀ : List ℕ} {d : List ℤ} {room : List ℕ} {lo scanned column : ℕ}

@@ -69,10 +69,10 @@ module _ {n : ℕ} {costs : List ℤ} {s : ℕ} {cols rows : List ℕ} {v d : Li
         costs_size = R.costs_size;
         prices_size = C.prices_size;
         rows_size = C.agree.rows_size;
-        costs-near = R.costs-near;
-        prices_near_lem = R.turn.prices_near_lem;
+        costs_near = R.costs_near;
+        prices_near = R.turn.prices_near;
         fair = C.fair;
-        has-free = record { column = y.0; below = y.1; free = y.2 };
+        has_free = record { column = y.0; below = y.1; free = y.2 };
       }
 
   -- ---- by a search

@@ -110,7 +110,7 @@ module _ {n lo : ℕ} {list : List ℕ} {d v₀ : List ℤ} {minimum : ℤ} {v :
     x_within =
         subst (λ (s : List ℤ). Within (2 ^ 60) (signed_at s j)) (sym C.so_far)
         (prices_wide k (signed_at (prices list d minimum v₀ k) j) (omega (arith, C.can.ready_below, C.can.small, side_small))
-        (prices_within_lem list d minimum v₀ C.can.prices_near_lem C.can.distances_near C.minimum_within k j))
+        (prices_within_lem list d minimum v₀ C.can.prices_near C.can.distances_near C.minimum_within k j))
 
     x_fits : SFits w64 x
     x_fits = omega (zlin, x_within)

@@ -104,12 +104,12 @@ module _ (n : ℕ) (costs : List ℤ) (rows : List ℕ) (start : ℕ) (v : List 
           distances_size = S.distances_size;
           room_size = scan_room_long;
           listed = subst (Permutation n) (sym list_is) S.permutation;
-          prices_near_lem = C.prices_near_lem;
+          prices_near = C.prices_near;
         };
         costs_size = C.costs_size;
         place = (lo_in.1, hi_below);
         taken = subst (λ (l : List ℕ). at rows (at l lo) < n) (sym list_is) (M.counted.scanning.paired lo lo_in.0);
-        minimum-near = distances_near n costs rows start v C w S (at (list_in n room) lo);
+        minimum_near = distances_near n costs rows start v C w S (at (list_in n room) lo);
       }
 
       -- The column at lo is scanned, and then the rest.

@@ -75,7 +75,7 @@ module _ (n : ℕ) (costs : List ℤ) (rows : List ℕ) (start : ℕ) (v : List 
       sizes = B.head.sound.permutation.size
 
       pub lo_below : lo < n
-      lo_below = head_open n cost (signed_at v) (at rows) start floor C.fair C.has-free.column C.has-free.below C.has-free.free w B.head
+      lo_below = head_open n cost (signed_at v) (at rows) start floor C.fair C.has_free.column C.has_free.below C.has_free.free w B.head
 
       pub room_long_lem : length room ≡ n + n + n + n
       room_long_lem = ap length B.room_is ∙ room_length n room₀ B.room_size B.list B.predecessors sizes B.head.sound.predecessors_size
@@ -204,7 +204,7 @@ module _ (n : ℕ) (costs : List ℤ) (rows : List ℕ) (start : ℕ) (v : List 
           next_between {d''} {room''} {lo''} {hi''} {m''} M e =
               let x : Work = work_of hi'' M.list d'' M.predecessors m'' in
               let t : search_block n cost (signed_at v) (at rows) w ≡ on x = scan_to (on x) (scan_over n costs rows start v C M e) in
-              let H = either_on (rw t at (search_block_grows_or_ends n cost (signed_at v) (at rows) start floor C.fair C.has-free.column C.has-free.below C.has-free.free w B.head)) in (
+              let H = either_on (rw t at (search_block_grows_or_ends n cost (signed_at v) (at rows) start floor C.fair C.has_free.column C.has_free.below C.has_free.free w B.head)) in (
                 record {
                   room_size = B.room_size;
                   list = M.list;

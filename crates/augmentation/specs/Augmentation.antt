@@ -40,13 +40,13 @@ state_of cols rows v scanned = record { pairs = pairs_of cols rows; prices = v; 
 -- Row s can get a column from state x (`Can`: the pairs agree, prices are fair, and the row has no column), and prices are near.
 pub record CanTurn (n : ℕ) (costs : List ℤ) (x : Progress) (s : ℕ) : Type 0 where
   pub can : Can n (square n costs).cost x s
-  pub prices_near_lem : (k : ℕ) → Within near (signed_at x.prices k)
+  pub prices_near : (k : ℕ) → Within near (signed_at x.prices k)
 
 -- The same of row s, with all that is lent for it.
 pub record CanAugmentRow (n : ℕ) (costs : List ℤ) (s : ℕ) (cols rows : List ℕ) (v d : List ℤ) (room : List ℕ) : Type 0 where
   pub small : n ≤ side
   pub costs_size : length costs ≡ n * n
-  pub costs-near : (k : ℕ) → Within near (signed_at costs k)
+  pub costs_near : (k : ℕ) → Within near (signed_at costs k)
   pub distances_size : length d ≡ n
   pub room_size : length room ≡ n + n + n + n
   pub turn : CanTurn n costs (state_of cols rows v 0) s
@@ -65,7 +65,7 @@ pub record CanAugment (n : ℕ) (costs : List ℤ) (count : ℕ) (cols rows : Li
   pub small : n ≤ side
   pub few : count ≤ n
   pub costs_size : length costs ≡ n * n
-  pub costs-near : (k : ℕ) → Within near (signed_at costs k)
+  pub costs_near : (k : ℕ) → Within near (signed_at costs k)
   pub cols_size : length cols ≡ n
   pub rows_size : length rows ≡ n
   pub prices_size : length v ≡ n

@@ -16,7 +16,7 @@ reduced_of n costs v i = reduced_in (take n (drop (i * n) costs)) v
 -- A row with a price for each of its columns; prices are near.
 pub record Priced (row v : List ℤ) : Type 0 where
   pub prices_size : length v ≡ length row
-  pub prices_near_lem : (j : ℕ) → Within near (signed_at v j)
+  pub prices_near : (j : ℕ) → Within near (signed_at v j)
 
 -- A row of n columns, with a price and a row for each of them.
 pub record CanLook (n : ℕ) (row v : List ℤ) (rows : List ℕ) : Type 0 where

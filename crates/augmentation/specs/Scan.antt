@@ -57,7 +57,7 @@ pub record ScanRoom (n : ℕ) (v : List ℤ) (rows : List ℕ) (d : List ℤ) (r
   pub distances_size : length d ≡ n
   pub room_size : length room ≡ n + n + n + n
   pub listed : Permutation n (list_in n room)
-  pub prices_near_lem : (j : ℕ) → Within near (signed_at v j)
+  pub prices_near : (j : ℕ) → Within near (signed_at v j)
 
 -- Row i, whose costs are given, sees the columns from place hi on; `scanned` columns were scanned. The costs of other rows do not
 -- count.

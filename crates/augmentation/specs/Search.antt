@@ -18,7 +18,7 @@ pub record CanStart (n : ℕ) (costs : List ℤ) (start : ℕ) (v d : List ℤ) 
   pub prices_size : length v ≡ n
   pub distances_size : length d ≡ n
   pub room_size : length room ≡ n + n + n + n
-  pub prices_near_lem : (j : ℕ) → Within near (signed_at v j)
+  pub prices_near : (j : ℕ) → Within near (signed_at v j)
 
 -- A search has started: the columns in their order, each as far as the start row makes it. No column's row is asked.
 pub record Started (n : ℕ) (costs : List ℤ) (start : ℕ) (v : List ℤ) (room₀ : List ℕ) (d : List ℤ) (room : List ℕ) : Type 0 where
@@ -31,7 +31,7 @@ pub record CanScan (n : ℕ) (costs : List ℤ) (rows : List ℕ) (lo hi : ℕ) 
   pub costs_size : length costs ≡ n * n
   pub place : (lo < n) × (hi ≤ n)
   pub taken : at rows (at (list_in n room) lo) < n
-  pub minimum-near : Within (2 * near) (signed_at d (at (list_in n room) lo))
+  pub minimum_near : Within (2 * near) (signed_at d (at (list_in n room) lo))
 
 -- What was found, as far as the prices ask: the first lo columns of the list are ready, and the last block starts at lo.
 abbrev pub ready_at : ℕ → List ℕ → List ℤ → Found
@@ -44,7 +44,7 @@ pub record CanChange (n lo : ℕ) (list : List ℕ) (d v : List ℤ) : Type 0 wh
   pub listed : Permutation n list
   pub distances_size : length d ≡ n
   pub distances_near : (j : ℕ) → Within (2 * near) (signed_at d j)
-  pub prices_near_lem : (j : ℕ) → Within near (signed_at v j)
+  pub prices_near : (j : ℕ) → Within near (signed_at v j)
 
 -- Some column is free.
 pub record HasFree (n : ℕ) (rows : List ℕ) : Type 0 where
@@ -59,10 +59,10 @@ pub record CanSearch (n : ℕ) (costs : List ℤ) (rows : List ℕ) (start : ℕ
   pub costs_size : length costs ≡ n * n
   pub prices_size : length v ≡ n
   pub rows_size : length rows ≡ n
-  pub costs-near : (k : ℕ) → Within near (signed_at costs k)
-  pub prices_near_lem : (j : ℕ) → Within near (signed_at v j)
+  pub costs_near : (k : ℕ) → Within near (signed_at costs k)
+  pub prices_near : (j : ℕ) → Within near (signed_at v j)
   pub fair : Fair n (square n costs).cost (signed_at v) (at rows)
-  pub has-free : HasFree n rows
+  pub has_free : HasFree n rows
 
 -- What a search finds.
 abbrev pub found_from : ℕ → List ℤ → List ℕ → ℕ → List ℤ → Found

@@ -20,4 +20,4 @@ answer_owes n costs small within = run_right n costs K (within_everywhere K cost
 
 -- "A pass over F rows makes F to F*n looks; each search scans at most n-1 columns."
 pub solved_owes : (n : ℕ) (costs : List ℤ) (lent : Lent) → WithinLimits n costs lent → Right n costs K (answer n costs)
-solved_owes n costs lent p = answer_owes n costs p.small p.costs_within_lem
+solved_owes n costs lent p = answer_owes n costs p.small p.costs_within

@@ -39,7 +39,7 @@ module _ (n : ℕ) (costs : List ℤ) (p : Pairable n costs) (cols rows : List �
   can_turn : (m : ℕ) → m < s.count → CanTurn n costs (augments n c s.frees m (state_of s.pairs.cols s.pairs.rows s.prices 0)) (at s.frees m)
   can_turn m l =
       let q = search_ready n c p.some K (costs_within_lem n costs p) s (two_good n costs p) m l in
-      record { can = q.can; prices_near_lem = λ k. near_five (q.prices_within_lem k) }
+      record { can = q.can; prices_near = λ k. near_five (q.prices_within k) }
 
   pub can_augment : (d : List ℤ) → length d ≡ n → CanAugment n costs r.rows_left cols rows v d room
   can_augment d e =
@@ -48,7 +48,7 @@ module _ (n : ℕ) (costs : List ℤ) (p : Pairable n costs) (cols rows : List �
         small = p.small;
         few = subst (λ (x : Stage). x.count ≤ n) (sym R.stage) G.count_few;
         costs_size = p.squared;
-        costs-near = λ k. within_mono (omega (arith, K_small)) (p.within k);
+        costs_near = λ k. within_mono (omega (arith, K_small)) (p.within k);
         cols_size = ap (λ (x : Stage). length x.pairs.cols) R.stage ∙ G.kept.agree.cols_size;
         rows_size = ap (λ (x : Stage). length x.pairs.rows) R.stage ∙ G.kept.agree.rows_size;
         prices_size = ap (λ (x : Stage). length x.prices) R.stage ∙ G.kept.prices_size;
@@ -97,7 +97,7 @@ module _ (n : ℕ) (costs : List ℤ) (p : Pairable n costs) (cols rows : List �
       v_size = sizes.2;
       us_size = e;
       inside = inside;
-      prices_near_lem = subst (λ (l : List ℤ). (j : ℕ) → j < n → Within near (signed_at l j)) v_run
+      prices_near = subst (λ (l : List ℤ). (j : ℕ) → j < n → Within near (signed_at l j)) v_run
           (λ j l. near_five (let b = right.column_prices_between j l in record { low = omega arith; high = omega arith }));
     }
 

@@ -41,7 +41,7 @@ module _ (n : ℕ) (costs : List ℤ) (p : Pairable n costs) where
   GoodStage = Good n cost p.some K costs_within_lem
 
   square-near : Square n costs
-  square-near = record { small = p.small; size = p.squared; near-costs = λ i j l m. within_mono (omega (arith, K_small)) (costs_within_lem i j) }
+  square-near = record { small = p.small; size = p.squared; near_costs = λ i j l m. within_mono (omega (arith, K_small)) (costs_within_lem i j) }
 
   below_free : n ≤ free
   below_free = omega (arith, side-free, p.small)
@@ -87,7 +87,7 @@ module _ (n : ℕ) (costs : List ℤ) (p : Pairable n costs) where
       count_most = G.count_few;
       ends = omega (arith, after.all_looked_at);
       row_below = λ m l h. (look_ready n cost p.some K costs_within_lem s G m h).row_below;
-      near_prices = λ m l h j e. near_five ((look_ready n cost p.some K costs_within_lem s G m h).prices_within_lem j);
+      near_prices = λ m l h j e. near_five ((look_ready n cost p.some K costs_within_lem s G m h).prices_within j);
     }
 
     pub rule_four_good : GoodStage (pass_end (row_reduction n cost s))

@@ -33,7 +33,7 @@ front_length m l h = lent_length m 0 m l (sub-zero m) (omega arith)
 module _ (n : ℕ) (costs : List ℤ) (cols rows : List ℕ) (us vs : List ℤ) (indices : List ℕ) (numbers : List ℤ)
     (p : WithinLimits n costs (lent_of cols rows us vs indices numbers)) where
   pub pairable : (n ≡ 0 → ⊥) → Pairable n costs
-  pairable d = record { some = omega arith; small = p.small; squared = p.squared; within = within_everywhere K costs p.costs_within_lem }
+  pairable d = record { some = omega arith; small = p.small; squared = p.squared; within = within_everywhere K costs p.costs_within }
 
   pub sized : Sized n (front n cols) (front n rows) (front n vs) (front (4 * n) indices)
   sized = record {

@@ -76,7 +76,7 @@ amounts_pass n lent amount costs p within = record {
   column_prices_enough = p.column_prices_enough;
   indices_enough = p.indices_enough;
   numbers_enough = p.numbers_enough;
-  costs_within_lem = λ k l. let m : k < n * n = omega (arith, size) in subst (Within K) (sym (get_d_table (n * n) plus (pos 0) k m)) (within k m);
+  costs_within = λ k l. let m : k < n * n = omega (arith, size) in subst (Within K) (sym (get_d_table (n * n) plus (pos 0) k m)) (within k m);
 }
   where
     plus : ℕ → ℤ
@@ -102,7 +102,7 @@ nothing_passes n small = record {
   column_prices_enough = omega (arith, length-replicate n (pos 0));
   indices_enough = omega (arith, length-replicate {A = ℕ} (4 * n) 0);
   numbers_enough = omega (arith, length-replicate n (pos 0));
-  costs_within_lem = λ k l. subst (Within K) (sym (get_d_constant (n * n) (pos 0) k)) (record { low = omega arith; high = omega arith });
+  costs_within = λ k l. subst (Within K) (sym (get_d_constant (n * n) (pos 0) k)) (record { low = omega arith; high = omega arith });
 }
 
 -- At every side within the limit and for any amounts within K: all that `solver_surcharge` asks for.

@@ -34,7 +34,7 @@ module _ (n : ℕ) (costs : List ℤ) (lent : Lent) where
               column_prices_enough = s.long.fourth_long;
               indices_enough = r.0;
               numbers_enough = r.1;
-              costs_within_lem = (costs_within_lem costs).0 (t5.0 e).1;
+              costs_within = (costs_within_lem costs).0 (t5.0 e).1;
             },
         λ p.
             let s = shape.1 (record {
@@ -42,7 +42,7 @@ module _ (n : ℕ) (costs : List ℤ) (lent : Lent) where
               squared = p.squared;
               long = record { first_long = p.cols_enough; second_long = p.rows_enough; third_long = p.row_prices_enough; fourth_long = p.column_prices_enough };
             }) in
-            t5.1 (t4.1 (s, rooms.1 (p.indices_enough, p.numbers_enough)), (costs_within_lem costs).1 p.costs_within_lem),
+            t5.1 (t4.1 (s, rooms.1 (p.indices_enough, p.numbers_enough)), (costs_within_lem costs).1 p.costs_within),
       )
 
   -- Such an input is never refused.

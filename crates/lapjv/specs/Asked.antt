@@ -21,4 +21,4 @@ pub record CanPrice (n : ℕ) (costs : List ℤ) (cols : List ℕ) (v us : List 
   pub v_size : length v ≡ n
   pub us_size : length us ≡ n
   pub inside : (i : ℕ) → i < n → at cols i < n
-  pub prices_near_lem : (j : ℕ) → j < n → Within near (signed_at v j)
+  pub prices_near : (j : ℕ) → j < n → Within near (signed_at v j)

@@ -15,4 +15,4 @@ pub record WithinLimits (n : ℕ) (costs : List ℤ) (lent : Lent) : Type 0 wher
   pub column_prices_enough : n ≤ length lent.prices_of_columns
   pub indices_enough : 4 * n ≤ length lent.indices
   pub numbers_enough : n ≤ length lent.numbers
-  pub costs_within_lem : (k : ℕ) → k < length costs → Within K (signed_at costs k)
+  pub costs_within : (k : ℕ) → k < length costs → Within K (signed_at costs k)

@@ -1,6 +1,6 @@
 // What a slip says, read: its columns, its prices and its total.
 ghost use Rattle.std.specs.Prelude.{◌≡◌, ◌+◌, ◌*◌, ◌≤◌, length};
-ghost use Rattle.std.proofs.lemmas.List.Edits.{sets};
+ghost use lib.Seq.{sets};
 ghost use Rattle.lists.specs.Parts.{part};
 ghost use Rattle.layout.specs.Values.{signed_value};
 ghost use Rattle.layout.specs.Fields.{fields};

@@ -1,6 +1,6 @@
 // A sheet's costs and bars, read.
 ghost use Rattle.std.specs.Prelude.{◌≡◌, ◌+◌, ◌*◌, ◌≤◌, length};
-ghost use Rattle.std.proofs.lemmas.List.Edits.{sets};
+ghost use lib.Seq.{sets};
 ghost use Rattle.lists.specs.Parts.{part};
 ghost use Rattle.layout.specs.Values.{value_of, signed_value};
 ghost use Rattle.layout.specs.Fields.{fields};

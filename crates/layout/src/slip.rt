@@ -1,7 +1,7 @@
 // A slip, written part by part.
 ghost use Rattle.std.specs.Prelude.{◌≡◌, ◌+◌, ◌*◌, ◌≤◌, length, drop};
 ghost use mathlib.Core.List.{◌++◌, flat_map};
-ghost use Rattle.std.proofs.lemmas.List.Edits.{sets};
+ghost use lib.Seq.{sets};
 ghost use Rattle.layout.specs.Values.{bytes_of, signed_bytes};
 ghost use Rattle.layout.specs.Slips.{slip_body, row_count, row_count_length, slip_of, slip_length};
 ghost use Rattle.layout.specs.Asked.{Listed, Slipped};

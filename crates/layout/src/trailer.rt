@@ -1,6 +1,6 @@
 // The trailer, its parts read and the whole written.
 ghost use Rattle.std.specs.Prelude.{◌≡◌, ◌+◌, ◌^◌, ◌<◌, ◌≤◌, length};
-ghost use Rattle.std.proofs.lemmas.List.Edits.{sets};
+ghost use lib.Seq.{sets};
 ghost use Rattle.layout.specs.Values.{bytes_of};
 ghost use Rattle.layout.specs.Trailers.{trailer, distance_of, side_of, edition_of, row_count_of, unmarked};
 

@@ -1,6 +1,6 @@
 // Numbers as bytes, read and written.
 ghost use Rattle.std.specs.Prelude.{◌≡◌, ◌+◌, ◌%◌, ◌^◌, ◌<◌, ◌≤◌, length};
-ghost use Rattle.std.proofs.lemmas.List.Edits.{sets};
+ghost use lib.Seq.{sets};
 ghost use Rattle.lists.specs.Parts.{part};
 ghost use Rattle.layout.specs.Values.{bytes_of, value_of, wrapped, unwrapped};
 

@@ -1,6 +1,6 @@
 -- What a function that writes at a position leaves and answers.
 use Rattle.std.specs.Prelude.{◌≡◌, List, ℕ, ◌+◌, length}
-use Rattle.std.proofs.lemmas.List.Edits.{sets}
+use lib.Seq.{sets}
 
 -- The bytes stand in the room from `place` on, all else is as it was, and `next` is the place past them.
 pub record Put (before : List ℕ) (place : ℕ) (bytes after : List ℕ) (next : ℕ) : Type 0 where

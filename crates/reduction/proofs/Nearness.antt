@@ -26,7 +26,7 @@ twice_fits {z} h = omega zlin
 
 module _ (n : ℕ) (costs v : List ℤ) (s : Square n costs) (prices : Near n v) where
   reduced-near : (i j : ℕ) (z : ℤ) → i < n → j < n → z ≡ reduced (square n costs).cost (signed_at v) i j → Within (near + near) z
-  reduced-near i j z li lj e = omega (zlin, s.near-costs i j li lj, prices j lj)
+  reduced-near i j z li lj e = omega (zlin, s.near_costs i j li lj, prices j lj)
 
   module _ (i : ℕ) (li : i < n) where
     two_near : (two : TwoLowest) → 1 ≤ n → RightTwo (reduced (square n costs).cost (signed_at v) i) n two → Inside n two

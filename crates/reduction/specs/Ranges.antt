@@ -13,7 +13,7 @@ Near n v = (j : ℕ) → j < n → Within near (signed_at v j)
 pub record Square (n : ℕ) (costs : List ℤ) : Type 0 where
   pub small : n ≤ side
   pub size : length costs ≡ n * n
-  pub near-costs : (i j : ℕ) → i < n → j < n → Within near ((square n costs).cost i j)
+  pub near_costs : (i j : ℕ) → i < n → j < n → Within near ((square n costs).cost i j)
 
 -- What rule 1 is asked with: a row that is not empty, and a price for each of its columns.
 pub record Priced (row v : List ℤ) : Type 0 where

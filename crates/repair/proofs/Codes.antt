@@ -121,13 +121,13 @@ module _ (n : ℕ) (costs : List ℤ) (row : ℕ) (lent : Lent) where
       (λ e. none_at _ _ _ _ (lit< tt))
       (λ e. then_every SlackRight _ _ (none_at _ _ _ _ (lit< tt)) (λ f. none_at _ _ _ _ (lit< tt)))
       (λ e. then_every SlackRight _ _ (far (λ i. i) _ _) (λ f. far (λ j. n + j) _ _))
-      (λ e f. over_slacks (square n costs) us vs (costs-near e) (but row (over_in (square n costs) us vs)) (but_holds row (over_in (square n costs) us vs)) f)
-      (λ e i f u. loose_slacks (square n costs) us vs (costs-near e) lent.cols (λ k l. ((columns_inside_lem n n lent.cols).0 i k l, refl))
+      (λ e f. over_slacks (square n costs) us vs (costs_near e) (but row (over_in (square n costs) us vs)) (but_holds row (over_in (square n costs) us vs)) f)
+      (λ e i f u. loose_slacks (square n costs) us vs (costs_near e) lent.cols (λ k l. ((columns_inside_lem n n lent.cols).0 i k l, refl))
       (but row (loose (square n costs) lent.cols us vs)) (but_holds row (loose (square n costs) lent.cols us vs))
       (λ k l t. ((under_costs_but_lem (square n costs) us vs row).0 u).under k (at lent.cols k) l (named_other (loose (square n costs) lent.cols us vs) k t) ((columns_inside_lem n n lent.cols).0 i k l) refl) f)
     where
-      costs-near : Passes (tested n costs lent) → (i j : ℕ) → i < n → j < n → Within K ((square n costs).cost i j)
-      costs-near e i j l m = let h = (tested_iff n costs lent).0 e in h.costs_within_lem _ (omega (arith, place-below n i j l m, h.squared))
+      costs_near : Passes (tested n costs lent) → (i j : ℕ) → i < n → j < n → Within K ((square n costs).cost i j)
+      costs_near e i j l m = let h = (tested_iff n costs lent).0 e in h.costs_within _ (omega (arith, place-below n i j l m, h.squared))
 
       far : (place : ℕ → ℕ) (count : ℕ) (test : ℕ → Bool) → Every SlackRight (fails_at PriceFar place count test)
       far place count test =

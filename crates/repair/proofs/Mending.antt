@@ -55,7 +55,7 @@ module _ (n : ℕ) (costs : List ℤ) (row : ℕ) (cols rows : List ℕ) (v : Li
 
   prices_near_lem : (k : ℕ) → Within near (signed_at v k)
   prices_near_lem =
-      within_everywhere near v (λ k l. within_mono (omega (arith, K_small)) (C.prices_near_lem k (omega (arith, C.fair.prices_size))))
+      within_everywhere near v (λ k l. within_mono (omega (arith, K_small)) (C.prices_near k (omega (arith, C.fair.prices_size))))
 
   pub can_augment : CanAugment n costs 1 cols freed_rows v d started
   unfolding augments
@@ -63,7 +63,7 @@ module _ (n : ℕ) (costs : List ℤ) (row : ℕ) (cols rows : List ℕ) (v : Li
     small = C.small;
     few = some;
     costs_size = C.squared;
-    costs-near = λ k. within_mono (omega (arith, K_small)) (C.costs_within_lem k);
+    costs_near = λ k. within_mono (omega (arith, K_small)) (C.costs_within k);
     cols_size = C.fair.cols_size;
     rows_size = length-set rows (at cols row) free ∙ C.fair.rows_size;
     prices_size = C.fair.prices_size;
@@ -75,7 +75,7 @@ module _ (n : ℕ) (costs : List ℤ) (row : ℕ) (cols rows : List ℕ) (v : Li
         (subst (λ (y : Progress). CanTurn n costs y (at (frees_in n started) 0))
         (sym (upward_none 0 0 (λ k y. augment n cost y (at (frees_in n started) k)) x (omega arith)))
         (subst (λ (i : ℕ). CanTurn n costs x i) (sym first-free)
-        (record { can = mend_can n costs row (pairs_of cols rows) C.us v under C.fair; prices_near_lem = prices_near_lem })));
+        (record { can = mend_can n costs row (pairs_of cols rows) C.us v under C.fair; prices_near = prices_near_lem })));
   }
 
   pub mended_by : (cols' rows' : List ℕ) (v' : List ℤ) (room' : List ℕ) (scanned : ℕ) → Augmented n costs 1 cols freed_rows v started cols' rows' v' room' scanned
@@ -98,7 +98,7 @@ module _ (n : ℕ) (costs : List ℤ) (row : ℕ) (cols rows : List ℕ) (v : Li
     prices_close : (j : ℕ) → j < n → Within near (signed_at v' j)
     unfolding mended
     prices_close j l =
-        let b = mend_column_between n costs row (pairs_of cols rows) C.us v under C.fair K (7 * K) C.costs_within_lem C.prices_near_lem j l in
+        let b = mend_column_between n costs row (pairs_of cols rows) C.us v under C.fair K (7 * K) C.costs_within C.prices_near j l in
         let s = ap (λ (y : Progress). signed_at y.prices j) e in
         rw s (record { low = omega (arith, K_small, b); high = omega (arith, K_small, b) })
 
@@ -110,7 +110,7 @@ module _ (n : ℕ) (costs : List ℤ) (row : ℕ) (cols rows : List ℕ) (v : Li
       v_size = sizes.2;
       us_size = f;
       inside = gain.agree.cols_below;
-      prices_near_lem = prices_close;
+      prices_near = prices_close;
     }
 
     pub can_total : Listed n costs n cols'

@@ -58,8 +58,8 @@ module _ (n : ℕ) (costs : List ℤ) (row : ℕ) (cols rows : List ℕ) (us vs 
   can_mend = record {
     small = r.limits.small;
     squared = r.limits.squared;
-    costs_within_lem = within_everywhere K costs r.limits.costs_within_lem;
-    prices_near_lem = λ j l. rw (front_lent_lem n vs, price j l) (r.column_prices_near j l);
+    costs_within = within_everywhere K costs r.limits.costs_within;
+    prices_near = λ j l. rw (front_lent_lem n vs, price j l) (r.column_prices_near j l);
     room_size = omega (arith, front_length (4 * n) indices r.limits.indices_enough);
     distances_size = front_length n numbers r.limits.numbers_enough;
     us = us;

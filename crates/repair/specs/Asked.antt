@@ -21,8 +21,8 @@ pub record FairBut (n : ℕ) (costs : List ℤ) (row : ℕ) (p : Pairs) (us vs :
 pub record CanMend (n : ℕ) (costs : List ℤ) (row : ℕ) (p : Pairs) (v : List ℤ) (room : List ℕ) (d : List ℤ) : Type 0 where
   pub small : n ≤ side
   pub squared : length costs ≡ n * n
-  pub costs_within_lem : (k : ℕ) → Within K (signed_at costs k)
-  pub prices_near_lem : (j : ℕ) → j < n → Within (7 * K) (signed_at v j)
+  pub costs_within : (k : ℕ) → Within K (signed_at costs k)
+  pub prices_near : (j : ℕ) → j < n → Within (7 * K) (signed_at v j)
   pub room_size : length room ≡ n + n + n + n
   pub distances_size : length d ≡ n
   pub us : List ℤ

@@ -60,7 +60,7 @@ module _ (n : ℕ) (cost : ℕ → ℕ → ℤ) (one : 1 ≤ n) where
     pub cols_below : (i : ℕ) → i < n → at s.cols i < n
     pub waiting : (k : ℕ) → k < d → at s.rows k ≡ best k
     pub holding : (k : ℕ) → d ≤ k → k < n → at s.rows k < n → Holds s k
-    pub marked-held : (i : ℕ) → i < n → 1 ≤ at s.marks i → (d ≤ at s.cols i) × (at s.rows (at s.cols i) ≡ i)
+    pub marked_held : (i : ℕ) → i < n → 1 ≤ at s.marks i → (d ≤ at s.cols i) × (at s.rows (at s.cols i) ≡ i)
 
   module _ (room : n ≤ free) (s : Claims) (j : ℕ) (l : j < n) (h : Claimed (suc j) s) where
     abbrev i : ℕ
@@ -93,9 +93,9 @@ module _ (n : ℕ) (cost : ℕ → ℕ → ℤ) (one : 1 ≤ n) where
                 named_back = kc (at s.rows k) e ∙ H.named_back;
                 marked = omega (arith, km (at s.rows k) e, H.marked);
               });
-          marked-held = here_or_elsewhere (λ x. x < n → 1 ≤ at q.marks x → (j ≤ at q.cols x) × (at s.rows (at q.cols x) ≡ x)) i
+          marked_held = here_or_elsewhere (λ x. x < n → 1 ≤ at q.marks x → (j ≤ at q.cols x) × (at s.rows (at q.cols x) ≡ x)) i
               (λ a b. (omega (arith, tc), ap (at s.rows) tc))
-              (λ x d a b. let C = h.marked-held x a (omega (arith, km x d)) in (omega (arith, kc x d, C.0), ap (at s.rows) (kc x d) ∙ C.1));
+              (λ x d a b. let C = h.marked_held x a (omega (arith, km x d)) in (omega (arith, kc x d, C.0), ap (at s.rows) (kc x d) ∙ C.1));
         }
 
     -- The row is claimed already.
@@ -124,8 +124,8 @@ module _ (n : ℕ) (cost : ℕ → ℕ → ℤ) (one : 1 ≤ n) where
                 named_back = ap (at s.cols) (kr k d) ∙ H.named_back;
                 marked = still (at q.rows k) (subst (λ (x : ℕ). 1 ≤ at s.marks x) (sym (kr k d)) H.marked);
               };
-          marked-held = λ x a b.
-              let C = h.marked-held x a (before x b) in (omega (arith, C.0), kr (at s.cols x) (λ e. omega (arith, C.0)) ∙ C.1);
+          marked_held = λ x a b.
+              let C = h.marked_held x a (before x b) in (omega (arith, C.0), kr (at s.cols x) (λ e. omega (arith, C.0)) ∙ C.1);
         }
 
     pub claimed_more : Claimed j (claim j s)
@@ -143,7 +143,7 @@ module _ (n : ℕ) (cost : ℕ → ℕ → ℤ) (one : 1 ≤ n) where
     cols_below = λ i h. omega (arith, get_d_table {A = ℕ} n (λ i. 0) 0 i h);
     waiting = λ k h. get_d_table n best 0 k h;
     holding = λ k a b m. absurd (omega arith);
-    marked-held = λ i h m. absurd (omega (arith, get_d_table {A = ℕ} n (λ i. 0) 0 i h));
+    marked_held = λ i h m. absurd (omega (arith, get_d_table {A = ℕ} n (λ i. 0) 0 i h));
   }
 
   pub claimed_all : n ≤ free → Claimed 0 (claims n cost)

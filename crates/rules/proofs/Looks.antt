@@ -48,7 +48,7 @@ module _ (n : ℕ) (cost : ℕ → ℕ → ℤ) (one : 1 ≤ n) (v : List ℤ) (
         record {
           column_below = r.first_inside;
           not_raised = omega (zlin, r.order, dif b.value a.value);
-          at-minimum = λ k l d. omega (zlin, r.no_lower_but k l d, r.first_is, dif b.value a.value, dif x (b.value -ℤ a.value));
+          at_minimum = λ k l d. omega (zlin, r.no_lower_but k l d, r.first_is, dif b.value a.value, dif x (b.value -ℤ a.value));
           source = inr (
             b.place,
             r.second_inside,
@@ -61,7 +61,7 @@ module _ (n : ℕ) (cost : ℕ → ℕ → ℤ) (one : 1 ≤ n) (v : List ℤ) (
     lowest-kept = record {
       column_below = r.first_inside;
       not_raised = ≤ℤ_refl (signed_at v a.place);
-      at-minimum = λ k l d. omega (zlin, r.no_lower k l, r.first_is);
+      at_minimum = λ k l d. omega (zlin, r.no_lower k l, r.first_is);
       source = inl refl;
     }
 
@@ -69,7 +69,7 @@ module _ (n : ℕ) (cost : ℕ → ℕ → ℤ) (one : 1 ≤ n) (v : List ℤ) (
     second_kept t = record {
       column_below = r.second_inside;
       not_raised = ≤ℤ_refl (signed_at v b.place);
-      at-minimum = λ k l d. omega (zlin, r.no_lower k l, r.second_is);
+      at_minimum = λ k l d. omega (zlin, r.no_lower k l, r.second_is);
       source = inl refl;
     }
 
@@ -80,7 +80,7 @@ module _ (n : ℕ) (cost : ℕ → ℕ → ℤ) (one : 1 ≤ n) (v : List ℤ) (
         lowers = record {
           column_below = omega arith;
           not_raised = ≤ℤ_refl (signed_at v a.place);
-          at-minimum = λ k l d. absurd (d (omega (arith, r.0)));
+          at_minimum = λ k l d. absurd (d (omega (arith, r.0)));
           source = inl refl;
         };
         back_early = not_back;

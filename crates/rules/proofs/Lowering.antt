@@ -18,7 +18,7 @@ module _ (n : ℕ) (cost : ℕ → ℕ → ℤ) where
   pub record Lowers (v : ℕ → ℤ) (i j : ℕ) (p : ℤ) : Type 0 where
     pub column_below : j < n
     pub not_raised : p ≤ℤ v j
-    pub at-minimum : (k : ℕ) → k < n → k ≢ j → (cost i j -ℤ p) ≤ℤ reduced cost v i k
+    pub at_minimum : (k : ℕ) → k < n → k ≢ j → (cost i j -ℤ p) ≤ℤ reduced cost v i k
     pub source : (p ≡ v j) ⊎ ((k : ℕ) × (k < n) × (k ≢ j) × (cost i j -ℤ p ≡ reduced cost v i k))
 
   -- v' is v with p at j.
@@ -34,7 +34,7 @@ module _ (n : ℕ) (cost : ℕ → ℕ → ℤ) where
     lowered_minimum : AtMinimum n cost v' i j
     lowered_minimum = record {
       no_less = here_or_elsewhere (λ k. k < n → reduced cost v' i j ≤ℤ reduced cost v' i k) j (λ l. omega zlin)
-          (λ k d l. omega (zlin, w.at-minimum k l d, q.here, q.elsewhere k d));
+          (λ k d l. omega (zlin, w.at_minimum k l d, q.here, q.elsewhere k d));
     }
 
     -- Row i has column j, and the other columns keep their rows.

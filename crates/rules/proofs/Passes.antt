@@ -68,8 +68,8 @@ module _ (n : ℕ) (cost : ℕ → ℕ → ℤ) (one : 1 ≤ n) (K : ℕ) (costs
       pub left_few : x.pass.left ≤ x.pass.current
       pub current_few : x.pass.current ≤ F
       pub listed : Listed n x.pairs x.frees (In x.pass)
-      pub looks-least : x.pass.current ≤ x.pass.looks
-      pub looks_most_lem : x.pass.looks ≤ F * n
+      pub looks_least : x.pass.current ≤ x.pass.looks
+      pub looks_most : x.pass.looks ≤ F * n
       pub looks_now : x.pass.current < F → x.pass.looks < (x.pass.current + 1) * n
       pub each_looks : (x.pass.looks ≡ m) ⊎ (F ≤ x.pass.current)
 
@@ -171,8 +171,8 @@ module _ (n : ℕ) (cost : ℕ → ℕ → ℤ) (one : 1 ≤ n) (K : ℕ) (costs
             left_few = q.left_few;
             current_few = q.current_few;
             listed = q.listed;
-            looks-least = omega (arith, q.by_one, q.counted, X.looks-least);
-            looks_most_lem = omega (arith, q.counted, X.looks_now l, mul-le-mul_right n l, add-one x.pass.current);
+            looks_least = omega (arith, q.by_one, q.counted, X.looks_least);
+            looks_most = omega (arith, q.counted, X.looks_now l, mul-le-mul_right n l, add-one x.pass.current);
             looks_now = q.looks_now;
             each_looks = inl (omega (arith, q.counted));
           }

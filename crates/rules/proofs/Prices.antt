@@ -18,13 +18,13 @@ module _ (n : ℕ) (cost : ℕ → ℕ → ℤ) where
   -- Costs in -K..K.
   module _ (K : ℕ) (costs : (i j : ℕ) → Within K (cost i j)) where
     -- Where a row sits at its minimum on j, the price of j is less than 2K below any other's.
-    pub minimum-near : (v : ℕ → ℤ) (i j f : ℕ) → f < n → AtMinimum n cost v i j → v f ≤ℤ (v j +ℤ pos (2 * K))
-    minimum-near v i j f l m = omega (zlin, m.no_less f l, costs i j, costs i f)
+    pub minimum_near : (v : ℕ → ℤ) (i j f : ℕ) → f < n → AtMinimum n cost v i j → v f ≤ℤ (v j +ℤ pos (2 * K))
+    minimum_near v i j f l m = omega (zlin, m.no_less f l, costs i j, costs i f)
 
     -- Fair prices where column f is at -B or more: paired columns are at -(B + 2K) or more.
     pub fair_near : (v : ℕ → ℤ) (row : ℕ → ℕ) (f B : ℕ) → f < n → NotBelow B (v f) → Fair n cost v row → (k : ℕ) → k < n → row k < n → NotBelow (B + 2 * K) (v k)
     fair_near v row f B l low F k m h =
-        record { low = omega (zlin, minimum-near v (row k) k f l (F.paired_at_minimum k m h), low.low) }
+        record { low = omega (zlin, minimum_near v (row k) k f l (F.paired_at_minimum k m h), low.low) }
 
     -- Where free columns and one column are at -K or more, all are at -3K or more.
     pub all_near : (v : ℕ → ℤ) (row : ℕ → ℕ) (f : ℕ) → f < n → NotBelow K (v f) → Fair n cost v row → ((k : ℕ) → k < n → n ≤ row k → NotBelow K (v k))

@@ -35,8 +35,8 @@ module _ (n : ℕ) (cost : ℕ → ℕ → ℤ) (one : 1 ≤ n) (K : ℕ) (costs
       left_few = X.left_few;
       current_few = X.current_few;
       listed = X.listed;
-      looks-least = X.looks-least;
-      looks_most_lem = X.looks_most_lem;
+      looks_least = X.looks_least;
+      looks_most = X.looks_most;
       looks_now = X.looks_now;
       each_looks = inr h;
     }
@@ -74,8 +74,8 @@ module _ (n : ℕ) (cost : ℕ → ℕ → ℤ) (one : 1 ≤ n) (K : ℕ) (costs
       paired_or_listed = λ i l. ⊎_elim (λ a. inl a)
           (λ (a : (t : ℕ) × (t < s.count) × (at s.frees t ≡ i)). inr (a.0, inr (omega arith, a.1), a.2)) (G.listed.paired_or_listed i l);
     };
-    looks-least = omega arith;
-    looks_most_lem = omega arith;
+    looks_least = omega arith;
+    looks_most = omega arith;
     looks_now = λ l. omega arith;
     each_looks = inl refl;
   }
@@ -87,8 +87,8 @@ module _ (n : ℕ) (cost : ℕ → ℕ → ℤ) (one : 1 ≤ n) (K : ℕ) (costs
   pub record PassOf (s : Stage) (x : Passing) : Type 0 where
     pub good : Good n cost one K costs (pass_end x)
     pub all_looked_at : x.pass.current ≡ s.count
-    pub looks-least : s.count ≤ x.pass.looks
-    pub looks_most_lem : x.pass.looks ≤ s.count * n
+    pub looks_least : s.count ≤ x.pass.looks
+    pub looks_most : x.pass.looks ≤ s.count * n
     pub left_fewer : x.pass.left ≤ s.count
 
   module _ (s : Stage) (G : Good n cost one K costs s) where
@@ -120,8 +120,8 @@ module _ (n : ℕ) (cost : ℕ → ℕ → ℤ) (one : 1 ≤ n) (K : ℕ) (costs
             };
           };
           all_looked_at = e;
-          looks-least = omega (arith, X.looks-least);
-          looks_most_lem = X.looks_most_lem;
+          looks_least = omega (arith, X.looks_least);
+          looks_most = X.looks_most;
           left_fewer = omega (arith, X.left_few);
         }
 
@@ -143,9 +143,9 @@ module _ (n : ℕ) (cost : ℕ → ℕ → ℤ) (one : 1 ≤ n) (K : ℕ) (costs
       pub current_below : x.pass.current < n
       pub left_few : x.pass.left ≤ x.pass.current
       pub row_below : at x.frees x.pass.current < n
-      pub prices_within_lem : (k : ℕ) → Within (5 * K) (signed_at x.prices k)
+      pub prices_within : (k : ℕ) → Within (5 * K) (signed_at x.prices k)
       pub looks_counted : x.pass.looks ≡ m
-      pub looks-below : m < s.count * n
+      pub looks_below : m < s.count * n
 
     pub look_ready : (m : ℕ) → (after m).pass.current < s.count → Ready m (after m)
     look_ready m l =
@@ -160,7 +160,7 @@ module _ (n : ℕ) (cost : ℕ → ℕ → ℤ) (one : 1 ≤ n) (K : ℕ) (costs
           current_below = omega (arith, G.count_few);
           left_few = X.left_few;
           row_below = X.listed.row_below x.pass.current (inr (omega arith, l));
-          prices_within_lem = within_five n cost K costs (first n cost one) (first-low n cost one K costs) x.pairs x.prices X.kept (first_within n cost one K costs);
+          prices_within = within_five n cost K costs (first n cost one) (first-low n cost one K costs) x.pairs x.prices X.kept (first_within n cost one K costs);
           looks_counted = e;
-          looks-below = omega (arith, e, X.looks_now l, mul-le-mul_right n l, add-one x.pass.current);
+          looks_below = omega (arith, e, X.looks_now l, mul-le-mul_right n l, add-one x.pass.current);
         }

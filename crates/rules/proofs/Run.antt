@@ -132,7 +132,7 @@ module _ (n : ℕ) (costs : List ℤ) (K : ℕ) (within : (k : ℕ) → Within K
               (row_price_between n cost' one K (λ i j. within (i * n + j)) p v κ i (at p.cols i) l (κ.agree.cols_below i l)
               (paired-minimum n costs p v κ.agree κ.fair L.all_paired i l));
           total_is = refl;
-          total-near = total_within n costs K within p.cols;
+          total_near = total_within n costs K within p.cols;
           counts_right = stages_are.counts;
         }
 
@@ -167,7 +167,7 @@ nothing_right costs K =
       column_prices_between = λ k l. absurd (omega arith);
       row_prices_between = λ i l. absurd (omega arith);
       total_is = refl;
-      total-near = record { low = omega arith; high = omega arith };
+      total_near = record { low = omega arith; high = omega arith };
       counts_right = record {
         free_few = omega arith;
         one_least = omega arith;

@@ -48,6 +48,6 @@ run_searches_end n some room costs K within m l =
     let cost = (square n costs).cost in
     let near : (i j : ℕ) → Within K (cost i j) = λ i j. within (i * n + j) in
     let s = pass_end (stages n cost).pass_two in
-    let good = (stages_right n cost some K near room).pass_two_lem.good in
+    let good = (stages_right n cost some K near room).pass_two.good in
     can_ends n cost (augments n cost s.frees m (record { pairs = s.pairs; prices = s.prices; scanned = 0 })) (at s.frees m)
     (search_ready n cost some K near s good m l).can

@@ -96,7 +96,7 @@ module _ (n : ℕ) (cost : ℕ → ℕ → ℤ) (one : 1 ≤ n) (K : ℕ) (costs
     -- What search m finds: a state from which its row can get a column, and prices within 5K.
     pub record SearchReady (m : ℕ) (x : Progress) : Type 0 where
       pub can : Can n cost x (at s.frees m)
-      pub prices_within_lem : (k : ℕ) → Within (5 * K) (signed_at x.prices k)
+      pub prices_within : (k : ℕ) → Within (5 * K) (signed_at x.prices k)
       pub scanned_few : x.scanned ≤ m * (n - 1)
 
     pub search_ready : (m : ℕ) → m < s.count → SearchReady m (augments n cost s.frees m x₀)
@@ -105,7 +105,7 @@ module _ (n : ℕ) (cost : ℕ → ℕ → ℤ) (one : 1 ≤ n) (K : ℕ) (costs
         let A = augments-kept m (omega arith) in
         record {
           can = augmented_can n cost s.frees s.count x₀ m x l A.0;
-          prices_within_lem = within_five n cost K costs v₀ (first-low n cost one K costs) x.pairs x.prices A.1 (first_within n cost one K costs);
+          prices_within = within_five n cost K costs v₀ (first-low n cost one K costs) x.pairs x.prices A.1 (first_within n cost one K costs);
           scanned_few = omega (arith, A.0.scanned_few);
         }
 
@@ -126,9 +126,9 @@ module _ (n : ℕ) (cost : ℕ → ℕ → ℤ) (one : 1 ≤ n) (K : ℕ) (costs
 
   pub record StagesRight (r : Stages) : Type 0 where
     pub columns_good : Good n cost one K costs r.columns
-    pub pass_one_lem : PassOf n cost one K costs r.columns r.pass_one
-    pub pass_two_lem : PassOf n cost one K costs (pass_end r.pass_one) r.pass_two
-    pub last : Last (pass_end r.pass_two) pass_two_lem.good r.last
+    pub pass_one : PassOf n cost one K costs r.columns r.pass_one
+    pub pass_two : PassOf n cost one K costs (pass_end r.pass_one) r.pass_two
+    pub last : Last (pass_end r.pass_two) pass_two.good r.last
     pub counts : CountsRight n (counts_of r)
 
   pub stages_right : n ≤ free → StagesRight (stages n cost)
@@ -142,16 +142,16 @@ module _ (n : ℕ) (cost : ℕ → ℕ → ℤ) (one : 1 ≤ n) (K : ℕ) (costs
       let L = augmentation-last (pass_end (row_reduction n cost (pass_end a))) R.good in
       record {
         columns_good = G;
-        pass_one_lem = Q;
-        pass_two_lem = R;
+        pass_one = Q;
+        pass_two = R;
         last = L;
         counts = record {
           free_few = G.count_few;
-          one_least = Q.looks-least;
-          one_most = Q.looks_most_lem;
+          one_least = Q.looks_least;
+          one_most = Q.looks_most;
           left_one_few = Q.left_fewer;
-          two_least = R.looks-least;
-          two_most = R.looks_most_lem;
+          two_least = R.looks_least;
+          two_most = R.looks_most;
           left_few = R.left_fewer;
           scanned_few = L.scanned_few;
         };

@@ -36,7 +36,7 @@ less_lowers : (n : ℕ) (cost : ℕ → ℕ → ℤ) (v : ℕ → ℤ) (i j : �
 less_lowers n cost v i j l e h NoneYet r = record {
   column_below = l;
   not_raised = ≤ℤ_refl (v j);
-  at-minimum = λ k m d. absurd (d (r k m));
+  at_minimum = λ k m d. absurd (d (r k m));
   source = inl refl;
 }
 less_lowers n cost v i j l e h (Of b) r =
@@ -44,7 +44,7 @@ less_lowers n cost v i j l e h (Of b) r =
     record {
       column_below = l;
       not_raised = omega (zlin, r.one.3, h k₀ r.one.1);
-      at-minimum = λ k m d. omega (zlin, r.no_lower k m d, dif (v j) b);
+      at_minimum = λ k m d. omega (zlin, r.no_lower k m d, dif (v j) b);
       source = inr (k₀, r.one.1, r.one.2, omega (zlin, r.one.3, dif (v j) b));
     }
 
@@ -161,7 +161,7 @@ module _ (n : ℕ) (cost : ℕ → ℕ → ℤ) (one : 1 ≤ n) (K : ℕ) (costs
           let v : ℕ → ℤ = signed_at x.prices in
           let o = least_but n (reduced cost v m) j in
           let lj : j < n = C.cols_below m lm in
-          let hj : row j ≡ m = (C.marked-held m lm (omega arith)).1 in
+          let hj : row j ≡ m = (C.marked_held m lm (omega arith)).1 in
           let vj : v j ≡ v₀ j = T.waiting j lj (omega arith) in
           let ej : v j ≡ cost m j = vj ∙ row_cost j lj (omega arith) ∙ ap (λ (i : ℕ). cost i j) hj in
           let w = less_lowers n cost v m j lj ej (λ k l. omega (zlin, T.kept.not_risen k l, first-least n cost one m k lm)) o (least_but_is n (reduced cost v m) j) in
@@ -211,7 +211,7 @@ module _ (n : ℕ) (cost : ℕ → ℕ → ℤ) (one : 1 ≤ n) (K : ℕ) (costs
       once = T.once;
       paired_or_listed = λ i l. elim (ℕ_discrete (at s.marks i) 0) [
         | yes z ↦ inr (T.unmarked_listed i l z)
-        | no d ↦ inl (C.marked-held i l (omega arith)).1
+        | no d ↦ inl (C.marked_held i l (omega arith)).1
       ];
     }
 

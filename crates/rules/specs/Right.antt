@@ -51,5 +51,5 @@ pub record Right (n : ℕ) (costs : List ℤ) (K : ℕ) (a : Result) : Type 0 wh
   pub column_prices_between : (k : ℕ) → k < n → Between (5 * K) K (signed_at a.prices_of_columns k)
   pub row_prices_between : (i : ℕ) → i < n → Between 0 (4 * K) (signed_at a.prices_of_rows i)
   pub total_is : a.total ≡ total (square n costs) a.cols
-  pub total-near : Within (n * K) a.total
+  pub total_near : Within (n * K) a.total
   pub counts_right : CountsRight n a.counts

@@ -1,7 +1,7 @@
 // A sheet of scores, written part by part.
 ghost use Rattle.std.specs.Prelude.{◌≡◌, ◌+◌, ◌*◌, ◌<◌, ◌≤◌, pos, length, drop};
 ghost use mathlib.Core.List.{◌++◌, flat_map};
-ghost use Rattle.std.proofs.lemmas.List.Edits.{sets};
+ghost use lib.Seq.{sets};
 ghost use Rattle.layout.specs.Values.{signed_bytes};
 ghost use Rattle.score.specs.Characters.{cost_table};
 ghost use Rattle.score.specs.Score.{score_of};

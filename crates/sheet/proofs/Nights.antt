@@ -46,8 +46,8 @@ module _ (sheet : List ℕ) (room : ℕ) (laid : Laid) (e : read room sheet ≡ 
   pub owed : Right n (solved_costs laid) K a
   owed = solver.owed laid.edition m n laid.costs laid.bars readable.filled readable.rows readable.fewer readable.small readable.passes
 
-  pub costs-near : (k : ℕ) → k < length laid.costs → Within (cost_most laid.edition) (signed_at laid.costs k)
-  costs-near = (costs_in_lem (cost_most laid.edition) laid.costs).0 ((then_iff _ _).0 readable.passes).0
+  pub costs_near : (k : ℕ) → k < length laid.costs → Within (cost_most laid.edition) (signed_at laid.costs k)
+  costs_near = (costs_in_lem (cost_most laid.edition) laid.costs).0 ((then_iff _ _).0 readable.passes).0
 
   -- No row below the night's has a bar: rows are fewer than columns only where no bar is.
   below : (i : ℕ) → m ≤ i → i < n → at laid.bars i ≡ 0

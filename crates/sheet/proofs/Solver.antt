@@ -160,11 +160,11 @@ module _ (edition m n : ℕ) (costs : List ℤ) (bars : List ℕ) (size : length
       column_prices_enough = few;
       indices_enough = omega (arith, few);
       numbers_enough = few;
-      costs_within_lem = filled_within_all;
+      costs_within = filled_within_all;
     }
 
     pub owed : Right n (solved_costs laid) K (found laid)
-    owed = answer_owes n (solved_costs laid) limits.small limits.costs_within_lem
+    owed = answer_owes n (solved_costs laid) limits.small limits.costs_within
 
     -- What the solver leaves in the state is the night's answer, and a barred pair is the night's.
     solved_same : solved_in edition m n filled-held ≡ settled_as (night laid)

@@ -1,6 +1,6 @@
 -- What functions that the entries call leave in the state.
 use Rattle.std.specs.Prelude.{cond, List, ◌++◌, ℕ, ◌*◌, ltb, pos, take, drop}
-use Rattle.std.proofs.lemmas.List.Edits.{sets}
+use lib.Seq.{sets}
 use Rattle.layout.specs.Sheets.{costs_at, bars_at}
 use Rattle.bars.specs.Barred.{first_barred, filled_costs}
 use Rattle.bars.specs.Masks.{shown_rows}

@@ -2,7 +2,7 @@
 #![tactic(auto)]
 
 ghost use Rattle.std.specs.Prelude.{◌≡◌, cond, ◌++◌, ℕ, ◌+◌, ◌*◌, ◌≤◌, ◌<◌, pos, length, take, drop};
-ghost use Rattle.std.proofs.lemmas.List.Edits.{sets};
+ghost use lib.Seq.{sets};
 ghost use Rattle.lists.specs.Permutations.{at};
 ghost use Rattle.layout.specs.Sheets.{costs_at, bars_at};
 ghost use Rattle.layout.specs.Slips.{slip_of, slip_length};

@@ -55,7 +55,7 @@ module _ (m n : ℕ) (costs : List ℤ) (bars cols : List ℕ) (us vs : List ℤ
         column_prices = column_prices;
         listed = listed;
         shown = shown;
-        list_long_lem = (list_long_lem 6 m (length lent.list)).0 t.0;
+        list_long = (list_long_lem 6 m (length lent.list)).0 t.0;
         indices_long = r.0;
         numbers_long = r.1;
       }

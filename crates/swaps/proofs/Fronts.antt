@@ -40,7 +40,7 @@ module _ (m n : ℕ) (costs : List ℤ) (bars cols : List ℕ) (us vs : List ℤ
   pub can_find : CanFind m n costs bars (take (m - 0) cols) us vs (take (m - 0) list) (take (4 * n - 0) indices) (take (n - 0) numbers)
   can_find = rw (sub-zero m, sub-zero n, sub-zero (4 * n)) (record {
     fair = fair;
-    list_size = length-take-le m list h.list_long_lem;
+    list_size = length-take-le m list h.list_long;
     room_size = omega (arith, length-take-le (4 * n) indices h.indices_long);
     numbers_size = length-take-le n numbers h.numbers_long;
   })

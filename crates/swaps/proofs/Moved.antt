@@ -76,14 +76,14 @@ module _ (night : Night) (us vs : List ℤ) (fair : Feasible night us vs) (cols 
     -- What is known of a row of the walk.
     record Step (i : ℕ) : Type 0 where
       below : chosen i < n
-      row_way_lem : RowWay night us vs cols i (chosen i)
+      row_way : RowWay night us vs cols i (chosen i)
       next_inside : Inside (own (chosen i))
 
     step : (i : ℕ) → i < m → Inside i → Step i
     step i l k =
         let g = in_next N n go z c i k in
         let r = row_read night us vs cols i (chosen i) l (in_below N n go z c (go i (chosen i)) g.1) in
-        record { below = g.0.below; row_way_lem = r; next_inside = subst Inside r.leads g.1 }
+        record { below = g.0.below; row_way = r; next_inside = subst Inside r.leads g.1 }
 
     -- ---- a pairing
 
@@ -98,7 +98,7 @@ module _ (night : Night) (us vs : List ℤ) (fair : Feasible night us vs) (cols 
               elim (cases k lk) [
                 | inl b ↦
                     let q : chosen i ≡ chosen k = sym a.1 ∙ e ∙ b.1 in
-                    in_apart N n go z c i k a.0 b.0 ((step i li a.0).row_way_lem.leads ∙ ap own q ∙ sym (step k lk b.0).row_way_lem.leads)
+                    in_apart N n go z c i k a.0 b.0 ((step i li a.0).row_way.leads ∙ ap own q ∙ sym (step k lk b.0).row_way.leads)
                 | inr b ↦ absurd (clash i k li lk a.0 b.0 (sym a.1 ∙ e ∙ b.1))
               ]
           | inr a ↦
@@ -113,7 +113,7 @@ module _ (night : Night) (us vs : List ℤ) (fair : Feasible night us vs) (cols 
       size = length-table m (λ i. cond (on_closed z i) (chosen i) (at cols i));
       inside = λ i l. ⊎_elim (λ a. omega (arith, (step i l a.0).below)) (λ a. omega (arith, p.inside i l)) (cases i l);
       apart = apart;
-      permitted = λ i l. ⊎_elim (λ a. ap (night.allowed i) a.1 ∙ (step i l a.0).row_way_lem.permitted)
+      permitted = λ i l. ⊎_elim (λ a. ap (night.allowed i) a.1 ∙ (step i l a.0).row_way.permitted)
           (λ a. ap (night.allowed i) a.1 ∙ p.permitted i l) (cases i l);
     }
 
@@ -125,7 +125,7 @@ module _ (night : Night) (us vs : List ℤ) (fair : Feasible night us vs) (cols 
         | inl a ↦
             let s = step i l a.0 in
             let e : priced us vs i (chosen i) ≡ night.cost i (chosen i) =
-            omega (zarith, s.row_way_lem.level, fair.under i (chosen i) l s.below s.row_way_lem.permitted) in
+            omega (zarith, s.row_way.level, fair.under i (chosen i) l s.below s.row_way.permitted) in
             rw a.1 e
         | inr a ↦ rw a.1 (tight.met i l)
       ];
@@ -135,7 +135,7 @@ module _ (night : Night) (us vs : List ℤ) (fair : Feasible night us vs) (cols 
     moved_top i l =
         elim (cases i l) [
           | inl a ↦ rw a.1
-              (⊎_elim (λ h. rw (behind_row night us vs cols (chosen i) h) at (used_top (own (chosen i)) h)) (λ h. h) (step i l a.0).row_way_lem.not_above)
+              (⊎_elim (λ h. rw (behind_row night us vs cols (chosen i) h) at (used_top (own (chosen i)) h)) (λ h. h) (step i l a.0).row_way.not_above)
           | inr a ↦ rw a.1 (used_top i l)
         ]
 
@@ -147,7 +147,7 @@ module _ (night : Night) (us vs : List ℤ) (fair : Feasible night us vs) (cols 
         taken d (x, k, e) =
             elim (dec_lt x m) [
               | yes hx ↦
-                  let r = (step x hx k).row_way_lem in
+                  let r = (step x hx k).row_way in
                   let q : own (chosen x) ≡ own j = sym r.leads ∙ e in
                   let t : chosen x ≡ j =
                   sym (behind_row night us vs cols (chosen x) (omega arith)) ∙ ap (at cols) q ∙ behind_row night us vs cols j d in
@@ -183,7 +183,7 @@ module _ (night : Night) (us vs : List ℤ) (fair : Feasible night us vs) (cols 
 
     off : (i : ℕ) → i < m → Inside i → at after i ≡ at cols i → ⊥
     off i l k e =
-        ⊎_elim (λ a. (step i l k).row_way_lem.other (ap own (sym a.1 ∙ e) ∙ behind-used i l)) (λ a. a.0 k) (cases i l)
+        ⊎_elim (λ a. (step i l k).row_way.other (ap own (sym a.1 ∙ e) ∙ behind-used i l)) (λ a. a.0 k) (cases i l)
 
     pub moved_another : Another night cols after
     moved_another = record {

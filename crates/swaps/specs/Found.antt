@@ -52,7 +52,7 @@ pub record CanFindIn (m n : ℕ) (costs : List ℤ) (bars cols : List ℕ) (us v
   pub column_prices : Prices n vs
   pub listed : m ≤ length cols
   pub shown : Shown (night_of m n costs bars) cols us vs
-  pub list_long_lem : m ≤ length list
+  pub list_long : m ≤ length list
   pub indices_long : 4 * n ≤ length indices
   pub numbers_long : n ≤ length numbers
 

@@ -149,7 +149,7 @@ module _ (n : ℕ) (costs : List ℤ) (lent : Lent) (p : WithinLimits n costs le
   checker_accepts_solver =
       subst (λ (o : Outcome). check n costs o.lent.cols o.lent.rows o.lent.prices_of_rows o.lent.prices_of_columns ≡ Total (answer n costs).total)
       (sym (passes_paired n costs lent p))
-      (checker_accepts_run n costs p.small p.squared p.costs_within_lem (drop n lent.cols) (drop n lent.rows) (drop n lent.prices_of_rows)
+      (checker_accepts_run n costs p.small p.squared p.costs_within (drop n lent.cols) (drop n lent.rows) (drop n lent.prices_of_rows)
       (drop n lent.prices_of_columns))
 
   pub solved_answer : (solve n costs lent).answer ≡ Paired (record { total = (answer n costs).total; counts = (answer n costs).counts })

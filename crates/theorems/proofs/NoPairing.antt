@@ -35,7 +35,7 @@ use Rattle.sheet.specs.Settle.{solved_costs, found, barred_row, rows_shown, Deli
 use Rattle.sheet.proofs.Sheets.{below_word}
 use Rattle.sheet.proofs.Editions.{barred_uncounted}
 use Rattle.sheet.proofs.Pairing.{Readable}
-use Rattle.sheet.proofs.Nights.{sheet_night, readable, owed, costs-near, night_pairing}
+use Rattle.sheet.proofs.Nights.{sheet_night, readable, owed, costs_near, night_pairing}
 
 -- Costs within an edition's limit leave K far above, where the edition has bars.
 margin : (n : ℕ) → n ≤ 64 → pos (barred_most + n * (2 * barred_most)) <ℤ pos K
@@ -81,7 +81,7 @@ module _ (sheet room : List ℕ) (laid : Laid) (e : read (length room) sheet ≡
   barred_small : barred_row laid < n → (k : ℕ) → k < n * n → Within barred_most (signed_at laid.costs k)
   barred_small h k l =
       let there : k < length laid.costs = omega (arith, fits.filled, ap (λ (i : ℕ). i * n) (square_there h)) in
-      subst (λ (c : ℕ). Within c (signed_at laid.costs k)) (ap (λ (u : Bool). cond u barred_most K) (bars_there h)) (costs-near sheet (length room) laid e k there)
+      subst (λ (c : ℕ). Within c (signed_at laid.costs k)) (ap (λ (u : Bool). cond u barred_most K) (bars_there h)) (costs_near sheet (length room) laid e k there)
 
   its_square : barred_row laid < n → barred n laid.costs laid.bars ≡ its
   its_square h = ap (λ (i : ℕ). night_of i n laid.costs laid.bars) (sym (square_there h))

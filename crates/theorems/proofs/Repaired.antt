@@ -69,7 +69,7 @@ module _ (n : ℕ) (costs : List ℤ) (row : ℕ) (lent : Lent) (r : Repairable 
   below_free = omega (arith, side-free, r.limits.small)
 
   within : (k : ℕ) → Within K (signed_at costs k)
-  within = within_everywhere K costs r.limits.costs_within_lem
+  within = within_everywhere K costs r.limits.costs_within
 
   near : (j : ℕ) → j < n → Within (7 * K) (signed_at vs j)
   near j l = rw (get_or-take n lent.prices_of_columns j (pos 0) l) (r.column_prices_near j l)
@@ -101,7 +101,7 @@ module _ (n : ℕ) (costs : List ℤ) (row : ℕ) (lent : Lent) (r : Repairable 
       columns_listed = omega (arith, gain.agree.cols_size);
       rows_listed = omega (arith, gain.agree.rows_size);
     };
-    within = r.limits.costs_within_lem;
+    within = r.limits.costs_within;
     named = all_named n costs y.pairs y.prices gain.agree gain.fair
         (mend_paired n costs row (pairs_of cols rows) lent.prices_of_rows vs below_free fair_but);
     row_prices = record { enough = omega (arith, us_size); within = λ i l. within_mono (omega arith) (rows_within i l) };
@@ -137,7 +137,7 @@ module _ (n : ℕ) (costs : List ℤ) (row : ℕ) (lent : Lent) (r : Repairable 
   -- The answer is the total, and it is the fresh run's.
   pub repaired_answer : (repair n costs row lent).answer ≡ Total (answer n costs).total
   repaired_answer =
-      let R = answer_owes n costs r.limits.small r.limits.costs_within_lem in
+      let R = answer_owes n costs r.limits.small r.limits.costs_within in
       let L = repaired_least in
       let first : take n after.cols ≡ y.pairs.cols =
       ap (λ (o : Outcome). take n o.lent.cols) is ∙ take_at y.pairs.cols (drop n lent.cols) n gain.agree.cols_size in
@@ -192,7 +192,7 @@ pub solved_repairable : (n : ℕ) (old costs : List ℤ) (row : ℕ) (lent : Len
 solved_repairable n old costs row lent p q l c =
     let a = answer n old in
     let o = (solve n old lent).lent in
-    let R = answer_owes n old p.small p.costs_within_lem in
+    let R = answer_owes n old p.small p.costs_within in
     let is = passes_paired n old lent p in
     let limits : WithinLimits n costs (paired n lent a).lent = record {
       small = q.small;
@@ -203,7 +203,7 @@ solved_repairable n old costs row lent p q l c =
       column_prices_enough = omega (arith, length-append a.prices_of_columns (drop n lent.prices_of_columns), R.column_prices_size);
       indices_enough = omega (arith, length-append (replicate (4 * n) 0) (drop (4 * n) lent.indices), length-replicate {A = ℕ} (4 * n) 0);
       numbers_enough = omega (arith, length-append (replicate n (pos 0)) (drop n lent.numbers), length-replicate n (pos 0));
-      costs_within_lem = q.costs_within_lem;
+      costs_within = q.costs_within;
     } in
     let rows-near : (i : ℕ) → i < n → Within (7 * K) (signed_at (paired n lent a).lent.prices_of_rows i) = λ i h.
     rw (get_or-append a.prices_of_rows (drop n lent.prices_of_rows) (pos 0) i (omega (arith, R.row_prices_size))) (wide (R.row_prices_between i h)) in

@@ -18,8 +18,8 @@ use Rattle.theorems.proofs.Accepted.{solved_answer}
 module _ (n : ℕ) (costs : List ℤ) (lent : Lent) (p : WithinLimits n costs lent) (cols : List ℕ) (small : n ≤ 8) (listed : n ≤ length cols) where
   pub plain-total : (plain n costs cols).0 ≡ Total (answer n costs).total
   plain-total =
-      let r = answer_owes n costs p.small p.costs_within_lem in
-      ap (λ (o : Answer × List ℕ). o.0) (fit_plain n costs cols (record { small = small; squared = p.squared; listed = listed; within = p.costs_within_lem }))
+      let r = answer_owes n costs p.small p.costs_within in
+      ap (λ (o : Answer × List ℕ). o.0) (fit_plain n costs cols (record { small = small; squared = p.squared; listed = listed; within = p.costs_within }))
       ∙ ap Total (square-same n costs (answer n costs).cols r.least ∙ sym r.total_is)
 
   -- The solver's answer has the total that the plain engine gives.

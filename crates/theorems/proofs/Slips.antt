@@ -38,7 +38,7 @@ use Rattle.sheet.specs.Settle.{solved_costs, found, barred_row, Delivery, blocke
 use Rattle.sheet.proofs.Solver as solver
 use Rattle.sheet.proofs.Editions.{cost_most_within}
 use Rattle.sheet.proofs.Pairing.{Readable}
-use Rattle.sheet.proofs.Nights.{sheet_night, readable, owed, costs-near, night_feasible, night_pairing, night_tight, night_spares, night_least, night_total}
+use Rattle.sheet.proofs.Nights.{sheet_night, readable, owed, costs_near, night_feasible, night_pairing, night_tight, night_spares, night_least, night_total}
 use Rattle.theorems.proofs.Accepted.{run_accepted, run_barred_accepted}
 
 -- What lies within a bound below 2^63 fits eight bytes.
@@ -96,7 +96,7 @@ module _ (sheet room : List ℕ) (laid : Laid) (e : read (length room) sheet ≡
     column_fits = λ i l. rw (get_or-take m a.cols i 0 l) (omega (arith, right.named.inside i (omega (arith, fits.fewer)), fits.few));
     row_price_fits = λ i l. fits_eight (10 * K) _ (omega (arith, K_small)) (near i l);
     column_price_fits = λ j l. fits_eight (10 * K) _ (omega (arith, K_small)) ((right_within_ten n (solved_costs laid) K a right).1 j l);
-    total_fits = fits_eight (n * K) _ (omega (arith, K_small, mul-le-mul_right K fits.few)) right.total-near;
+    total_fits = fits_eight (n * K) _ (omega (arith, K_small, mul-le-mul_right K fits.few)) right.total_near;
   }
 
   -- What follows the slip's body.
@@ -157,7 +157,7 @@ module _ (sheet room : List ℕ) (laid : Laid) (e : read (length room) sheet ≡
     slip_barred_accepted bars =
         rw (columns_are, row_prices_are, column_prices_are, total_is, all_columns, all_row_prices)
         (run_barred_accepted n laid.costs laid.bars fits.small (fits.filled ∙ ap (λ (k : ℕ). k * n) square) (omega (arith, fits.rows))
-        (λ k l. subst (λ (c : ℕ). Within c (signed_at laid.costs k)) (ap (λ (t : Bool). cond t barred_most K) bars) (costs-near sheet (length room) laid e k l))
+        (λ k l. subst (λ (c : ℕ). Within c (signed_at laid.costs k)) (ap (λ (t : Bool). cond t barred_most K) bars) (costs_near sheet (length room) laid e k l))
         ((bars_clear_lem n laid.bars).0 ((then_iff _ _).0 fits.passes).1) free)
 
   -- Without bars, and with as many columns as rows or more: the checker of oblong nights accepts it.
@@ -179,7 +179,7 @@ module _ (sheet room : List ℕ) (laid : Laid) (e : read (length room) sheet ≡
             fits = fits.fewer;
             filled = fits.filled;
             columns_listed = omega (arith, cols_size);
-            within = λ k l. within_mono (cost_most_within edition) (costs-near sheet (length room) laid e k l);
+            within = λ k l. within_mono (cost_most_within edition) (costs_near sheet (length room) laid e k l);
             inside = p.inside;
             once = p.apart;
           },

@@ -44,7 +44,7 @@ bounds-d-j c = omega (arith, here_below c.loop-k.invariant.0 c.loop-k-test.true)
 end_below : (c : Lts.Joined1 Tie.the-claims Reads.Pre Reads.Post goal.the-invariant-loop-k goal.the-decreases-loop-k) → c.if-h-minimum.hi < c.args.n
 end_below c =
     let B = c.loop-k.invariant.0 in
-    elim c.if-h-minimum.branch [ then-h-minimum w ↦ omega (arith, w.hi-is, B.past, B.within) | else-h-minimum w ↦ omega (arith, w.hi-is, B.block-end, c.loop-k-test.true) ]
+    elim c.if-h-minimum.branch [ then-h-minimum w ↦ omega (arith, w.hi-is, B.past, B.within) | else-h-minimum w ↦ omega (arith, w.hi-is, B.block_end, c.loop-k-test.true) ]
 
 pub exchange-requires : goal.exchange-requires
 exchange-requires c = omega (arith, end_below c.before, c.loop-k-test.true, c.loop-k.invariant.0.listed.size)

@@ -91,7 +91,7 @@ bounds-v-j c = omega (arith, facts c.before.before.before)
 pub lowered-x-requires : goal.lowered-x-requires
 lowered-x-requires c =
     let j = get_or c.loop-k.room (c.args.n + c.loop-k.k) 0 in (
-      subst (Within near) (sym (read_back w64 (signed_at c.args.v.now j) c.lowered-arg-in-loop-k-1.given)) (c.requires.0.prices_near_lem j),
+      subst (Within near) (sym (read_back w64 (signed_at c.args.v.now j) c.lowered-arg-in-loop-k-1.given)) (c.requires.0.prices_near j),
       subst (Within (4 * near)) (sym (to_z-of_z c.ranges.h)) c.requires.3,
     )
 

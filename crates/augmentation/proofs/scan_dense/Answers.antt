@@ -81,10 +81,10 @@ row_size c =
     ap length c.row-costs_of_row.ensures ∙ row_length _ _ _ f.row f.sizes.4
 
 -- the block's minimum, at the column as code reads it
-minimum-near : (s : Lts.Start Tie.the-claims Reads.Pre Reads.Post) → let u = s.args in Within (2 * near) (signed_at u.d.now (get_or u.room.now (u.n + u.cursor.lo) 0))
-minimum-near s =
+minimum_near : (s : Lts.Start Tie.the-claims Reads.Pre Reads.Post) → let u = s.args in Within (2 * near) (signed_at u.d.now (get_or u.room.now (u.n + u.cursor.lo) 0))
+minimum_near s =
     subst (λ (j : ℕ). Within (2 * near) (signed_at s.args.d.now j))
-    (sym (column_at s.args.n s.args.room.now s.args.cursor.lo s.requires.place.0)) s.requires.minimum-near
+    (sym (column_at s.args.n s.args.room.now s.args.cursor.lo s.requires.place.0)) s.requires.minimum_near
 
 -- what the row has to spare, as the definition has it
 spare : (c : Lts.After-lowered Tie.the-claims Reads.Pre Reads.Post)
@@ -109,9 +109,9 @@ bounds-v-j c = omega (arith, facts c.before.before.before.before.before.before.b
 pub lowered-h-requires : goal.lowered-h-requires
 lowered-h-requires c =
     let j = get_or c.args.room.now (c.args.n + c.args.cursor.lo) 0 in (
-      subst (Within near) (sym (read_back w64 (signed_at c.args.v.now j) c.lowered-arg-2-1.given)) (c.requires.lent.prices_near_lem j),
+      subst (Within near) (sym (read_back w64 (signed_at c.args.v.now j) c.lowered-arg-2-1.given)) (c.requires.lent.prices_near j),
       subst (Within (4 * near)) (sym (read_back w64 (signed_at c.args.d.now j) c.minimum-1.given))
-          (within_mono (omega arith) (minimum-near c.before.before.before.before.before.before.before.before.before)),
+          (within_mono (omega arith) (minimum_near c.before.before.before.before.before.before.before.before.before)),
     )
 
 pub lower_columns-requires : goal.lower_columns-requires
@@ -123,7 +123,7 @@ lower_columns-requires c =
       c.requires.place.1,
       subst (Within (4 * near)) (sym (spare c.before.before.before))
           (spare_near (signed_at c.row-costs_of_row.result.now j) (signed_at c.args.v.now j) (to_z w64 (of_z w64 (signed_at c.args.d.now j)))
-          (record { sfits = c.lowered-arg-1.given }) (c.requires.lent.prices_near_lem j) (subst (Within (2 * near)) (sym m) (minimum-near c.before.before.before.before.before.before.before.before.before.before.before.before))),
+          (record { sfits = c.lowered-arg-1.given }) (c.requires.lent.prices_near j) (subst (Within (2 * near)) (sym m) (minimum_near c.before.before.before.before.before.before.before.before.before.before.before.before))),
     )
 
 pub returns : goal.returns

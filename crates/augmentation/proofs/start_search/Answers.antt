@@ -12,7 +12,7 @@ row-requires c = (c.requires.start_below, c.requires.costs_size)
 pub first_distances-requires : goal.first_distances-requires
 first_distances-requires c =
     let p = c.requires in
-    (ap length c.row.ensures ∙ row_length _ _ _ p.start_below p.costs_size, p.prices_size, p.distances_size, p.prices_near_lem)
+    (ap length c.row.ensures ∙ row_length _ _ _ p.start_below p.costs_size, p.prices_size, p.distances_size, p.prices_near)
 
 pub returns : goal.returns
 returns c =

@@ -86,7 +86,7 @@ bounds-v-j c = omega (arith, facts c.before.before.before)
 pub reduced_cost-requires : goal.reduced_cost-requires
 reduced_cost-requires c =
     let j = at c.args.cols.now c.loop-i.i in
-    rw (read_back w64 (signed_at c.args.v.now j) (omega arith)) (c.requires.prices_near_lem j (facts c.before.before.before.before).column)
+    rw (read_back w64 (signed_at c.args.v.now j) (omega arith)) (c.requires.prices_near j (facts c.before.before.before.before).column)
 
 pub offset_bounds-row_prices-i : goal.offset_bounds-row_prices-i
 offset_bounds-row_prices-i c = omega (arith, facts c.before.before.before.before.before)

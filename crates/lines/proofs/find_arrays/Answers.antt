@@ -30,7 +30,7 @@ find_second-requires c =
       column_prices = h.column_prices;
       listed = h.listed;
       shown = h.shown;
-      list_long_lem = omega (arith, h.fewer, h.few);
+      list_long = omega (arith, h.fewer, h.few);
       indices_long = omega (arith, h.few);
       numbers_long = omega (arith, h.few);
     })

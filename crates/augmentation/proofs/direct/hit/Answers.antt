@@ -24,7 +24,7 @@ row_size : (c : Lts.After-row Tie.the-claims Reads.Pre Reads.Post) → length c.
 row_size c = let p = c.requires in ap length c.row-own.ensures ∙ row_length _ _ _ p.start_below p.costs_size
 
 priced : (c : Lts.After-row Tie.the-claims Reads.Pre Reads.Post) → Priced c.row-own.result.now c.args.v.now
-priced c = let p = c.requires in record { prices_size = p.prices_size ∙ sym (row_size c); prices_near_lem = p.prices_near_lem }
+priced c = let p = c.requires in record { prices_size = p.prices_size ∙ sym (row_size c); prices_near = p.prices_near }
 
 pub least_of-least-requires : goal.least_of-least-requires
 least_of-least-requires c =

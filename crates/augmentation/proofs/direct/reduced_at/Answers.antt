@@ -7,7 +7,7 @@ use Rattle.augmentation.proofs.direct.reduced_at.Goals as goal
 
 pub reduced_cost-requires : goal.reduced_cost-requires
 reduced_cost-requires c =
-    rw (read_back w64 (signed_at c.args.v.now c.args.j) c.reduced_cost-arg-2-1.given) (c.requires.0.prices_near_lem c.args.j)
+    rw (read_back w64 (signed_at c.args.v.now c.args.j) c.reduced_cost-arg-2-1.given) (c.requires.0.prices_near c.args.j)
 
 pub returns : goal.returns
 returns c =
