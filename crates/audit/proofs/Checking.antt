@@ -18,17 +18,18 @@ use Rattle.assignment.proofs.Duality.{prices_least}
 use Rattle.bars.specs.Barred.{night_of}
 use Rattle.bars.proofs.Passed.{unbarred_iff}
 use Rattle.matrix.specs.Verdicts.{Passes, ◌then◌, fails_if}
-use Rattle.matrix.specs.declared.Refusal.{Refusal}
-use Rattle.matrix.specs.declared.Verdict.TheVariants.{Fails}
+use Rattle.matrix.specs.declared.refusals.Refusal.{Refusal}
+use Rattle.std.specs.Prelude.{Err}
 use Rattle.matrix.proofs.Passed.{columns_inside_lem}
 use Rattle.matrix.proofs.Verdicts.{then_iff, fails_then, passed_then}
 use Rattle.checker.specs.Proven.{Fair}
 use Rattle.checker.specs.Tests.{differ}
 use Rattle.checker.proofs.Tests.{price_tests_iff, columns_once_lem, spares_not_below_lem}
 use Rattle.audit.specs.Asked.{LeastTotal}
-use Rattle.audit.specs.Audit.{SlipWrong, proof_tests, slip_tests, total_right, audited_by}
-use Rattle.audit.specs.declared.Audited.{Audited}
-use Rattle.audit.specs.declared.Audited.TheVariants.{Refused}
+use Rattle.audit.specs.Audit.{proof_tests, slip_tests, total_right, audited_by}
+use Rattle.matrix.specs.declared.refusals.Reason.TheVariants.{SlipWrong}
+use Rattle.audit.specs.Audit.{Audited}
+use Rattle.std.specs.Prelude.{Ok, Err}
 use Rattle.audit.proofs.Slips.{audited_fails}
 
 -- A list that is read over all of a room is what the room then holds.
@@ -120,8 +121,8 @@ module _ (m n : ℕ) (costs : List ℤ) (bars slip : List ℕ) where
   slip_least_total e t s = record { cols = slip_columns m slip; least = slip_least e; totals = s }
 
   -- What is told of it, where the tests refuse it and where they do not.
-  pub refused_slip : {refusal : Refusal} → slip_tests m n costs bars slip ≡ Fails refusal
-      → Refused refusal ≡ audited_by m n slip (slip_tests m n costs bars slip then total_right m n costs bars slip)
+  pub refused_slip : {refusal : Refusal} → slip_tests m n costs bars slip ≡ Err refusal
+      → Err refusal ≡ audited_by m n slip (slip_tests m n costs bars slip then total_right m n costs bars slip)
   refused_slip f = audited_fails m n slip (sym (fails_then (total_right m n costs bars slip) f))
 
   pub accepted_slip : Passes (slip_tests m n costs bars slip) → (t : ℤ) → t ≡ total (night_of m n costs bars) (slip_columns m slip)

@@ -17,15 +17,15 @@ use Rattle.assignment.specs.Pairings.{total}
 use Rattle.bars.specs.Barred.{night_of}
 use Rattle.matrix.specs.Limits.{sheet_side}
 use Rattle.matrix.specs.Verdicts.{Passes}
-use Rattle.matrix.specs.declared.Verdict.{Verdict}
-use Rattle.matrix.specs.declared.Verdict.TheVariants.{Passed, Fails}
+use Rattle.matrix.specs.Verdicts.{Verdict}
+use Rattle.std.specs.Prelude.{Ok, Err}
 use Rattle.matrix.proofs.Verdicts.{then_iff, fails_if_iff}
 use Rattle.checker.proofs.Places.{differ_same}
 use Rattle.sheet.specs.Reading.{Laid, laid_of, rows_of, unknown, sheet_tests, night_tests, night_if, night_tested, refused, night, read_if, read}
 use Rattle.sheet.proofs.Editions.{count-short}
 use Rattle.sheet.proofs.Passing.{rows_passed}
 use Rattle.audit.specs.Audit.{unlike, slip_tests, audit_tests, audited_by, audited_as, audit}
-use Rattle.audit.specs.declared.Audited.TheVariants.{Holds}
+use Rattle.audit.specs.Audit.{holds}
 
 -- ---- a slip as it is written
 
@@ -98,15 +98,15 @@ module _ (room : ℕ) (sheet : List ℕ) (laid : Laid) (e : read room sheet ≡ 
   read_passed = by (sheet_tests room sheet) refl e
     where
       by : (v : Verdict) → sheet_tests room sheet ≡ v → read_if sheet v ≡ night laid → Passes (sheet_tests room sheet) × (night_tested (laid_of sheet) ≡ night laid)
-      by (Fails refusal) g h = absurd (refused_not_night h)
-      by Passed g h = (g, h)
+      by (Err refusal) g h = absurd (refused_not_night h)
+      by (Ok _) g h = (g, h)
 
   laid_is : laid_of sheet ≡ laid
   laid_is = by (night_tests (laid_of sheet)) read_passed.1
     where
       by : (v : Verdict) → night_if (laid_of sheet) v ≡ night laid → laid_of sheet ≡ laid
-      by Passed h = cc h
-      by (Fails refusal) h = absurd (refused_not_night h)
+      by (Ok _) h = cc h
+      by (Err refusal) h = absurd (refused_not_night h)
 
   pub read_edition : laid.edition < 256 ^ 2
   unfolding sheet_tests
@@ -142,7 +142,7 @@ module _ (sheet slip : List ℕ) (laid : Laid) (e : read (slip_length 3 sheet_si
   side = laid.side
 
   pub accepted_holds : unlike laid.edition rows side slip ≡ false → Passes (slip_tests rows side laid.costs laid.bars slip)
-      → slip_total rows side slip ≡ total (night_of rows side laid.costs laid.bars) (slip_columns rows slip) → audit sheet slip ≡ Holds side (slip_total rows side slip)
+      → slip_total rows side slip ≡ total (night_of rows side laid.costs laid.bars) (slip_columns rows slip) → audit sheet slip ≡ holds side (slip_total rows side slip)
   unfolding audit audit_tests
   accepted_holds like passed same = ap (audited_as slip) e ∙ ap (audited_by rows side slip) all
     where

@@ -1,4 +1,5 @@
 pub mod Slips
+pub mod Form
 pub mod Checking
 pub mod Nights
 pub mod Determined

@@ -9,14 +9,14 @@ use borrow.Author.Tests.{eqb-true, not-false}
 use Rattle.layout.specs.Slips.{slip_length}
 use Rattle.matrix.specs.Limits.{sheet_side}
 use Rattle.matrix.specs.Verdicts.{Passes, ◌then◌, fails_if}
-use Rattle.matrix.specs.declared.Refusal.{Refusal}
-use Rattle.matrix.specs.declared.Verdict.{Verdict}
-use Rattle.matrix.specs.declared.Verdict.TheVariants.{Passed, Fails}
+use Rattle.matrix.specs.declared.refusals.Refusal.{Refusal}
+use Rattle.matrix.specs.Verdicts.{Verdict}
+use Rattle.std.specs.Prelude.{Ok, Err}
 use Rattle.matrix.proofs.Verdicts.{then_iff, fails_then}
 use Rattle.sheet.specs.Reading.{Laid, laid_of, sheet_tests, night_tests, night_tested, read}
-use Rattle.audit.specs.Audit.{SlipWrong, unlike, slip_tests, total_right, audit_tests, audited_by, audited_as, audit}
-use Rattle.audit.specs.declared.Audited.{Audited}
-use Rattle.audit.specs.declared.Audited.TheVariants.{Refused}
+use Rattle.audit.specs.Audit.{unlike, slip_tests, total_right, audit_tests, audited_by, audited_as, audit}
+use Rattle.matrix.specs.declared.refusals.Reason.TheVariants.{SlipWrong}
+use Rattle.audit.specs.Audit.{Audited}
 use Rattle.audit.proofs.Slips.{audited_fails}
 
 or_neither : (a b : Bool) → (a || b) ≡ false → a ≡ false
@@ -44,31 +44,30 @@ module _ (laid : Laid) (slip : List ℕ) where
   abbrev rest : Verdict
   rest = slip_tests m n laid.costs laid.bars slip then total_right m n laid.costs laid.bars slip
 
-  night_fails : {refusal : Refusal} → night_tests laid ≡ Fails refusal → Refused refusal ≡ audited_as slip (night_tested laid)
+  night_fails : {refusal : Refusal} → night_tests laid ≡ Err refusal → Err refusal ≡ audited_as slip (night_tested laid)
   night_fails e = rw e refl
 
   module _ (passed : Passes (night_tests laid)) where
     night_passes : audited_as slip (night_tested laid) ≡ audited_by m n slip (audit_tests laid slip)
     night_passes = rw passed refl
 
-    form_fails : {refusal : Refusal} → formed ≡ Fails refusal → Refused refusal ≡ audited_as slip (night_tested laid)
+    form_fails : {refusal : Refusal} → formed ≡ Err refusal → Err refusal ≡ audited_as slip (night_tested laid)
     unfolding audit_tests
     form_fails e = audited_fails m n slip (sym (fails_then _ (sym (fails_then _ e)))) ∙ sym night_passes
 
     form_passes : Passes formed → (r : Audited) → r ≡ audited_by m n slip rest → r ≡ audited_as slip (night_tested laid)
-    unfolding audit_tests ◌then◌
+    unfolding audit_tests
     form_passes e r f =
         f ∙ ap (λ (v : Verdict). audited_by m n slip (v then slip_tests m n laid.costs laid.bars slip then total_right m n laid.costs laid.bars slip)) (sym e)
         ∙ sym night_passes
 
   -- 5, 22 and 25, refused and passed.
-  pub tests_fail : {refusal : Refusal} → (night_tests laid then formed) ≡ Fails refusal → Refused refusal ≡ audited_as slip (night_tested laid)
-  unfolding ◌then◌
+  pub tests_fail : {refusal : Refusal} → (night_tests laid then formed) ≡ Err refusal → Err refusal ≡ audited_as slip (night_tested laid)
   tests_fail {refusal} e = by (night_tests laid) refl e
     where
-      by : (v : Verdict) → night_tests laid ≡ v → (v then formed) ≡ Fails refusal → Refused refusal ≡ audited_as slip (night_tested laid)
-      by Passed p f = form_fails p f
-      by (Fails other) p f = night_fails (p ∙ f)
+      by : (v : Verdict) → night_tests laid ≡ v → (v then formed) ≡ Err refusal → Err refusal ≡ audited_as slip (night_tested laid)
+      by (Ok _) p f = form_fails p f
+      by (Err other) p f = night_fails (p ∙ f)
 
   pub tests_pass : Passes (night_tests laid then formed) → (r : Audited) → r ≡ audited_by m n slip rest → r ≡ audited_as slip (night_tested laid)
   tests_pass e = let t = (then_iff _ _).0 e in form_passes t.0 t.1
@@ -79,7 +78,7 @@ module _ (sheet slip : List ℕ) where
   abbrev tests : Verdict
   tests = sheet_tests (slip_length 3 sheet_side sheet_side) sheet
 
-  pub sheet_fails : {refusal : Refusal} → tests ≡ Fails refusal → Refused refusal ≡ audit sheet slip
+  pub sheet_fails : {refusal : Refusal} → tests ≡ Err refusal → Err refusal ≡ audit sheet slip
   unfolding audit read
   sheet_fails e = rw e refl
 

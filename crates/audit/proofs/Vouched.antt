@@ -1,24 +1,24 @@
 -- What the auditor's tool accepts: a slip whose pairing is least and whose total is its total; a slip with another total is refused. Assumes nothing.
-use mathlib.Core.Path.{◌≡◌, refl, sym, ◌∙◌, subst}
+use mathlib.Core.Path.{◌≡◌, refl, sym, ap, ◌∙◌, subst}
 use mathlib.Core.List.{List}
 use Prim.Native.Nat.{ℕ}
 use native.Mathlib.Omega.{arith}
-use lib.IntN.{ℤ}
+use lib.IntN.{ℤ, pos}
 use Rattle.ints.proofs.Ranges.{zarith}
 use Rattle.layout.specs.Slips.{slip_length, slip_columns, slip_total}
 use Rattle.assignment.specs.Pairings.{Night, Least, total}
 use Rattle.bars.specs.Barred.{night_of}
 use Rattle.matrix.specs.Limits.{sheet_side}
 use Rattle.matrix.specs.Verdicts.{Passes}
-use Rattle.matrix.specs.declared.Refusal.{Refusal}
-use Rattle.matrix.specs.declared.Verdict.{Verdict}
-use Rattle.matrix.specs.declared.Verdict.TheVariants.{Passed, Fails}
+use Rattle.matrix.specs.declared.refusals.Refusal.{Refusal}
+use Rattle.matrix.specs.Verdicts.{Verdict}
+use Rattle.std.specs.Prelude.{Ok, Err}
 use Rattle.matrix.proofs.Verdicts.{then_iff, fails_if_iff}
 use Rattle.checker.proofs.Places.{differ_false}
 use Rattle.sheet.specs.Reading.{Laid, Read, refused, night, read}
 use Rattle.audit.specs.Audit.{audit_tests, audited_by, audited_as, audit}
-use Rattle.audit.specs.declared.Audited.{Audited}
-use Rattle.audit.specs.declared.Audited.TheVariants.{Holds, Refused}
+use Rattle.audit.specs.Audit.{Audited}
+use Rattle.audit.specs.Audit.{holds}
 use Rattle.audit.proofs.Checking.{slip_least}
 
 -- A sheet's night.
@@ -38,8 +38,17 @@ pub record Vouched (sheet slip : List ℕ) (n : ℕ) (t : ℤ) : Type 0 where
   pub least : Least (night_on laid) (slip_columns laid.row_count slip)
   pub totals : t ≡ total (night_on laid) (slip_columns laid.row_count slip)
 
-refused_not_holds : {refusal : Refusal} {n : ℕ} {t : ℤ} → Refused refusal ≡ Holds n t → ⊥
+refused_not_holds : {refusal : Refusal} {n : ℕ} {t : ℤ} → Err refusal ≡ holds n t → ⊥
 refused_not_holds e = let z : ◌≡◌ {A = ℕ} 0 1 = cc e in omega arith
+
+-- the side and the total that are told
+abbrev side_told : Audited → ℕ
+side_told (Ok held) = held.side
+side_told (Err refusal) = 0
+
+abbrev total_told : Audited → ℤ
+total_told (Ok held) = held.total
+total_told (Err refusal) = pos 0
 
 tests_right : (laid : Laid) (slip : List ℕ) → Passes (audit_tests laid slip)
     → Least (night_on laid) (slip_columns laid.row_count slip) × (slip_total laid.row_count laid.side slip ≡ total (night_on laid) (slip_columns laid.row_count slip))
@@ -50,23 +59,23 @@ tests_right laid slip e =
     (slip_least laid.row_count laid.side laid.costs laid.bars slip a.1, differ_false _ _ ((fails_if_iff _ _ _).0 b.1))
 
 module _ (sheet slip : List ℕ) where
-  pub holds_vouched : (n : ℕ) (t : ℤ) → audit sheet slip ≡ Holds n t → Vouched sheet slip n t
+  pub holds_vouched : (n : ℕ) (t : ℤ) → audit sheet slip ≡ holds n t → Vouched sheet slip n t
   unfolding audit
   holds_vouched n t e = by (read (slip_length 3 sheet_side sheet_side) sheet) refl e
     where
-      by_tests : (laid : Laid) → Reads sheet laid → (v : Verdict) → audit_tests laid slip ≡ v → audited_by laid.row_count laid.side slip v ≡ Holds n t → Vouched sheet slip n t
-      by_tests laid r (Fails refusal) f g = absurd (refused_not_holds g)
-      by_tests laid r Passed f g =
+      by_tests : (laid : Laid) → Reads sheet laid → (v : Verdict) → audit_tests laid slip ≡ v → audited_by laid.row_count laid.side slip v ≡ holds n t → Vouched sheet slip n t
+      by_tests laid r (Err refusal) f g = absurd (refused_not_holds g)
+      by_tests laid r (Ok _) f g =
           let w = tests_right laid slip f in
-          let said : slip_total laid.row_count laid.side slip ≡ t = cc g in
-          record { laid = laid; reads = r; side_is = sym (cc g); said = sym said; least = w.0; totals = sym said ∙ w.1 }
+          let said : slip_total laid.row_count laid.side slip ≡ t = ap total_told g in
+          record { laid = laid; reads = r; side_is = sym (ap side_told g); said = sym said; least = w.0; totals = sym said ∙ w.1 }
 
-      by : (x : Read) → read (slip_length 3 sheet_side sheet_side) sheet ≡ x → audited_as slip x ≡ Holds n t → Vouched sheet slip n t
+      by : (x : Read) → read (slip_length 3 sheet_side sheet_side) sheet ≡ x → audited_as slip x ≡ holds n t → Vouched sheet slip n t
       by (refused refusal) r f = absurd (refused_not_holds f)
       by (night laid) r f = by_tests laid r (audit_tests laid slip) refl f
 
   -- "it accepts ⇒ the slip's total is the least total of the sheet's night".
-  pub holds_least : (n : ℕ) (t : ℤ) → audit sheet slip ≡ Holds n t → (laid : Laid) → Reads sheet laid → (other : List ℕ) → Least (night_on laid) other
+  pub holds_least : (n : ℕ) (t : ℤ) → audit sheet slip ≡ holds n t → (laid : Laid) → Reads sheet laid → (other : List ℕ) → Least (night_on laid) other
       → t ≡ total (night_on laid) other
   holds_least n t e laid r other o =
       let v = holds_vouched n t e in
@@ -81,12 +90,14 @@ module _ (sheet slip : List ℕ) where
 
   -- "a slip with any other total is refused".
   pub other_total_refused : (laid : Laid) → Reads sheet laid → (other : List ℕ) → Least (night_on laid) other
-      → (slip_total laid.row_count laid.side slip ≡ total (night_on laid) other → ⊥) → (refusal : Refusal) × (audit sheet slip ≡ Refused refusal)
+      → (slip_total laid.row_count laid.side slip ≡ total (night_on laid) other → ⊥) → (refusal : Refusal) × (audit sheet slip ≡ Err refusal)
   other_total_refused laid r other o wrong = by (audit sheet slip) refl
     where
-      by : (x : Audited) → audit sheet slip ≡ x → (refusal : Refusal) × (audit sheet slip ≡ Refused refusal)
-      by (Refused refusal) e = (refusal, e)
-      by (Holds n t) e =
+      by : (x : Audited) → audit sheet slip ≡ x → (refusal : Refusal) × (audit sheet slip ≡ Err refusal)
+      by (Err refusal) e = (refusal, e)
+      by (Ok held) e =
+          let n = held.side in
+          let t = held.total in
           let v = holds_vouched n t e in
           let same : v.laid ≡ laid = cc (sym v.reads ∙ r) in
           absurd (wrong (subst (λ (x : Laid). slip_total x.row_count x.side slip ≡ t) same (sym v.said) ∙ holds_least n t e laid r other o))

@@ -4,13 +4,13 @@ use Rattle.assignment.specs.Pairings.{Least, total}
 use Rattle.bars.specs.Barred.{night_of}
 use Rattle.matrix.specs.Limits.{sheet_side}
 use Rattle.matrix.specs.Asked.{Tellable}
-use Rattle.audit.specs.declared.Audited.{Audited}
-use Rattle.audit.specs.declared.Audited.TheVariants.{Holds, Refused}
+use Rattle.audit.specs.Audit.{Audited}
+use Rattle.std.specs.Prelude.{Ok, Err}
 
 -- What an audit answers can be told by one number.
 abbrev pub TellableAudited : Audited → Type 0
-TellableAudited (Holds side total) = Unit {0}
-TellableAudited (Refused refusal) = Tellable refusal
+TellableAudited (Ok held) = Unit {0}
+TellableAudited (Err refusal) = Tellable refusal
 
 -- A total that is the least of a night.
 pub record LeastTotal (m n : ℕ) (costs : List ℤ) (bars : List ℕ) (t : ℤ) : Type 0 where

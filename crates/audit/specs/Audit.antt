@@ -9,17 +9,21 @@ use Rattle.bars.specs.Tests.{unbarred}
 use Rattle.matrix.specs.Limits.{sheet_side}
 use Rattle.matrix.specs.Tests.{columns_inside}
 use Rattle.matrix.specs.Verdicts.{◌then◌, fails_if}
-use Rattle.matrix.specs.declared.Verdict.{Verdict}
-use Rattle.matrix.specs.declared.Verdict.TheVariants.{Passed, Fails}
+use Rattle.matrix.specs.Verdicts.{Verdict}
+use Rattle.std.specs.Prelude.{Result, Ok, Err}
 use Rattle.checker.specs.Check.{price_tests}
 use Rattle.checker.specs.Tests.{columns_once, spares_not_below, differ}
 use Rattle.sheet.specs.Reading.{Laid, Read, refused, night, read}
-use Rattle.audit.specs.declared.Audited.{Audited}
-use Rattle.audit.specs.declared.Audited.TheVariants.{Holds, Refused}
+use Rattle.matrix.specs.declared.refusals.Reason.TheVariants.{SlipWrong}
+use Rattle.matrix.specs.declared.refusals.Refusal.{Refusal}
+use Rattle.audit.specs.declared.Confirmed.{Confirmed}
 
--- "a slip of wrong length, trailer, edition, side, row count or total"
-abbrev pub SlipWrong : ℕ
-SlipWrong = 25
+-- What the auditor is told: side and total of a slip that holds, or the refusal.
+abbrev pub Audited : Type 0
+Audited = Result Confirmed Refusal
+
+abbrev pub holds : ℕ → ℤ → Audited
+holds side total = Ok (record { side = side; total = total })
 
 -- Whether bytes are no slip of this edition, of m rows and n columns: they have another length, another trailer or another row count.
 unfoldable pub unlike : ℕ → ℕ → ℕ → List ℕ → Bool
@@ -57,11 +61,11 @@ audit_tests laid slip =
 
 -- What is told: side and total, or the refusal.
 abbrev pub audited_by : ℕ → ℕ → List ℕ → Verdict → Audited
-audited_by m n slip Passed = Holds n (slip_total m n slip)
-audited_by m n slip (Fails refusal) = Refused refusal
+audited_by m n slip (Ok _) = holds n (slip_total m n slip)
+audited_by m n slip (Err refusal) = Err refusal
 
 abbrev pub audited_as : List ℕ → Read → Audited
-audited_as slip (refused refusal) = Refused refusal
+audited_as slip (refused refusal) = Err refusal
 audited_as slip (night laid) = audited_by laid.row_count laid.side slip (audit_tests laid slip)
 
 -- The tool, on the bytes of a sheet and of a slip: "(16 and 20 do not arise)", since a slip room for every edition and side is assumed, and no night

@@ -7,7 +7,6 @@ ghost use Rattle.lines.specs.Put.{Put};
 ghost use Rattle.audit.specs.Audit.{audit};
 ghost use Rattle.auditor.specs.Line.{audit_line};
 
-use audit::Audited;
 use std::alloc::Global;
 use std::env::{Env, FillError};
 use std::io::Read;
@@ -20,8 +19,8 @@ fn print(sheet: &[u8], slip: &[u8], out: &mut [u8]) -> usize
     ensures { Put out.old 0 (audit_line (audit sheet.now slip.now)) out.new result × (result ≤ 80) }
 {
     match audit::audit(sheet, slip) {
-        Audited::Refused(refusal) => lines::put_refused(out, refusal),
-        Audited::Holds(side, total) => lines::put_accepted(out, side, total),
+        Ok(held) => lines::put_accepted(out, held.side, held.total),
+        Err(refusal) => lines::put_refused(out, refusal),
     }
 }
 

@@ -1,27 +1,18 @@
 -- A direct hit, over plain variables: the least value as a loop finds it, the last place of a test as a loop finds it from the end, and what code
 -- reads of a reduced cost. Assumes nothing.
-use mathlib.Core.Path.{◌≡◌, refl, ap, ap₂, ◌∙◌}
+use mathlib.Core.Path.{◌≡◌, refl, ap, ◌∙◌}
 use mathlib.Core.Bool.{Bool, true, false, cond}
-use Prim.Native.Nat.{ℕ, ◌+◌, ◌^◌, ◌≤◌, ◌<◌}
+use Prim.Native.Nat.{ℕ, ◌+◌, ◌≤◌}
 use native.Mathlib.Numerals.{add-one}
-use native.Mathlib.Decide.{ℕ_discrete}
 use native.Mathlib.Omega.{arith}
-use lib.IntN.{ℤ, ◌-ℤ◌}
-use lib.Signed.{mag, lt_z, ◌≤ℤ◌}
-use mir.Syntax.{w32, w64}
-use mir.Val.{to_z, of_z}
-use Rattle.ints.proofs.Bits.{read_back}
+use lib.IntN.{ℤ}
+use lib.Signed.{lt_z, ◌≤ℤ◌}
 use Rattle.ints.proofs.Ranges.{zarith}
 use Rattle.lists.proofs.Runs.{upward_none, upward-last}
 use Rattle.lists.proofs.Cases.{cond_cases}
 use Rattle.rules.specs.declared.Low.{Low}
 use Rattle.rules.specs.Lowest.{low, lower, lowest}
-use Rattle.augmentation.specs.DirectHit.{lesser, least_of_four, LastOf}
-
--- r is what `reduced_cost` answers at a cost x and a price y that were read from slices.
-pub reduced_back : (x y r : ℤ) → mag x < 2 ^ 31 → mag y < 2 ^ 63 → mag r < 2 ^ 63 → r ≡ to_z w32 (of_z w32 x) -ℤ to_z w64 (of_z w64 y)
-    → to_z w64 (of_z w64 r) ≡ x -ℤ y
-reduced_back x y r hx hy hr e = read_back w64 r hr ∙ e ∙ ap₂ ◌-ℤ◌ (read_back w32 x hx) (read_back w64 y hy)
+use Rattle.augmentation.specs.DirectHit.{lesser, least_of_four}
 
 -- ---- the least value
 
@@ -78,28 +69,3 @@ module _ (f : ℕ → ℤ) where
       let e4 : (lowest (j + 4) f).value ≡ lesser (lesser (lesser (lesser m a) b) c) d =
       ap (λ (k : ℕ). (lowest k f).value) s4 ∙ least_more (j + 3) (omega arith) ∙ ap (λ (z : ℤ). lesser z d) e3 in
       e4 ∙ lesser_assoc (lesser (lesser m a) b) c d ∙ ap (λ (z : ℤ). lesser z (lesser c d)) (lesser_assoc m a b) ∙ lesser_assoc m (lesser a b) (lesser c d)
-
--- ---- the last place of a test
-
-module _ (n : ℕ) (test : ℕ → Bool) where
-  -- The test holds at none of the last `count` places.
-  pub record Passed (count : ℕ) : Type 0 where
-    pub most : count ≤ n
-    pub fails : (k : ℕ) → k < n → n ≤ k + count → test k ≡ false
-
-  pub none_passed : Passed 0
-  none_passed = record { most = omega arith; fails = λ k l h. absurd (omega arith) }
-
-  -- Column j comes before the last `count` places.
-  module _ (count : ℕ) (P : Passed count) (j : ℕ) (before : j + count + 1 ≡ n) where
-    pub one_more_passed : test j ≡ false → Passed (count + 1)
-    one_more_passed e = record {
-      most = omega arith;
-      fails = λ k m h. elim (ℕ_discrete k j) [ yes z ↦ ap test z ∙ e | no z ↦ P.fails k m (omega arith) ];
-    }
-
-    pub last_found : test j ≡ true → LastOf n test j
-    last_found e = record { most = omega arith; holds = λ m. e; after = λ k m h. P.fails k m (omega (arith, h (omega arith))) }
-
-  pub none_found : (count : ℕ) → Passed count → n ≤ count → LastOf n test n
-  none_found count P l = record { most = omega arith; holds = λ m. absurd (omega arith); after = λ k m h. P.fails k m (omega arith) }

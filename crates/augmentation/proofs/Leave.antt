@@ -1,20 +1,18 @@
 -- Where the search is left: what was found is what the search finds, and the prices can be changed. Assumes nothing.
 use mathlib.Core.Path.{◌≡◌, sym, ap, ◌∙◌, subst}
 use mathlib.Core.List.{List}
-use Prim.Native.Nat.{ℕ, ◌+◌, ◌-◌}
+use Prim.Native.Nat.{ℕ}
 use lib.IntN.{ℤ}
-use lib.ListN.{length, take, drop}
+use lib.ListN.{length}
 use Rattle.lists.specs.Runs.{Turn, left}
-use Rattle.lists.specs.Permutations.{at, Permutation}
+use Rattle.lists.specs.Permutations.{at}
 use Rattle.assignment.specs.Pairings.{signed_at, square}
 use Rattle.rules.specs.Lowest.{reduced, lowest}
 use Rattle.rules.specs.Search.{Work, work_of, Found, found, search_blocks, search, found_at, new_prices}
 use Rattle.rules.proofs.Scan.{Sound}
 use Rattle.rules.proofs.Search.{Good, search_left, search_good}
 use Rattle.rules.proofs.Augment.{floor_under}
-use Rattle.augmentation.specs.Room.{list_in, predecessors_in, room_with}
 use Rattle.augmentation.specs.Search.{CanSearch, CanChange, Started, Searched, ready_at}
-use Rattle.augmentation.proofs.Room.{list_length, predecessors_length, room_length, list_of, room_room, lent_list}
 use Rattle.augmentation.proofs.Loops.{one, distances_near, Leaving}
 
 module _ (n : ℕ) (costs : List ℤ) (rows : List ℕ) (start : ℕ) (v : List ℤ) where
@@ -28,10 +26,10 @@ module _ (n : ℕ) (costs : List ℤ) (rows : List ℕ) (start : ℕ) (v : List 
   blocks m w = search_blocks n cost (signed_at v) (at rows) m w
 
   module _ (C : CanSearch n costs rows start v) where
-    module _ {room₀ : List ℕ} {d₁ : List ℤ} {room₁ : List ℕ} (size : length room₀ ≡ n + n + n + n) (T : Started n costs start v room₀ d₁ room₁)
-        {d : List ℤ} {room : List ℕ} {lo m column : ℕ} (L : Leaving n costs rows start v d₁ room₁ d room lo m column) where
+    module _ {d₁ : List ℤ} {list₁ predecessors₁ : List ℕ} (T : Started n costs start v d₁ list₁ predecessors₁) {d : List ℤ} {list predecessors : List ℕ} {lo m column : ℕ}
+        (L : Leaving n costs rows start v d₁ list₁ predecessors₁ d list predecessors lo m column) where
       abbrev f : Found
-      f = found lo (record { lo = lo; hi = L.end }) column (work_of L.hi L.list d L.predecessors m)
+      f = found lo (record { lo = lo; hi = L.end }) column (work_of L.hi list d predecessors m)
 
       left_same : (x y : Found) → ◌≡◌ {A = Turn Work Found} (left x) (left y) → x ≡ y
       left_same x y e = ap (found_at) e
@@ -53,38 +51,25 @@ module _ (n : ℕ) (costs : List ℤ) (rows : List ℕ) (start : ℕ) (v : List 
       S : Sound n cost (signed_at v) (at rows) start floor f.work
       S = good.1.sound
 
-      pub leave_long : length room ≡ n + n + n + n
-      leave_long = ap length L.room_is ∙ room_length n room₁ L.room_size L.list L.predecessors S.permutation.size S.predecessors_size
-
-      pub leave_distances : length d ≡ n
-      leave_distances = S.distances_size
-
-      lent_list_is : take (n + n - n) (drop n room) ≡ L.list
-      lent_list_is =
-          lent_list n room ∙ ap (list_in n) L.room_is ∙ list_of n room₁ L.room_size L.list L.predecessors S.permutation.size S.predecessors_size
-
       -- The prices can be changed.
-      pub can_change : CanChange (length v) lo (take (n + n - n) (drop n room)) d v
+      pub can_change : CanChange (length v) lo list d v
       can_change = rw C.prices_size (record {
         small = C.small;
         ready_below = good.1.ready_below;
-        listed = subst (Permutation n) (sym lent_list_is) S.permutation;
+        listed = S.permutation;
         distances_size = S.distances_size;
         distances_near = distances_near n costs rows start v C f.work S;
         prices_near = C.prices_near;
       })
 
-      pub searched : (v' : List ℤ) → v' ≡ new_prices (ready_at lo (take (n + n - n) (drop n room)) d) v
-          → Searched n (search n cost (signed_at v) (at rows) start) v room₀ (record { column = column; scanned = m }) v' d room
+      pub searched : (v' : List ℤ) → v' ≡ new_prices (ready_at lo list d) v
+          → Searched (search n cost (signed_at v) (at rows) start) v (record { column = column; scanned = m }) v' d list predecessors
       unfolding new_prices
       searched v' e = record {
         column = ap (λ (x : Found). x.column) found_is;
         scanned = ap (λ (x : Found). x.work.scanned) found_is;
-        prices = e ∙ ap (λ (l : List ℕ). new_prices (ready_at lo l d) v) lent_list_is ∙ ap (λ (x : Found). new_prices x v) found_is;
+        prices = e ∙ ap (λ (x : Found). new_prices x v) found_is;
         distances = ap (λ (x : Found). x.work.distances) found_is;
-        room_is =
-            L.room_is ∙ ap (room_with n L.list L.predecessors) T.frame
-            ∙ room_room n room₀ size (list_in n room₁) (predecessors_in n room₁) L.list L.predecessors (list_length n room₁ L.room_size)
-            (predecessors_length n room₁ L.room_size) S.permutation.size S.predecessors_size
-            ∙ ap (λ (x : Found). room_with n x.work.list x.work.predecessors room₀) found_is;
+        listed = ap (λ (x : Found). x.work.list) found_is;
+        predecessors_are = ap (λ (x : Found). x.work.predecessors) found_is;
       }

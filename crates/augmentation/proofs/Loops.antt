@@ -8,7 +8,7 @@ use lib.ListN.{length}
 use Rattle.ints.specs.Parts.{Within}
 use Rattle.lists.specs.Runs.{Turn, on, left}
 use Rattle.lists.specs.Permutations.{at}
-use Rattle.lists.proofs.Leaving.{Either, goes_on, is_left_lem}
+use Rattle.lists.proofs.Leaving.{Either, goes_on}
 use Rattle.assignment.specs.Pairings.{signed_at, square}
 use Rattle.matrix.specs.Limits.{near}
 use Rattle.rules.specs.Lowest.{reduced, lowest}
@@ -18,10 +18,10 @@ use Rattle.rules.proofs.Scans.{Counted}
 use Rattle.rules.proofs.Search.{Head}
 use Rattle.rules.proofs.Sizes.{within_everywhere}
 use Rattle.rules.proofs.Augment.{distances_within}
-use Rattle.rules.specs.declared.ScanEnd.TheVariants as ends
-use Rattle.augmentation.specs.Room.{room_with}
-use Rattle.augmentation.specs.Scan.{work_in, Seen, seen_in, seen}
-use Rattle.augmentation.specs.Search.{CanSearch}
+use Rattle.std.specs.declared.ops.ControlFlow.{ControlFlow}
+use Rattle.std.specs.declared.ops.ControlFlow.TheVariants.{Continue, Break}
+use Rattle.augmentation.specs.Scan.{Seen, seen_in, seen}
+use Rattle.augmentation.specs.Search.{CanSearch, Started}
 
 -- ---- what one row leaves, taken apart
 
@@ -29,26 +29,27 @@ as_work : (w : Work) {hi : ℕ} {list : List ℕ} {distances : List ℤ} {predec
     → predecessors ≡ w.predecessors → scanned ≡ w.scanned → w ≡ work_of hi list distances predecessors scanned
 as_work w a b c d e = rw (a, b, c, d, e)
 
-same_on : (e h : ℕ) → ends.On e ≡ ends.On h → e ≡ h
+same_on : (e h : ℕ) → ◌≡◌ {A = ControlFlow ℕ ℕ} (Continue e) (Continue h) → e ≡ h
 same_on e h q = cc
 
-same_hit : (j h : ℕ) → ends.Hit j ≡ ends.Hit h → j ≡ h
+same_hit : (j h : ℕ) → ◌≡◌ {A = ControlFlow ℕ ℕ} (Break j) (Break h) → j ≡ h
 same_hit j h q = cc
 
-on_is_no_hit : (e j : ℕ) → ends.On e ≡ ends.Hit j → ⊥
+on_is_no_hit : (e j : ℕ) → ◌≡◌ {A = ControlFlow ℕ ℕ} (Continue e) (Break j) → ⊥
 on_is_no_hit e j q = let z : ◌≡◌ {A = ℕ} 0 1 = cc in omega arith
 
-pub seen_on : (n e : ℕ) (d : List ℤ) (room : List ℕ) (m : ℕ) (t : Turn Work Hit) → seen_in (ends.On e) n d room m ≡ seen t → t ≡ on (work_in n e d room m)
-seen_on n e d room m (on w) q =
+pub seen_on : (e : ℕ) (list : List ℕ) (d : List ℤ) (predecessors : List ℕ) (m : ℕ) (t : Turn Work Hit) → seen_in (Continue e) list d predecessors m ≡ seen t
+    → t ≡ on (work_of e list d predecessors m)
+seen_on e list d predecessors m (on w) q =
     ap on
     (as_work w (same_on e w.hi (ap (λ (s : Seen). s.answer) q)) (ap (λ (s : Seen). s.list) q) (ap (λ (s : Seen). s.distances) q)
     (ap (λ (s : Seen). s.predecessors) q) (ap (λ (s : Seen). s.scanned) q))
-seen_on n e d room m (left h) q = absurd (on_is_no_hit e h.column (ap (λ (s : Seen). s.answer) q))
+seen_on e list d predecessors m (left h) q = absurd (on_is_no_hit e h.column (ap (λ (s : Seen). s.answer) q))
 
-pub seen_hit : (n j : ℕ) (d : List ℤ) (room : List ℕ) (m : ℕ) (t : Turn Work Hit) → seen_in (ends.Hit j) n d room m ≡ seen t
-    → (hi : ℕ) × (t ≡ left (record { column = j; work = work_in n hi d room m }))
-seen_hit n j d room m (on w) q = absurd (on_is_no_hit w.hi j (sym (ap (λ (s : Seen). s.answer) q)))
-seen_hit n j d room m (left h) q = (
+pub seen_hit : (j : ℕ) (list : List ℕ) (d : List ℤ) (predecessors : List ℕ) (m : ℕ) (t : Turn Work Hit) → seen_in (Break j) list d predecessors m ≡ seen t
+    → (hi : ℕ) × (t ≡ left (record { column = j; work = work_of hi list d predecessors m }))
+seen_hit j list d predecessors m (on w) q = absurd (on_is_no_hit w.hi j (sym (ap (λ (s : Seen). s.answer) q)))
+seen_hit j list d predecessors m (left h) q = (
   h.work.hi,
   ap₂ (λ (c : ℕ) (w : Work). left (record { column = c; work = w })) (sym (same_hit j h.column (ap (λ (s : Seen). s.answer) q)))
       (as_work h.work refl (ap (λ (s : Seen). s.list) q) (ap (λ (s : Seen). s.distances) q) (ap (λ (s : Seen). s.predecessors) q)
@@ -57,9 +58,6 @@ seen_hit n j d room m (left h) q = (
 
 pub either_on : {S R : Type 0} {P : S → Type 0} {Q : R → Type 0} {s : S} → Either P Q (on s) → P s
 either_on (goes_on p) = p
-
-pub either_left : {S R : Type 0} {P : S → Type 0} {Q : R → Type 0} {r : R} → Either P Q (left r) → Q r
-either_left (is_left_lem q) = q
 
 -- ---- the two loops
 
@@ -78,42 +76,35 @@ module _ (n : ℕ) (costs : List ℤ) (rows : List ℕ) (start : ℕ) (v : List 
   abbrev rest : ℕ → Work → Turn Work Hit
   rest k w = scan n cost (signed_at v) (at rows) k w
 
-  -- At the head of the search's loop, which began with d₀ and room₀: what is left of the search is the search.
-  pub record Between (d₀ : List ℤ) (room₀ : List ℕ) (d : List ℤ) (room : List ℕ) (hi scanned : ℕ) : Type 0 where
-    pub room_size : length room₀ ≡ n + n + n + n
-    pub list : List ℕ
-    pub predecessors : List ℕ
+  -- At the head of the search's loop, which began with d₀, list₀ and predecessors₀: what is left of the search is the search.
+  pub record Between (d₀ : List ℤ) (list₀ predecessors₀ : List ℕ) (d : List ℤ) (list predecessors : List ℕ) (hi scanned : ℕ) : Type 0 where
     pub fuel : ℕ
     pub enough : n ≤ fuel + hi
-    pub room_is : room ≡ room_with n list predecessors room₀
     pub head : Head n cost (signed_at v) (at rows) start floor (work_of hi list d predecessors scanned)
-    pub same : blocks fuel (work_of hi list d predecessors scanned) ≡ blocks n (work_in n 0 d₀ room₀ 0)
+    pub same : blocks fuel (work_of hi list d predecessors scanned) ≡ blocks n (work_of 0 list₀ d₀ predecessors₀ 0)
 
-  -- At the head of the scan's loop, which began with d₁, room₁, lo₁, hi₁ and scanned₁: what is left of the scan is the scan.
-  pub record InScan (d₁ : List ℤ) (room₁ : List ℕ) (lo₁ hi₁ scanned₁ : ℕ) (d : List ℤ) (room : List ℕ) (lo hi scanned : ℕ) : Type 0 where
-    pub room_size : length room₁ ≡ n + n + n + n
-    pub list : List ℕ
-    pub predecessors : List ℕ
+  -- At the head of the scan's loop, which began with d₁, list₁, predecessors₁, lo₁, hi₁ and scanned₁: what is left of the scan is the scan.
+  pub record InScan (d₁ : List ℤ) (list₁ predecessors₁ : List ℕ) (lo₁ hi₁ scanned₁ : ℕ) (d : List ℤ) (list predecessors : List ℕ) (lo hi scanned : ℕ) : Type 0 where
     pub minimum : ℤ
     pub place : lo ≤ hi
-    pub room_is : room ≡ room_with n list predecessors room₁
     pub counted : Counted n cost (signed_at v) (at rows) start floor lo₁ minimum lo (work_of hi list d predecessors scanned)
-    pub same : rest lo (work_of hi list d predecessors scanned) ≡ rest lo₁ (work_in n hi₁ d₁ room₁ scanned₁)
+    pub same : rest lo (work_of hi list d predecessors scanned) ≡ rest lo₁ (work_of hi₁ list₁ d₁ predecessors₁ scanned₁)
 
   -- The search is left, at a free column; `end` is where its last block ended.
-  pub record Leaving (d₀ : List ℤ) (room₀ : List ℕ) (d : List ℤ) (room : List ℕ) (lo scanned column : ℕ) : Type 0 where
-    pub list : List ℕ
-    pub predecessors : List ℕ
+  pub record Leaving (d₀ : List ℤ) (list₀ predecessors₀ : List ℕ) (d : List ℤ) (list predecessors : List ℕ) (lo scanned column : ℕ) : Type 0 where
     pub end : ℕ
     pub hi : ℕ
-    pub room_size : length room₀ ≡ n + n + n + n
-    pub room_is : room ≡ room_with n list predecessors room₀
-    pub same : blocks n (work_in n 0 d₀ room₀ 0) ≡ left (found lo (record { lo = lo; hi = end }) column (work_of hi list d predecessors scanned))
+    pub same : blocks n (work_of 0 list₀ d₀ predecessors₀ 0)
+        ≡ left (found lo (record { lo = lo; hi = end }) column (work_of hi list d predecessors scanned))
 
   -- A search that can be made has distances that are near.
   module _ (C : CanSearch n costs rows start v) where
     pub one : 1 ≤ n
     one = omega (arith, C.start_below)
+
+    -- The start of a search has as many columns as there are prices.
+    pub started_all : {d : List ℤ} {list predecessors : List ℕ} → Started (length v) costs start v d list predecessors → Started n costs start v d list predecessors
+    started_all S = rw C.prices_size at S
 
     pub distances_near : (w : Work) → Sound n cost (signed_at v) (at rows) start floor w → (j : ℕ) → Within (2 * near) (signed_at w.distances j)
     distances_near w S =
@@ -121,7 +112,8 @@ module _ (n : ℕ) (costs : List ℤ) (rows : List ℕ) (start : ℕ) (v : List 
         (λ j l. distances_within n cost (signed_at v) start one (at rows) near near (λ i k. C.costs_near (i * n + k)) C.prices_near w S j (omega (arith, S.distances_size)))
 
 -- The same, at equal values.
-pub leaving_at : {n : ℕ} {costs : List ℤ} {rows : List ℕ} {start : ℕ} {v d₀ : List ℤ} {room₀ : List ℕ} {d : List ℤ} {room : List ℕ} {lo scanned column : ℕ}
-    → Leaving n costs rows start v d₀ room₀ d room lo scanned column → {d' : List ℤ} {room' : List ℕ} {lo' scanned' column' : ℕ} → d' ≡ d → room' ≡ room
-    → lo' ≡ lo → scanned' ≡ scanned → column' ≡ column → Leaving n costs rows start v d₀ room₀ d' room' lo' scanned' column'
-leaving_at L a b c e f = rw (a, b, c, e, f) L
+pub leaving_at : {n : ℕ} {costs : List ℤ} {rows : List ℕ} {start : ℕ} {v d₀ : List ℤ} {list₀ predecessors₀ : List ℕ} {d : List ℤ} {list predecessors : List ℕ}
+    {lo scanned column : ℕ} → Leaving n costs rows start v d₀ list₀ predecessors₀ d list predecessors lo scanned column → {d' : List ℤ} {list' predecessors' : List ℕ}
+    {lo' scanned' column' : ℕ} → d' ≡ d → list' ≡ list → predecessors' ≡ predecessors → lo' ≡ lo → scanned' ≡ scanned → column' ≡ column
+    → Leaving n costs rows start v d₀ list₀ predecessors₀ d' list' predecessors' lo' scanned' column'
+leaving_at L a b p c e f = rw (a, b, p, c, e, f) L

@@ -4,14 +4,15 @@ use mathlib.Core.Path.{◌≡◌, refl, sym, ap, ap₂, ◌∙◌, subst}
 use mathlib.Core.Bool.{Bool, true, false, cond, true≢false}
 use mathlib.Core.Logic.{⊎_elim}
 use mathlib.Core.List.{List}
-use Prim.Native.Nat.{ℕ, ◌+◌, ◌-◌, ◌<◌}
+use Prim.Native.Nat.{ℕ, ◌+◌, ◌<◌}
 use native.Mathlib.Nat.{add-zero}
 use native.Mathlib.Omega.{arith}
 use borrow.Author.Tests.{ltb-false, le-ltb}
 use lib.IntN.{ℤ, ◌-ℤ◌}
 use lib.Signed.{◌≤ℤ◌, le_z}
-use lib.ListN.{length, set, take, drop}
+use lib.ListN.{length, set}
 use lib.Dec.{ltb}
+use Rattle.std.specs.Prelude.{Some}
 use Rattle.ints.proofs.Orders.{le_z_true, le_z_false}
 use Rattle.ints.proofs.Ranges.{zarith}
 use Rattle.lists.specs.Permutations.{at}
@@ -30,13 +31,10 @@ use Rattle.rules.proofs.Search.{Ended}
 use Rattle.rules.proofs.Flips.{flips_left}
 use Rattle.rules.proofs.Augment.{one, floor_of, found_good, Tree, rank, rooted, flipping, column_below}
 use Rattle.rules.proofs.DirectHit.{Hits, augment_hits}
-use Rattle.augmentation.specs.Room.{frees_in, predecessors_in, marks_in}
 use Rattle.augmentation.specs.Search.{CanSearch, Searched, found_from}
 use Rattle.augmentation.specs.DirectHit.{reduced_of, free_at, LastOf}
 use Rattle.augmentation.specs.Augmentation.{pairs_of, open_at, CanFlip, state_of, CanAugmentRow, RowAugmented}
-use Rattle.augmentation.proofs.Room.{predecessors_of, frees_kept, marks_kept}
 use Rattle.augmentation.proofs.Scan.{row_cost}
-use Rattle.augmentation.proofs.Start.{lent_predecessors}
 
 -- The two flags of a test that holds, and of one that fails.
 both : (t u : Bool) → cond t false u ≡ true → (t ≡ false) × (u ≡ true)
@@ -47,7 +45,7 @@ second_fails : (t u : Bool) → cond t false u ≡ false → t ≡ false → u �
 second_fails true u e q = absurd (true≢false q)
 second_fails false u e q = e
 
-module _ {n : ℕ} {costs : List ℤ} {s : ℕ} {cols rows : List ℕ} {v d : List ℤ} {room : List ℕ} (R : CanAugmentRow n costs s cols rows v d room) where
+module _ {n : ℕ} {costs : List ℤ} {s : ℕ} {cols rows : List ℕ} {v d : List ℤ} {list predecessors : List ℕ} (R : CanAugmentRow n costs s cols rows v d list predecessors) where
   abbrev cost : ℕ → ℕ → ℤ
   cost = (square n costs).cost
 
@@ -86,9 +84,6 @@ module _ {n : ℕ} {costs : List ℤ} {s : ℕ} {cols rows : List ℕ} {v d : Li
   E : Ended n cost (signed_at v) (at rows) s fl f μ
   E = (found_good n cost x s C).1
 
-  list_size : length f.work.list ≡ n
-  list_size = E.sound.permutation.size
-
   predecessors_size : length f.work.predecessors ≡ n
   predecessors_size = E.sound.predecessors_size
 
@@ -121,30 +116,19 @@ module _ {n : ℕ} {costs : List ℤ} {s : ℕ} {cols rows : List ℕ} {v d : Li
       }
 
   -- What a search leaves.
-  module _ {r : Reached} {v' d' : List ℤ} {room' : List ℕ} (S : Searched n f v room r v' d' room') where
-    -- The predecessors, as code lends them.
-    abbrev lent : List ℕ
-    lent = take (n + n + n - (n + n)) (drop (n + n) room')
+  module _ {r : Reached} {v' d' : List ℤ} {list' predecessors' : List ℕ} (S : Searched f v r v' d' list' predecessors') where
+    pub way_back : CanFlip n s r.column predecessors' cols rows
+    way_back = rw (S.predecessors_are, S.column) can_flip
 
-    lent_is : lent ≡ f.work.predecessors
-    lent_is =
-        lent_predecessors n room' ∙ ap (predecessors_in n) S.room_is
-        ∙ predecessors_of n room R.room_size f.work.list f.work.predecessors list_size predecessors_size
-
-    pub way_back : CanFlip n s r.column lent cols rows
-    way_back = rw (lent_is, S.column) can_flip
-
-    pub searched_row : {cols' rows' : List ℕ} → pairs_of cols' rows' ≡ flipped (flips n s lent (open_at r.column cols rows))
-        → RowAugmented n costs s cols rows v room cols' rows' v' room' r.scanned
+    pub searched_row : {cols' rows' : List ℕ} → pairs_of cols' rows' ≡ flipped (flips n s predecessors' (open_at r.column cols rows))
+        → RowAugmented n costs s cols rows v cols' rows' v' r.scanned
     searched_row {cols'} {rows'} e =
-        let q : pairs_of cols' rows' ≡ flipped (flips n s f.work.predecessors (open_at f.column cols rows)) = rw (lent_is, S.column) at e in
+        let q : pairs_of cols' rows' ≡ flipped (flips n s f.work.predecessors (open_at f.column cols rows)) = rw (S.predecessors_are, S.column) at e in
         record {
           same = λ m.
               ap₂ (λ (p : Pairs) (k : ℕ). record { pairs = p; prices = v'; scanned = m + k }) q S.scanned
               ∙ ap (λ (y : List ℤ). record { pairs = flipped (flips n s f.work.predecessors (open_at f.column cols rows)); prices = y; scanned = m + f.work.scanned }) S.prices;
           few = omega (arith, S.scanned, E.counted_few);
-          frees_kept = ap (frees_in n) S.room_is ∙ frees_kept n room R.room_size f.work.list f.work.predecessors list_size predecessors_size;
-          marks_kept = ap (marks_in n) S.room_is ∙ marks_kept n room R.room_size f.work.list f.work.predecessors list_size predecessors_size;
         }
 
   -- ---- by a direct hit
@@ -152,7 +136,7 @@ module _ {n : ℕ} {costs : List ℤ} {s : ℕ} {cols rows : List ℕ} {v d : Li
   abbrev g : ℕ → ℤ
   g = reduced_of n costs v s
 
-  module _ {j : ℕ} (H : LastOf n (free_at n g (at rows) (lowest n g).value) j) (l : j < n) where
+  module _ (j : ℕ) (H : LastOf n (free_at n g (at rows) (lowest n g).value) (Some j)) where
     g_is : (k : ℕ) → k < n → g k ≡ reduced cost (signed_at v) s k
     g_is k m = ap (λ (z : ℤ). z -ℤ signed_at v k) (sym (row_cost n costs s k m))
 
@@ -160,25 +144,23 @@ module _ {n : ℕ} {costs : List ℤ} {s : ℕ} {cols rows : List ℕ} {v d : Li
     low = (lowest n g).value
 
     held : (ltb (at rows j) n ≡ false) × (le_z (g j) low ≡ true)
-    held = both (ltb (at rows j) n) (le_z (g j) low) (H.holds l)
+    held = both (ltb (at rows j) n) (le_z (g j) low) H.1
 
     at_low : g j ≤ℤ low
     at_low = omega (zarith, le_z_true (g j) low held.1)
 
     hits : Hits n cost (signed_at v) (at rows) s j
     hits = record {
-      below = l;
+      below = H.0;
       free = ltb-false (at rows j) n held.0;
-      least = λ k m. omega (zarith, at_low, (lowest_is n g (omega arith)).no_lower k m, g_is j l, g_is k m);
+      least = λ k m. omega (zarith, at_low, (lowest_is n g (omega arith)).no_lower k m, g_is j H.0, g_is k m);
       last = λ k a m q.
-          let e = second_fails (ltb (at rows k) n) (le_z (g k) low) (H.after k m (λ z. a)) (le-ltb (at rows k) n q) in
-          omega (zarith, at_low, le_z_false (g k) low e, g_is j l, g_is k m);
+          let e = second_fails (ltb (at rows k) n) (le_z (g k) low) (H.2 k a m) (le-ltb (at rows k) n q) in
+          omega (zarith, at_low, le_z_false (g k) low e, g_is j H.0, g_is k m);
     }
 
-    pub hit_row : RowAugmented n costs s cols rows v room (set cols s j) (set rows j s) v room 0
+    pub hit_row : RowAugmented n costs s cols rows v (set cols s j) (set rows j s) v 0
     hit_row = record {
       same = λ m. ap (λ (k : ℕ). state_of (set cols s j) (set rows j s) v k) (add-zero m) ∙ sym (augment_hits n cost (state_of cols rows v m) s j hits);
-      few = omega arith;
-      frees_kept = refl;
-      marks_kept = refl;
+      few = omega (arith, H.0);
     }

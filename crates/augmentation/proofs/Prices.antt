@@ -1,11 +1,12 @@
 -- The price change of the ready columns: its turns, and how far the prices come, so that no sum wraps. Assumes nothing.
-use mathlib.Core.Path.{◌≡◌, refl, sym, ap, ◌∙◌, subst}
+use mathlib.Core.Path.{◌≡◌, refl, sym, ap, ap₂, ◌∙◌, subst}
 use mathlib.Core.List.{List}
 use Prim.Native.Nat.{ℕ, suc, ◌+◌, ◌*◌, ◌^◌, ◌≤◌, ◌<◌}
 use native.Mathlib.Numerals.{add-one}
 use native.Mathlib.Omega.{arith}
 use lib.IntN.{ℤ, pos, ◌+ℤ◌, ◌-ℤ◌}
-use lib.ListN.{length, set, length-set}
+use lib.ListN.{length, set, take, length-set}
+use Rattle.std.proofs.lemmas.List.{length-take-le, get_or-take}
 use lib.Seq.{get_or-set_same, get_or-set_other}
 use mir.Syntax.{w64}
 use mir.Val.{SFits, to_z, of_z}
@@ -73,29 +74,46 @@ pub record Changing (n lo : ℕ) (list : List ℕ) (d v₀ : List ℤ) (minimum 
   pub reach : k ≤ lo
   pub so_far : v ≡ prices list d minimum v₀ k
 
-pub first_change : (n lo : ℕ) (list : List ℕ) (d v : List ℤ) (minimum : ℤ) → CanChange n lo list d v → length v ≡ n → minimum ≡ signed_at d (at list lo)
-    → Changing n lo list d v minimum v 0
-first_change n lo list d v minimum can size e = record {
-  can = can;
-  prices_size = size;
-  minimum_within = subst (Within (2 * near)) (sym e) (can.distances_near (at list lo));
-  reach = omega arith;
-  so_far = sym (upward_none 0 0 (λ k. add_distance d minimum (at list k)) v (omega arith));
-}
+module _ {n lo : ℕ} {list : List ℕ} {d v : List ℤ} (can : CanChange n lo list d v) where
+  -- The last block's minimum, as code reads it.
+  abbrev minimum_read : ℤ
+  minimum_read = to_z w64 (of_z w64 (signed_at d (at list lo)))
+
+  pub minimum_is : to_z w64 (of_z w64 (signed_at d (at list lo))) ≡ signed_at d (at list lo)
+  minimum_is = let f : SFits w64 (signed_at d (at list lo)) = omega (zlin, can.distances_near (at list lo)) in to_z-of_z f
+
+  pub first_change : length v ≡ n → Changing n lo list d v (to_z w64 (of_z w64 (signed_at d (at list lo)))) v 0
+  first_change size = record {
+    can = can;
+    prices_size = size;
+    minimum_within = subst (Within (2 * near)) (sym minimum_is) (can.distances_near (at list lo));
+    reach = omega arith;
+    so_far = sym (upward_none 0 0 (λ k. add_distance d minimum_read (at list k)) v (omega arith));
+  }
 
 module _ {n lo : ℕ} {list : List ℕ} {d v₀ : List ℤ} {minimum : ℤ} {v : List ℤ} {k : ℕ} (C : Changing n lo list d v₀ minimum v k) where
   pub size : length v ≡ n
   size = ap length C.so_far ∙ prices_length list d minimum v₀ k ∙ C.prices_size
 
-  pub changed : lo ≤ k → minimum ≡ signed_at d (at list lo) → v ≡ new_prices (ready_at lo list d) v₀
+  listed_length : length (take lo list) ≡ lo
+  listed_length = length-take-le lo list (omega (arith, C.can.ready_below, C.can.listed.size))
+
+  pub changed : length (take lo list) ≤ k → minimum ≡ signed_at d (at list lo) → v ≡ new_prices (ready_at lo list d) v₀
   unfolding new_prices
   changed l e =
-      let z : k ≡ lo = omega (arith, C.reach) in
+      let z : k ≡ lo = omega (arith, C.reach, listed_length) in
       C.so_far ∙ ap (prices list d minimum v₀) z ∙ ap (λ (m : ℤ). prices list d m v₀ lo) e
 
-  module _ (l : k < lo) where
+  -- The next ready column, as code reads it.
+  module _ (l : k < length (take lo list)) where
     abbrev j : ℕ
-    j = at list k
+    j = at (take lo list) k
+
+    below : k < lo
+    below = omega (arith, listed_length)
+
+    listed : j ≡ at list k
+    listed = get_or-take lo list k 0 below
 
     abbrev x : ℤ
     x = signed_at v j
@@ -103,13 +121,10 @@ module _ {n lo : ℕ} {list : List ℕ} {d v₀ : List ℤ} {minimum : ℤ} {v :
     abbrev y : ℤ
     y = signed_at d j
 
-    pub column_below : at list k < n
-    column_below = C.can.listed.injective.below k (omega (arith, C.can.ready_below))
-
     x_within : Within (2 ^ 60) x
     x_within =
         subst (λ (s : List ℤ). Within (2 ^ 60) (signed_at s j)) (sym C.so_far)
-        (prices_wide k (signed_at (prices list d minimum v₀ k) j) (omega (arith, C.can.ready_below, C.can.small, side_small))
+        (prices_wide k (signed_at (prices list d minimum v₀ k) j) (omega (arith, below, C.can.ready_below, C.can.small, side_small))
         (prices_within_lem list d minimum v₀ C.can.prices_near C.can.distances_near C.minimum_within k j))
 
     x_fits : SFits w64 x
@@ -124,9 +139,6 @@ module _ {n lo : ℕ} {list : List ℕ} {d v₀ : List ℤ} {minimum : ℤ} {v :
     sum_fits : SFits w64 (x +ℤ (y -ℤ minimum))
     sum_fits = near-sum x y minimum (C.can.distances_near j) C.minimum_within x_within
 
-    pub sub_fits : SFits w64 (to_z w64 (of_z w64 y) -ℤ minimum)
-    sub_fits = rw (to_z-of_z y_fits) difference_fits
-
     pub add_fits : SFits w64 (to_z w64 (of_z w64 x) +ℤ to_z w64 (of_z w64 (to_z w64 (of_z w64 y) -ℤ minimum)))
     add_fits = rw (to_z-of_z x_fits, to_z-of_z y_fits, to_z-of_z difference_fits) sum_fits
 
@@ -135,8 +147,8 @@ module _ {n lo : ℕ} {list : List ℕ} {d v₀ : List ℤ} {minimum : ℤ} {v :
       can = C.can;
       prices_size = C.prices_size;
       minimum_within = C.minimum_within;
-      reach = omega arith;
+      reach = omega (arith, below);
       so_far =
           rw (to_z-of_z x_fits, to_z-of_z y_fits, to_z-of_z difference_fits, to_z-of_z sum_fits, add-one k)
-          (ap (add_distance d minimum j) C.so_far ∙ sym (upward-last 0 k (λ i. add_distance d minimum (at list i)) v₀ (omega arith)));
+          (ap₂ (add_distance d minimum) listed C.so_far ∙ sym (upward-last 0 k (λ i. add_distance d minimum (at list i)) v₀ (omega arith)));
     }

@@ -1,5 +1,5 @@
 -- The turns of the scan's loop: what a scan of one column is asked with, and what it leaves. Assumes nothing.
-use mathlib.Core.Path.{◌≡◌, refl, sym, ap, ap₂, ◌∙◌, subst}
+use mathlib.Core.Path.{◌≡◌, refl, sym, ap, ◌∙◌}
 use mathlib.Core.Logic.{◌≢◌}
 use mathlib.Core.Bool.{cond}
 use mathlib.Core.List.{List}
@@ -9,24 +9,21 @@ use native.Mathlib.Omega.{arith}
 use lib.Dec.{ltb}
 use lib.IntN.{ℤ, ◌-ℤ◌}
 use lib.Signed.{lt_z}
-use lib.ListN.{length}
 use Rattle.lists.specs.Runs.{Turn, on, left, and_then}
-use Rattle.lists.specs.Permutations.{at, Permutation}
+use Rattle.lists.specs.Permutations.{at}
 use Rattle.lists.proofs.Leaving.{until_keeps, Either, goes_on, is_left_lem}
 use Rattle.lists.proofs.Cases.{cond_cases}
 use Rattle.assignment.specs.Pairings.{signed_at, square}
-use Rattle.rules.specs.declared.ScanEnd.{ScanEnd}
+use Rattle.std.specs.declared.ops.ControlFlow.{ControlFlow}
 use Rattle.rules.specs.Lowest.{reduced, lowest}
 use Rattle.rules.specs.Search.{same, reach_by, join, count_one, after_lowering, scan_column, Work, work_of, Hit, Found, scan_row, scan, search_blocks}
 use Rattle.rules.proofs.Scan.{Sound}
 use Rattle.rules.proofs.Scans.{Counted, LeftAt, scan_row_counted_or_left}
 use Rattle.rules.proofs.Turns.{scan_more, scan_done}
-use Rattle.rules.specs.declared.ScanEnd.TheVariants as ends
-use Rattle.augmentation.specs.Room.{list_in, predecessors_in, room_with}
-use Rattle.augmentation.specs.Scan.{work_in, seen_in, seen, Scanned}
+use Rattle.std.specs.declared.ops.ControlFlow.TheVariants.{Continue, Break}
+use Rattle.augmentation.specs.Scan.{seen_in, Scanned}
 use Rattle.augmentation.specs.Search.{CanSearch, CanScan}
-use Rattle.augmentation.proofs.Room.{room_length, list_of, predecessors_of, room_room}
-use Rattle.augmentation.proofs.Loops.{distances_near, seen_on, seen_hit, either_on, either_left, InScan}
+use Rattle.augmentation.proofs.Loops.{distances_near, seen_on, seen_hit, either_on, InScan}
 
 -- ---- a block only grows while it is scanned
 
@@ -67,26 +64,13 @@ module _ (n : ℕ) (costs : List ℤ) (rows : List ℕ) (start : ℕ) (v : List 
   abbrev rest : ℕ → Work → Turn Work Hit
   rest k w = scan n cost (signed_at v) (at rows) k w
 
-  module _ (C : CanSearch n costs rows start v) {d₁ : List ℤ} {room₁ : List ℕ} {lo₁ hi₁ m₁ : ℕ} {d : List ℤ} {room : List ℕ} {lo hi m : ℕ}
-      (M : InScan n costs rows start v d₁ room₁ lo₁ hi₁ m₁ d room lo hi m) where
+  module _ (C : CanSearch n costs rows start v) {d₁ : List ℤ} {list₁ predecessors₁ : List ℕ} {lo₁ hi₁ m₁ : ℕ} {d : List ℤ} {list predecessors : List ℕ} {lo hi m : ℕ}
+      (M : InScan n costs rows start v d₁ list₁ predecessors₁ lo₁ hi₁ m₁ d list predecessors lo hi m) where
     abbrev w : Work
-    w = work_of hi M.list d M.predecessors m
+    w = work_of hi list d predecessors m
 
     S : Sound n cost (signed_at v) (at rows) start floor w
     S = M.counted.scanning.sound
-
-    scan_room_long : length room ≡ n + n + n + n
-    scan_room_long = ap length M.room_is ∙ room_length n room₁ M.room_size M.list M.predecessors S.permutation.size S.predecessors_size
-
-    list_is : list_in n room ≡ M.list
-    list_is = ap (list_in n) M.room_is ∙ list_of n room₁ M.room_size M.list M.predecessors S.permutation.size S.predecessors_size
-
-    predecessors_is : predecessors_in n room ≡ M.predecessors
-    predecessors_is =
-        ap (predecessors_in n) M.room_is ∙ predecessors_of n room₁ M.room_size M.list M.predecessors S.permutation.size S.predecessors_size
-
-    work_is : work_in n hi d room m ≡ w
-    work_is = ap₂ (λ (a b : List ℕ). work_of hi a d b m) list_is predecessors_is
 
     hi_below : hi ≤ n
     hi_below = M.counted.scanning.order.2
@@ -95,74 +79,56 @@ module _ (n : ℕ) (costs : List ℤ) (rows : List ℕ) (start : ℕ) (v : List 
       lo_in : (lo < hi) × (lo < n)
       lo_in = omega (arith, M.place, hi_below)
 
-      pub can_scan : CanScan n costs rows lo hi v d room
+      pub can_scan : CanScan n costs rows lo hi v d list predecessors
       can_scan = record {
         lent = record {
           small = C.small;
           prices_size = C.prices_size;
           rows_size = C.rows_size;
           distances_size = S.distances_size;
-          room_size = scan_room_long;
-          listed = subst (Permutation n) (sym list_is) S.permutation;
+          predecessors_size = S.predecessors_size;
+          listed = S.permutation;
           prices_near = C.prices_near;
         };
         costs_size = C.costs_size;
         place = (lo_in.1, hi_below);
-        taken = subst (λ (l : List ℕ). at rows (at l lo) < n) (sym list_is) (M.counted.scanning.paired lo lo_in.0);
-        minimum_near = distances_near n costs rows start v C w S (at (list_in n room) lo);
+        taken = M.counted.scanning.paired lo lo_in.0;
+        minimum_near = distances_near n costs rows start v C w S (at list lo);
       }
 
       -- The column at lo is scanned, and then the rest.
-      turn : and_then (scan_row n cost (signed_at v) (at rows) lo w) (rest (suc lo)) ≡ rest lo₁ (work_in n hi₁ d₁ room₁ m₁)
+      turn : and_then (scan_row n cost (signed_at v) (at rows) lo w) (rest (suc lo)) ≡ rest lo₁ (work_of hi₁ list₁ d₁ predecessors₁ m₁)
       turn = sym (scan_more n cost (signed_at v) (at rows) lo w lo_in.1 lo_in.0) ∙ M.same
 
-      module _ {r : ScanEnd} {d' : List ℤ} {room' : List ℕ} (R : Scanned n costs v rows lo hi d room r d' room') where
-        back : length (list_in n room') ≡ n → length (predecessors_in n room') ≡ n → room' ≡ room_with n (list_in n room') (predecessors_in n room') room₁
-        back sl sp =
-            R.frame ∙ ap (room_with n (list_in n room') (predecessors_in n room')) M.room_is
-            ∙ room_room n room₁ M.room_size M.list M.predecessors (list_in n room') (predecessors_in n room') S.permutation.size S.predecessors_size sl sp
+      kept : Either (Counted n cost (signed_at v) (at rows) start floor lo₁ M.minimum (suc lo)) (LeftAt n cost (signed_at v) (at rows) start floor lo₁ M.minimum)
+          (scan_row n cost (signed_at v) (at rows) lo w)
+      kept = scan_row_counted_or_left n cost (signed_at v) (at rows) start floor C.fair lo₁ M.minimum lo w M.counted lo_in.0
 
-        same_row : seen_in r n d' room' (m + 1) ≡ seen (scan_row n cost (signed_at v) (at rows) lo w)
-        same_row = R.same m ∙ ap (λ (x : Work). seen (scan_row n cost (signed_at v) (at rows) lo x)) work_is
+      module _ {r : ControlFlow ℕ ℕ} {d' : List ℤ} {list' predecessors' : List ℕ} (R : Scanned n costs v rows lo hi d list predecessors r d' list' predecessors') where
+        -- The scan goes on, with the block's end e.
+        pub scan_on : (e : ℕ) → r ≡ Continue e → InScan n costs rows start v d₁ list₁ predecessors₁ lo₁ hi₁ m₁ d' list' predecessors' (lo + 1) e (m + 1)
+        scan_on e q =
+            let x : Work = work_of e list' d' predecessors' (m + 1) in
+            let t : scan_row n cost (signed_at v) (at rows) lo w ≡ on x =
+            seen_on e list' d' predecessors' (m + 1) (scan_row n cost (signed_at v) (at rows) lo w)
+            (ap (λ (y : ControlFlow ℕ ℕ). seen_in y list' d' predecessors' (m + 1)) (sym q) ∙ R.same m) in
+            let D : Counted n cost (signed_at v) (at rows) start floor lo₁ M.minimum (suc lo) x = either_on (rw t at kept) in
+            let g : hi ≤ e = either_on (rw t at (row_grows n cost (signed_at v) (at rows) lo w hi_below)) in
+            record {
+              minimum = M.minimum;
+              place = omega (arith, lo_in);
+              counted = rw (add-one lo) D;
+              same = rw (add-one lo) (ap (λ (y : Turn Work Hit). and_then y (rest (suc lo))) (sym t) ∙ turn);
+            }
 
-        kept : Either (Counted n cost (signed_at v) (at rows) start floor lo₁ M.minimum (suc lo)) (LeftAt n cost (signed_at v) (at rows) start floor lo₁ M.minimum) (scan_row n cost (signed_at v) (at rows) lo w)
-        kept = scan_row_counted_or_left n cost (signed_at v) (at rows) start floor C.fair lo₁ M.minimum lo w M.counted lo_in.0
-
-      -- The scan goes on, with the block's end e.
-      pub scan_on : {r : ScanEnd} {d' : List ℤ} {room' : List ℕ} (e : ℕ) → r ≡ ends.On e → Scanned n costs v rows lo hi d room r d' room'
-          → InScan n costs rows start v d₁ room₁ lo₁ hi₁ m₁ d' room' (lo + 1) e (m + 1)
-      scan_on {r} {d'} {room'} e q R =
-          let x : Work = work_in n e d' room' (m + 1) in
-          let t : scan_row n cost (signed_at v) (at rows) lo w ≡ on x = seen_on n e d' room' (m + 1) (scan_row n cost (signed_at v) (at rows) lo w) (ap (λ (y : ScanEnd). seen_in y n d' room' (m + 1)) (sym q) ∙ same_row R) in
-          let D : Counted n cost (signed_at v) (at rows) start floor lo₁ M.minimum (suc lo) x = either_on (rw t at (kept R)) in
-          let g : hi ≤ e = either_on (rw t at (row_grows n cost (signed_at v) (at rows) lo w hi_below)) in
-          record {
-            room_size = M.room_size;
-            list = list_in n room';
-            predecessors = predecessors_in n room';
-            minimum = M.minimum;
-            place = omega (arith, lo_in);
-            room_is = back R D.scanning.sound.permutation.size D.scanning.sound.predecessors_size;
-            counted = rw (add-one lo) D;
-            same = rw (add-one lo) (ap (λ (y : Turn Work Hit). and_then y (rest (suc lo))) (sym t) ∙ turn);
-          }
-
-      -- The scan is left at a free column.
-      pub scan_left : {r : ScanEnd} {d' : List ℤ} {room' : List ℕ} (j : ℕ) → r ≡ ends.Hit j → Scanned n costs v rows lo hi d room r d' room'
-          → (e : ℕ) × (rest lo₁ (work_in n hi₁ d₁ room₁ m₁) ≡ left (record { column = j; work = work_in n e d' room' (m + 1) }))
-          × (room' ≡ room_with n (list_in n room') (predecessors_in n room') room₁)
-          × (length (list_in n room') ≡ n) × (length (predecessors_in n room') ≡ n)
-      scan_left {r} {d'} {room'} j q R =
-          let h = seen_hit n j d' room' (m + 1) (scan_row n cost (signed_at v) (at rows) lo w) (ap (λ (y : ScanEnd). seen_in y n d' room' (m + 1)) (sym q) ∙ same_row R) in
-          let L = either_left (rw h.1 at (kept R)) in
-          let P = L.reaches.scanning.sound in (
-            h.0,
-            sym turn ∙ ap (λ (y : Turn Work Hit). and_then y (rest (suc lo))) h.1,
-            back R P.permutation.size P.predecessors_size,
-            P.permutation.size,
-            P.predecessors_size,
-          )
+        -- The scan is left at a free column.
+        pub scan_left : (j : ℕ) → r ≡ Break j
+            → (e : ℕ) × (rest lo₁ (work_of hi₁ list₁ d₁ predecessors₁ m₁) ≡ left (record { column = j; work = work_of e list' d' predecessors' (m + 1) }))
+        scan_left j q =
+            let h = seen_hit j list' d' predecessors' (m + 1) (scan_row n cost (signed_at v) (at rows) lo w)
+            (ap (λ (y : ControlFlow ℕ ℕ). seen_in y list' d' predecessors' (m + 1)) (sym q) ∙ R.same m) in
+            (h.0, sym turn ∙ ap (λ (y : Turn Work Hit). and_then y (rest (suc lo))) h.1)
 
     -- None is left of the block.
-    pub scan_over : lo ≡ hi → rest lo₁ (work_in n hi₁ d₁ room₁ m₁) ≡ on w
+    pub scan_over : lo ≡ hi → rest lo₁ (work_of hi₁ list₁ d₁ predecessors₁ m₁) ≡ on w
     scan_over e = sym M.same ∙ scan_done n cost (signed_at v) (at rows) lo w (omega arith)

@@ -43,22 +43,19 @@ pub record CanTurn (n : ℕ) (costs : List ℤ) (x : Progress) (s : ℕ) : Type 
   pub prices_near : (k : ℕ) → Within near (signed_at x.prices k)
 
 -- The same of row s, with all that is lent for it.
-pub record CanAugmentRow (n : ℕ) (costs : List ℤ) (s : ℕ) (cols rows : List ℕ) (v d : List ℤ) (room : List ℕ) : Type 0 where
+pub record CanAugmentRow (n : ℕ) (costs : List ℤ) (s : ℕ) (cols rows : List ℕ) (v d : List ℤ) (list predecessors : List ℕ) : Type 0 where
   pub small : n ≤ side
   pub costs_size : length costs ≡ n * n
   pub costs_near : (k : ℕ) → Within near (signed_at costs k)
   pub distances_size : length d ≡ n
-  pub room_size : length room ≡ n + n + n + n
+  pub list_size : length list ≡ n
+  pub predecessors_size : length predecessors ≡ n
   pub turn : CanTurn n costs (state_of cols rows v 0) s
 
--- Row s has its column: the pairs and prices are the definition's, and so is the count, from any count on; the free rows and the marks are
--- as they were.
-pub record RowAugmented (n : ℕ) (costs : List ℤ) (s : ℕ) (cols₀ rows₀ : List ℕ) (v₀ : List ℤ) (room₀ cols rows : List ℕ) (v : List ℤ) (room : List ℕ) (r : ℕ) :
-    Type 0 where
+-- Row s has its column: the pairs and prices are the definition's, and so is the count, from any count on.
+pub record RowAugmented (n : ℕ) (costs : List ℤ) (s : ℕ) (cols₀ rows₀ : List ℕ) (v₀ : List ℤ) (cols rows : List ℕ) (v : List ℤ) (r : ℕ) : Type 0 where
   pub same : (scanned : ℕ) → state_of cols rows v (scanned + r) ≡ augment n (square n costs).cost (state_of cols₀ rows₀ v₀ scanned) s
   pub few : r < n
-  pub frees_kept : frees_in n room ≡ frees_in n room₀
-  pub marks_kept : marks_in n room ≡ marks_in n room₀
 
 -- The first `count` free rows can get their columns: each can, from the state that the rows before it leave.
 pub record CanAugment (n : ℕ) (costs : List ℤ) (count : ℕ) (cols rows : List ℕ) (v d : List ℤ) (room : List ℕ) : Type 0 where

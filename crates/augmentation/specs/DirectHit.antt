@@ -1,5 +1,5 @@
 -- A direct hit: the last free column at the least reduced cost of a row.
-use Rattle.std.specs.Prelude.{◌≡◌, Bool, true, false, cond, List, ℕ, ◌+◌, ◌*◌, ◌≤◌, ◌<◌, ℤ, ◌-ℤ◌, length, take, drop, ltb}
+use Rattle.std.specs.Prelude.{◌≡◌, Bool, true, false, cond, Option, Some, None, List, ℕ, ◌+◌, ◌*◌, ◌<◌, ℤ, ◌-ℤ◌, length, take, drop, ltb}
 use Rattle.std.specs.Int.Signed.{lt_z, le_z}
 use Rattle.ints.specs.Parts.{Within}
 use Rattle.assignment.specs.Pairings.{signed_at}
@@ -18,11 +18,10 @@ pub record Priced (row v : List ℤ) : Type 0 where
   pub prices_size : length v ≡ length row
   pub prices_near : (j : ℕ) → Within near (signed_at v j)
 
--- A row of n columns, with a price and a row for each of them.
-pub record CanLook (n : ℕ) (row v : List ℤ) (rows : List ℕ) : Type 0 where
+-- A row of costs, with a price and a row for each of its columns.
+pub record CanLook (row v : List ℤ) (rows : List ℕ) : Type 0 where
   pub priced : Priced row v
-  pub row_size : length row ≡ n
-  pub rows_size : length rows ≡ n
+  pub rows_size : length rows ≡ length row
 
 -- The lesser of two values.
 abbrev pub lesser : ℤ → ℤ → ℤ
@@ -36,8 +35,7 @@ least_of_four f j = lesser (lesser (f j) (f (j + 1))) (lesser (f (j + 2)) (f (j 
 abbrev pub free_at : ℕ → (ℕ → ℤ) → (ℕ → ℕ) → ℤ → ℕ → Bool
 free_at n f row h j = cond (ltb (row j) n) false (le_z (f j) h)
 
--- r is the last place below n at which a test holds; n where it holds at none.
-pub record LastOf (n : ℕ) (test : ℕ → Bool) (r : ℕ) : Type 0 where
-  pub most : r ≤ n
-  pub holds : r < n → test r ≡ true
-  pub after : (k : ℕ) → k < n → (r < n → r < k) → test k ≡ false
+-- The last place below n at which a test holds, and none where it holds at none.
+abbrev pub LastOf : ℕ → (ℕ → Bool) → Option ℕ → Type 0
+LastOf n test None = (k : ℕ) → k < n → test k ≡ false
+LastOf n test (Some j) = (j < n) × (test j ≡ true) × ((k : ℕ) → j < k → k < n → test k ≡ false)

@@ -1,6 +1,6 @@
 pub mod Room
+pub mod Block
 pub mod Scan
-pub mod Near
 pub mod Search
 pub mod DirectHit
 pub mod Augmentation

@@ -1,5 +1,5 @@
 -- What a search and its steps ask for, and what they leave in lent memory.
-use Rattle.std.specs.Prelude.{◌≡◌, List, [], ℕ, ◌+◌, ◌*◌, ◌≤◌, ◌<◌, ℤ, length}
+use Rattle.std.specs.Prelude.{◌≡◌, List, [], ℕ, ◌*◌, ◌≤◌, ◌<◌, ℤ, length}
 use Rattle.ints.specs.Parts.{Within}
 use Rattle.lists.specs.Permutations.{at, Permutation}
 use Rattle.assignment.specs.Pairings.{signed_at, square}
@@ -7,31 +7,30 @@ use Rattle.matrix.specs.Limits.{side, near}
 use Rattle.rules.specs.declared.Reached.{Reached}
 use Rattle.rules.specs.Search.{Found, search_start, search, new_prices, work_of}
 use Rattle.rules.specs.Asked.{Fair}
-use Rattle.augmentation.specs.Room.{list_in, predecessors_in, room_with}
-use Rattle.augmentation.specs.Scan.{ScanRoom, work_in}
+use Rattle.augmentation.specs.Scan.{Lent}
 
 -- Before a search starts.
-pub record CanStart (n : ℕ) (costs : List ℤ) (start : ℕ) (v d : List ℤ) (room : List ℕ) : Type 0 where
+pub record CanStart (n : ℕ) (costs : List ℤ) (start : ℕ) (v d : List ℤ) (list predecessors : List ℕ) : Type 0 where
   pub small : n ≤ side
   pub start_below : start < n
   pub costs_size : length costs ≡ n * n
   pub prices_size : length v ≡ n
   pub distances_size : length d ≡ n
-  pub room_size : length room ≡ n + n + n + n
+  pub list_size : length list ≡ n
+  pub predecessors_size : length predecessors ≡ n
   pub prices_near : (j : ℕ) → Within near (signed_at v j)
 
 -- A search has started: the columns in their order, each as far as the start row makes it. No column's row is asked.
-pub record Started (n : ℕ) (costs : List ℤ) (start : ℕ) (v : List ℤ) (room₀ : List ℕ) (d : List ℤ) (room : List ℕ) : Type 0 where
-  pub same : work_in n 0 d room 0 ≡ search_start n (square n costs).cost (signed_at v) (λ j. n) start
-  pub frame : room ≡ room_with n (list_in n room) (predecessors_in n room) room₀
+pub record Started (n : ℕ) (costs : List ℤ) (start : ℕ) (v d : List ℤ) (list predecessors : List ℕ) : Type 0 where
+  pub same : work_of 0 list d predecessors 0 ≡ search_start n (square n costs).cost (signed_at v) (λ j. n) start
 
 -- The column at place lo has a row, and its distance is within twice near.
-pub record CanScan (n : ℕ) (costs : List ℤ) (rows : List ℕ) (lo hi : ℕ) (v d : List ℤ) (room : List ℕ) : Type 0 where
-  pub lent : ScanRoom n v rows d room
+pub record CanScan (n : ℕ) (costs : List ℤ) (rows : List ℕ) (lo hi : ℕ) (v d : List ℤ) (list predecessors : List ℕ) : Type 0 where
+  pub lent : Lent n v rows d list predecessors
   pub costs_size : length costs ≡ n * n
   pub place : (lo < n) × (hi ≤ n)
-  pub taken : at rows (at (list_in n room) lo) < n
-  pub minimum_near : Within (2 * near) (signed_at d (at (list_in n room) lo))
+  pub taken : at rows (at list lo) < n
+  pub minimum_near : Within (2 * near) (signed_at d (at list lo))
 
 -- What was found, as far as the prices ask: the first lo columns of the list are ready, and the last block starts at lo.
 abbrev pub ready_at : ℕ → List ℕ → List ℤ → Found
@@ -68,10 +67,11 @@ pub record CanSearch (n : ℕ) (costs : List ℤ) (rows : List ℕ) (start : ℕ
 abbrev pub found_from : ℕ → List ℤ → List ℕ → ℕ → List ℤ → Found
 found_from n costs rows start v = search n (square n costs).cost (signed_at v) (at rows) start
 
--- What a search leaves: its answer, the new prices, the distances, and the column list and the predecessors in the room.
-pub record Searched (n : ℕ) (f : Found) (v₀ : List ℤ) (room₀ : List ℕ) (r : Reached) (v d : List ℤ) (room : List ℕ) : Type 0 where
+-- What a search leaves: its answer, the new prices, the distances, the column list and the predecessors.
+pub record Searched (f : Found) (v₀ : List ℤ) (r : Reached) (v d : List ℤ) (list predecessors : List ℕ) : Type 0 where
   pub column : r.column ≡ f.column
   pub scanned : r.scanned ≡ f.work.scanned
   pub prices : v ≡ new_prices f v₀
   pub distances : d ≡ f.work.distances
-  pub room_is : room ≡ room_with n f.work.list f.work.predecessors room₀
+  pub listed : list ≡ f.work.list
+  pub predecessors_are : predecessors ≡ f.work.predecessors

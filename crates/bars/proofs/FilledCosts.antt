@@ -8,14 +8,14 @@ use native.Mathlib.Nat.{mul-add-div_right, mul-add-mod_self_right, div-eq_of_lt,
 use native.Mathlib.Omega.{arith}
 use lib.IntN.{ℤ, pos}
 use lib.ListN.{length, take, drop}
-use lib.Seq.{drop_at, get_or-take}
+use lib.Seq.{drop_at, drop-drop, get_or-take, length-take-le}
 use Rattle.ints.specs.Parts.{Within}
 use Rattle.lists.specs.Permutations.{at, table}
 use Rattle.lists.specs.Parts.{part, replaced}
 use Rattle.lists.specs.Counts.{bit_of}
 use Rattle.lists.proofs.Parts.{part_at, part_length}
 use Rattle.lists.proofs.Cases.{cond_cases}
-use Rattle.lists.proofs.Tables.{length-table, get_d_table, table_cong, filled-part}
+use Rattle.lists.proofs.Tables.{length-table, get_d_table, table_cong, filled_none, filled-part}
 use Rattle.assignment.specs.Pairings.{signed_at}
 use Rattle.bars.specs.Barred.{filled_in, filled_at, filled_costs}
 
@@ -53,18 +53,34 @@ module _ (n : ℕ) (dear : ℤ) (costs : List ℤ) (bars : List ℕ) where
   abbrev pub rows_filled : ℕ → List ℤ
   rows_filled i = table (i * n) (filled_at n dear costs bars) ++ drop (i * n) costs
 
-  module _ (i : ℕ) (inside : i * n + n ≤ length costs) where
-    -- The next row is as it was.
-    next_row : part (i * n) n (rows_filled i) ≡ part (i * n) n costs
-    next_row = ap (take n) (drop_at (table (i * n) (filled_at n dear costs bars)) (drop (i * n) costs) (i * n) (length-table (i * n) (filled_at n dear costs bars)))
+  pub no_row_filled : costs ≡ rows_filled 0
+  no_row_filled = let z : 0 * n ≡ 0 = omega arith in rw z (filled_none (filled_at n dear costs bars) costs)
 
-    pub next_row_length : length (part (i * n) n (rows_filled i)) ≡ n
-    next_row_length = ap length next_row ∙ part_length (i * n) n costs inside
+  pub all_rows_filled : (i : ℕ) → i ≡ n → rows_filled i ≡ filled_costs n dear costs bars ++ drop (n * n) costs
+  unfolding filled_costs
+  all_rows_filled i e = ap rows_filled e
 
-    -- It is filled.
-    pub next_row_filled : replaced (i * n) (table n (filled_in (at bars i) dear (part (i * n) n (rows_filled i)))) (rows_filled i)
-        ≡ table (i * n + n) (filled_at n dear costs bars) ++ drop (i * n + n) costs
-    next_row_filled =
-        filled-part (i * n) n (filled_at n dear costs bars) (filled_in (at bars i) dear (part (i * n) n (rows_filled i))) costs
-        (λ j l. ap (λ (z : ℤ). cond (bit_of (at bars i) j) dear z) (ap (λ (r : List ℤ). signed_at r j) next_row ∙ part_at (i * n) n costs j (pos 0) l)
-        ∙ sym (filled-place i j l))
+  -- The next row, lent and come back filled.
+  module _ (i k : ℕ) (inside : i * n + n ≤ length costs) (long : k ≡ n) (list : List ℤ) (filled : list ≡ rows_filled i) where
+    lent : part (i * n) k list ≡ part (i * n) n costs
+    lent =
+        ap₂ (λ (m : ℕ) (l : List ℤ). part (i * n) m l) long filled
+        ∙ ap (take n) (drop_at (table (i * n) (filled_at n dear costs bars)) (drop (i * n) costs) (i * n) (length-table (i * n) (filled_at n dear costs bars)))
+
+    pub lent_row_length : length (part (i * n) k list) ≡ n
+    lent_row_length = ap length lent ∙ part_length (i * n) n costs inside
+
+    pub next_row_filled : (row : List ℤ) → row ≡ table (length (part (i * n) k list)) (filled_in (at bars i) dear (part (i * n) k list))
+        → take (i * n) list ++ (row ++ drop k (drop (i * n) list)) ≡ rows_filled (i + 1)
+    next_row_filled row e =
+        let next : i * n + n ≡ (i + 1) * n = omega arith in
+        let size : length row ≡ k = omega (arith, ap length e, length-table (length (part (i * n) k list)) (filled_in (at bars i) dear (part (i * n) k list)), lent_row_length) in
+        let whole : row ≡ table n (filled_in (at bars i) dear (part (i * n) n costs)) =
+        e ∙ ap₂ (λ (m : ℕ) (r : List ℤ). table m (filled_in (at bars i) dear r)) lent_row_length lent in
+        ap (λ (l : List ℤ). take (i * n) list ++ (row ++ l)) (drop-drop k (i * n) list ∙ ap (λ (m : ℕ). drop (i * n + m) list) (sym size))
+        ∙ ap₂ (replaced (i * n)) whole filled
+        ∙ filled-part (i * n) n (filled_at n dear costs bars) (filled_in (at bars i) dear (part (i * n) n costs)) costs
+        (λ j l. ap (λ (z : ℤ). cond (bit_of (at bars i) j) dear z) (part_at (i * n) n costs j (pos 0) l) ∙ sym (filled-place i j l))
+        ∙ ap (λ (m : ℕ). table m (filled_at n dear costs bars) ++ drop m costs) next
+
+pub ruleset rows_rules = (no_row_filled, all_rows_filled, lent_row_length, next_row_filled, length-take-le, get_or-take)

@@ -3,7 +3,9 @@ pub mod Blocked
 pub mod Rounds
 pub mod Filled
 pub mod FilledCosts
+pub mod FilledRow
 pub mod Masks
+pub mod Turns
 pub mod Barred
 pub mod Longer
 pub mod Padded

@@ -4,8 +4,8 @@ use Rattle.lists.specs.Permutations.{at}
 use Rattle.lists.specs.Counts.{bit_of}
 use Rattle.matrix.specs.Verdicts.{fails_at}
 use Rattle.matrix.specs.Tests.{costs_in}
-use Rattle.matrix.specs.Refusals.{BarsPastSide, BarredPair}
-use Rattle.matrix.specs.declared.Verdict.{Verdict}
+use Rattle.matrix.specs.declared.refusals.Reason.TheVariants.{BarsPastSide, BarredPair}
+use Rattle.matrix.specs.Verdicts.{Verdict}
 use Rattle.bars.specs.Barred.{bits_above}
 
 -- "its costs, barred ones too, lie within 1,000,000 of zero": far below K, which stands on barred places when such a night is solved.

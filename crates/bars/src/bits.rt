@@ -1,7 +1,8 @@
-// A set of numbers below 64 as the bits of a u64.
+// A set of numbers below 64 as the bits of a u64. A type of its own is no plainer: the numbers lie in lent slices and arrays, and each use would wrap one.
 ghost use Rattle.std.specs.Prelude.{◌≡◌, ◌<◌, ◌≤◌, ◌^◌, ◌-◌};
 ghost use Rattle.std.specs.Int.Bits.{bit_or};
 ghost use Rattle.lists.specs.Counts.{bit_of};
+ghost use Rattle.bars.specs.Barred.{bits_above};
 
 // Whether bit i is set.
 pub fn has(bits: u64, i: usize) -> bool
@@ -24,9 +25,13 @@ pub fn full(n: usize) -> u64
     requires { n ≤ 64 }
     ensures { result ≡ 2 ^ n - 1 }
 {
-    if n == 64 {
-        0xffff_ffff_ffff_ffff
-    } else {
-        (1u64 << n) - 1
-    }
+    if n == 64 { u64::MAX } else { (1u64 << n) - 1 }
+}
+
+// Whether a bit from n up is set.
+pub(crate) fn has_from(bits: u64, n: usize) -> bool
+    requires { n ≤ 64 }
+    ensures { result ≡ bits_above n bits }
+{
+    full(n) < bits
 }

@@ -1,13 +1,14 @@
 // Nights with bars: a number for each row, whose bits are the columns barred to it. What is promised is said in specs/.
 #![tactic(auto)]
 
-ghost use Rattle.std.specs.Prelude.{◌≡◌, ◌++◌, ◌*◌, ◌≤◌, length, drop};
-ghost use Rattle.lists.specs.Runs.{first};
+ghost use Rattle.std.specs.Prelude.{◌≡◌, ◌++◌, ◌*◌, ◌<◌, ◌≤◌, length, drop};
+ghost use Rattle.lists.specs.Runs.{Finds};
+ghost use Rattle.lists.specs.Counts.{bit_of};
 ghost use Rattle.lists.specs.Permutations.{at, table};
-ghost use Rattle.bars.specs.Asked.{BarsListed};
-ghost use Rattle.bars.specs.Barred.{bits_above, first_barred, filled_in, filled_costs};
+ghost use Rattle.matrix.specs.Asked.{ColumnsListed};
+ghost use Rattle.bars.specs.Barred.{bits_above, filled_in, filled_costs};
 
-use crate::bits::{full, has};
+use crate::bits::{has, has_from};
 
 pub mod bits;
 pub mod reached;
@@ -17,44 +18,35 @@ pub mod tests;
 pub fn bits_at(bars: &[u64], i: usize) -> u64
     ensures { result ≡ at bars.now i }
 {
-    if i < bars.len() {
-        return bars[i];
-    }
-    0
+    bars.get(i).copied().unwrap_or(0)
 }
 
-// The first row that has a bit from n up, or n where there is none.
-pub fn first_bits_above(n: usize, bars: &[u64]) -> usize
+// Whether column j is barred to row i.
+pub fn is_barred(bars: &[u64], i: usize, j: usize) -> bool
+    requires { j < 64 }
+    ensures { result ≡ bit_of (at bars.now i) j }
+{
+    has(bits_at(bars, i), j)
+}
+
+// The first of n rows that has a bit from n up.
+pub fn first_bits_above(n: usize, bars: &[u64]) -> Option<usize>
     requires { (n ≤ 64) × (n ≤ length bars.now) }
-    ensures { result ≡ first n (λ i. bits_above n (at bars.now i)) }
+    ensures { Finds n (λ i. bits_above n (at bars.now i)) result }
 {
-    let all = full(n);
-    let mut i = 0;
-    while i < n {
-        if all < bars[i] {
-            return i;
-        }
-        i += 1;
-    }
-    i
+    bars[..n].iter().position(|&b| has_from(b, n))
 }
 
-// The first row that is paired at a barred place, or n where there is none.
-pub fn first_barred(n: usize, bars: &[u64], cols: &[u32]) -> usize
-    requires { BarsListed n bars.now cols.now }
-    ensures { result ≡ first_barred n bars.now cols.now }
+// The first of m rows that is paired at a barred place.
+pub fn first_barred(m: usize, bars: &[u64], cols: &[u32]) -> Option<usize>
+    requires { ColumnsListed m 64 cols.now }
+    ensures { Finds m (λ i. bit_of (at bars.now i) (at cols.now i)) result }
 {
-    let mut i = 0;
-    while i < n {
-        if has(bars[i], cols[i] as usize) {
-            return i;
-        }
-        i += 1;
-    }
-    i
+    (0..m).find(|&i| is_barred(bars, i, cols[i] as usize))
 }
 
-// A row of costs, with this cost on its barred places.
+// A row of costs, with this cost on its barred places. By index: of a list that `iter_mut` went over the proof knows no element.
+#[tactic(auto, using(crate::proofs::FilledRow::row_rules))]
 fn fill_row(row: &mut [i32], bits: u64, dear: i32)
     requires { length row.old ≤ 64 }
     ensures { row.new ≡ table (length row.old) (filled_in bits dear row.old) }
@@ -62,26 +54,20 @@ fn fill_row(row: &mut [i32], bits: u64, dear: i32)
     if bits == 0 {
         return;
     }
-    let mut j = 0;
-    while j < row.len() {
+    for j in 0..row.len() {
         if has(bits, j) {
             row[j] = dear;
         }
-        j += 1;
     }
 }
 
 // The first n * n costs, with this cost on barred places; what stands behind them stays.
+#[tactic(auto, using(crate::proofs::FilledCosts::rows_rules))]
 pub fn fill(n: usize, costs: &mut [i32], bars: &[u64], dear: i32)
     requires { (n ≤ 64) × (n * n ≤ length costs.old) × (n ≤ length bars.now) }
     ensures { costs.new ≡ filled_costs n dear costs.old bars.now ++ drop (n * n) costs.old }
 {
-    let mut start = 0;
-    let mut i = 0;
-    while i < n {
-        let end = start + n;
-        fill_row(&mut costs[start..end], bars[i], dear);
-        start = end;
-        i += 1;
+    for (i, &barred) in bars[..n].iter().enumerate() {
+        fill_row(&mut costs[i * n..(i + 1) * n], barred, dear);
     }
 }

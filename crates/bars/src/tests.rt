@@ -1,13 +1,14 @@
-// The tests of bars: each takes the verdict of those before it and answers its own.
+// The tests of bars: each answers why the input is refused.
 ghost use Rattle.std.specs.Prelude.{◌≡◌, ◌≤◌, pos, length};
-ghost use Rattle.matrix.specs.Verdicts.{Passes, ◌then◌};
-ghost use Rattle.bars.specs.Asked.{BarsListed};
+ghost use Rattle.matrix.specs.Asked.{ColumnsListed};
 ghost use Rattle.bars.specs.Tests.{barred_most, costs_small, bars_clear, unbarred};
 
-use matrix::tests::fails_if;
-use matrix::{Verdict, refusals};
+use crate::{first_barred, first_bits_above};
+use matrix::tests::{costs_in, fails_at};
+use matrix::{Reason, Refusal};
 
 // The number once more, beside specs/Tests.antt: code cannot read a definition. The promise holds the two together.
+#[tactic(auto, unfolding(crate::specs::Tests::barred_most))]
 pub fn barred_most() -> i64
     ensures { result ≡ pos barred_most }
 {
@@ -15,38 +16,27 @@ pub fn barred_most() -> i64
 }
 
 // Test 5, of costs with bars.
-pub fn costs_small(before: Verdict, costs: &[i32]) -> Verdict
-    ensures { result ≡ (before then costs_small costs.now) }
+#[tactic(auto, using(crate::proofs::Passed::barred_most_small, matrix::proofs::SmallLimits::K_small))]
+pub fn costs_small(costs: &[i32]) -> Result<(), Refusal>
+    ensures { result ≡ costs_small costs.now }
 {
-    matrix::tests::costs_in(before, barred_most(), costs)
+    costs_in(barred_most(), costs)
 }
 
 // Test 22.
-pub fn bars_clear(before: Verdict, n: usize, bars: &[u64]) -> Verdict
-    requires { Passes before → (n ≤ 64) × (n ≤ length bars.now) }
-    ensures { result ≡ (before then bars_clear n bars.now) }
+#[tactic(auto, using(matrix::proofs::Verdicts::found_fails))]
+pub fn bars_clear(n: usize, bars: &[u64]) -> Result<(), Refusal>
+    requires { (n ≤ 64) × (n ≤ length bars.now) }
+    ensures { result ≡ bars_clear n bars.now }
 {
-    match before {
-        Verdict::Fails(refusal) => {
-            return Verdict::Fails(refusal);
-        }
-        Verdict::Passed => {}
-    }
-    let i = crate::first_bits_above(n, bars);
-    fails_if(i < n, refusals::BARS_PAST_SIDE, i)
+    fails_at(first_bits_above(n, bars), Reason::BarsPastSide)
 }
 
-// Test 26.
-pub fn unbarred(before: Verdict, n: usize, bars: &[u64], cols: &[u32]) -> Verdict
-    requires { Passes before → BarsListed n bars.now cols.now }
-    ensures { result ≡ (before then unbarred n bars.now cols.now) }
+// Test 26, of m rows and up to 64 columns.
+#[tactic(auto, using(matrix::proofs::Verdicts::found_fails))]
+pub fn unbarred(m: usize, bars: &[u64], cols: &[u32]) -> Result<(), Refusal>
+    requires { ColumnsListed m 64 cols.now }
+    ensures { result ≡ unbarred m bars.now cols.now }
 {
-    match before {
-        Verdict::Fails(refusal) => {
-            return Verdict::Fails(refusal);
-        }
-        Verdict::Passed => {}
-    }
-    let i = crate::first_barred(n, bars, cols);
-    fails_if(i < n, refusals::BARRED_PAIR, i)
+    fails_at(first_barred(m, bars, cols), Reason::BarredPair)
 }

@@ -8,7 +8,7 @@ use lib.IntN.{ℤ}
 use lib.ListN.{length}
 use Rattle.assignment.specs.Pairings.{square, total}
 use Rattle.matrix.specs.Verdicts.{Passes}
-use Rattle.matrix.specs.declared.Answer.TheVariants.{Total}
+use Rattle.std.specs.Prelude.{Ok}
 use Rattle.matrix.proofs.Verdicts.{then_iff, totalled_iff}
 use Rattle.matrix.proofs.Passed.{shaped_iff, costs_within_lem, columns_inside_lem}
 use Rattle.checker.specs.Check.{checks, check}
@@ -49,15 +49,15 @@ module _ (n : ℕ) (costs : List ℤ) (cols rows : List ℕ) (us vs : List ℤ) 
   )
 
   -- The checker accepts, with the total, exactly if all is fair.
-  pub accepted_iff : {t : ℤ} → (check n costs cols rows us vs ≡ Total t) ↔ (Proven n costs cols rows us vs × (t ≡ total (square n costs) cols))
+  pub accepted_iff : {t : ℤ} → (check n costs cols rows us vs ≡ Ok t) ↔ (Proven n costs cols rows us vs × (t ≡ total (square n costs) cols))
   unfolding check
   accepted_iff {t} = (
     λ e. let h = (totalled_iff _ _).0 e in (checks_iff.0 h.0, h.1),
     λ h. (totalled_iff _ _).1 (checks_iff.1 h.0, h.1),
   )
 
-  pub accepted_proven : {t : ℤ} → check n costs cols rows us vs ≡ Total t → Proven n costs cols rows us vs × (t ≡ total (square n costs) cols)
+  pub accepted_proven : {t : ℤ} → check n costs cols rows us vs ≡ Ok t → Proven n costs cols rows us vs × (t ≡ total (square n costs) cols)
   accepted_proven = accepted_iff.0
 
-  pub proven_accepted : Proven n costs cols rows us vs → check n costs cols rows us vs ≡ Total (total (square n costs) cols)
+  pub proven_accepted : Proven n costs cols rows us vs → check n costs cols rows us vs ≡ Ok (total (square n costs) cols)
   proven_accepted fair = accepted_iff.1 (fair, refl)

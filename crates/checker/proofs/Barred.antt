@@ -16,8 +16,8 @@ use Rattle.assignment.proofs.Pairings.{pairing_injective, named_pairing}
 use Rattle.assignment.proofs.Longer.{at_first, total_first, named_first, spares_first}
 use Rattle.matrix.specs.Limits.{sheet_side}
 use Rattle.matrix.specs.Verdicts.{Passes}
-use Rattle.matrix.specs.declared.Refusal.{Refusal}
-use Rattle.matrix.specs.declared.Answer.TheVariants.{Total, Refused}
+use Rattle.matrix.specs.declared.refusals.Refusal.{Refusal}
+use Rattle.std.specs.Prelude.{Ok, Err}
 use Rattle.matrix.proofs.Verdicts.{then_iff, totalled_iff}
 use Rattle.matrix.proofs.Passed.{side_within_lem, costs_fill_lem, lists_long_lem, list_long_lem, columns_inside_lem}
 use Rattle.bars.specs.Barred.{barred}
@@ -90,7 +90,7 @@ module _ (n : ℕ) (costs : List ℤ) (bars : List ℕ) where
     )
 
     -- It accepts, with the total, exactly what is well-formed and shown by its prices.
-    pub accepted_barred_iff : {t : ℤ} → (check_barred n costs cols rows us vs bars ≡ Total t)
+    pub accepted_barred_iff : {t : ℤ} → (check_barred n costs cols rows us vs bars ≡ Ok t)
         ↔ (BarredPaired n costs bars cols rows × Fair night us vs × Tight night us vs cols × (t ≡ total night cols))
     unfolding check_barred
     accepted_barred_iff {t} = (
@@ -118,16 +118,16 @@ module _ (n : ℕ) (costs : List ℤ) (bars : List ℕ) where
   passed_shown cols rows us vs e = let h = (checks_barred_iff cols rows us vs).0 e in barred_shown cols rows us vs h.0 h.1 h.2
 
   -- What is accepted is least.
-  pub accepted_barred_least : (cols rows : List ℕ) (us vs : List ℤ) {t : ℤ} → check_barred n costs cols rows us vs bars ≡ Total t → Least night (take n cols)
+  pub accepted_barred_least : (cols rows : List ℕ) (us vs : List ℤ) {t : ℤ} → check_barred n costs cols rows us vs bars ≡ Ok t → Least night (take n cols)
   unfolding check_barred
   accepted_barred_least cols rows us vs accepted = answer-least night us vs cols _ _ (passed_shown cols rows us vs) accepted
 
   -- The total that is given is its total.
-  pub accepted_barred_total : (cols rows : List ℕ) (us vs : List ℤ) {t : ℤ} → check_barred n costs cols rows us vs bars ≡ Total t → t ≡ total night (take n cols)
+  pub accepted_barred_total : (cols rows : List ℕ) (us vs : List ℤ) {t : ℤ} → check_barred n costs cols rows us vs bars ≡ Ok t → t ≡ total night (take n cols)
   accepted_barred_total cols rows us vs accepted = ((accepted_barred_iff cols rows us vs).0 accepted).3 ∙ sym (total_first night cols)
 
   -- Prices that are accepted for one pairing: another well-formed one is accepted under them exactly if it is least.
-  pub accepted_barred_iff_least : (cols rows : List ℕ) (us vs : List ℤ) {t : ℤ} → check_barred n costs cols rows us vs bars ≡ Total t
+  pub accepted_barred_iff_least : (cols rows : List ℕ) (us vs : List ℤ) {t : ℤ} → check_barred n costs cols rows us vs bars ≡ Ok t
       → (other back : List ℕ) → BarredPaired n costs bars other back → Accepts (check_barred n costs other back us vs bars) ↔ Least night (take n other)
   unfolding check_barred
   accepted_barred_iff_least cols rows us vs accepted other back f =
@@ -137,6 +137,6 @@ module _ (n : ℕ) (costs : List ℤ) (bars : List ℕ) where
 
   -- What is not least is refused, whatever rows and prices come with it.
   pub not_least_barred_refused : (cols rows : List ℕ) (us vs : List ℤ) → ¬ Least night (take n cols)
-      → (refusal : Refusal) × (check_barred n costs cols rows us vs bars ≡ Refused refusal)
+      → (refusal : Refusal) × (check_barred n costs cols rows us vs bars ≡ Err refusal)
   unfolding check_barred
   not_least_barred_refused cols rows us vs not_least = answer-refused night us vs cols _ _ (passed_shown cols rows us vs) not_least

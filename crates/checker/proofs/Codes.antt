@@ -14,13 +14,14 @@ use Rattle.assignment.specs.Pairings.{Night, square}
 use Rattle.matrix.specs.Limits.{side}
 use Rattle.matrix.specs.Verdicts.{Passes, ◌then◌, fails_if}
 use Rattle.matrix.specs.Refusals.{number_of, place_of}
-use Rattle.matrix.specs.declared.Refusal.{Refusal}
-use Rattle.matrix.specs.declared.Verdict.{Verdict}
-use Rattle.matrix.specs.declared.Verdict.TheVariants.{Passed, Fails}
-use Rattle.matrix.specs.declared.Answer.TheVariants.{Refused}
+use Rattle.matrix.specs.declared.refusals.Reason.{Reason}
+use Rattle.matrix.specs.declared.refusals.Refusal.{Refusal}
+use Rattle.matrix.specs.Verdicts.{Verdict}
+use Rattle.std.specs.Prelude.{Ok, Err}
 use Rattle.matrix.specs.Tests.{shaped}
 use Rattle.matrix.specs.Asked.{Tellable, TellableIn}
 use Rattle.matrix.proofs.SmallLimits.{side_small, sheet_side_within}
+use Rattle.matrix.proofs.Reasons.{number_small}
 use Rattle.matrix.proofs.Codes.{filled_small, square_small, totalled_small, shaped_small}
 use Rattle.matrix.proofs.Verdicts.{passed_first, Every, then_every, fails_by_every, refused_every, Small, then_small, fails_if_small, fails_at_by_small, fails_at_small}
 use Rattle.matrix.proofs.Passed.{shaped_iff}
@@ -38,9 +39,9 @@ prices_small night cols us vs h k =
     let places = filled_small m n (m * n) h k refl in
     then_small _ _
     (then_small _ _
-    (then_small _ _ (fails_at_small _ _ _ _ (lit< tt) (λ i l. omega (arith, side_small))) (λ g. fails_at_small _ _ _ _ (lit< tt) (λ j l. omega (arith, side_small))))
-    (λ g. fails_at_by_small _ _ _ _ _ (lit< tt) (λ i l. omega (arith, side_small, places, mul-le-mul_right n (le_of_lt l), first_le (over night us vs i) n))))
-    (λ g. fails_at_by_small _ _ _ _ _ (lit< tt) (λ i l. omega (arith, side_small)))
+    (then_small _ _ (fails_at_small _ _ _ _ (λ i l. omega (arith, side_small))) (λ g. fails_at_small _ _ _ _ (λ j l. omega (arith, side_small))))
+    (λ g. fails_at_by_small _ _ _ _ _ (λ i l. omega (arith, side_small, places, mul-le-mul_right n (le_of_lt l), first_le (over night us vs i) n))))
+    (λ g. fails_at_by_small _ _ _ _ _ (λ i l. omega (arith, side_small)))
 
 pub check_places : (n : ℕ) (costs : List ℤ) (cols rows : List ℕ) (us vs : List ℤ) → TellableIn (check n costs cols rows us vs)
 unfolding check checks
@@ -50,8 +51,8 @@ check_places n costs cols rows us vs =
     (λ e. let h = small e in
     then_small _ _
     (then_small _ _
-    (then_small _ _ (fails_at_small _ _ _ _ (lit< tt) (λ k l. omega (arith, h.1))) (λ f. fails_at_small _ _ _ _ (lit< tt) (λ i l. omega (arith, h.0, side_small))))
-    (λ f. fails_at_small _ _ _ _ (lit< tt) (λ i l. omega (arith, h.0, side_small))))
+    (then_small _ _ (fails_at_small _ _ _ _ (λ k l. omega (arith, h.1))) (λ f. fails_at_small _ _ _ _ (λ i l. omega (arith, h.0, side_small))))
+    (λ f. fails_at_small _ _ _ _ (λ i l. omega (arith, h.0, side_small))))
     (λ f. prices_small (square n costs) cols us vs h.0 h.0)))
   where
     small : Passes (shaped n costs (length cols ∷ length rows ∷ length us ∷ length vs ∷ [])) → (n ≤ side) × (length costs ≤ 2 ^ 32)
@@ -67,17 +68,17 @@ check_barred_places n costs cols rows us vs bars =
     (then_small _ _
     (then_small _ _
     (then_small _ _
-    (then_small _ _ (fails_if_small _ _ _ (lit< tt) (λ e. lit< tt)) (λ e. fails_if_small _ _ _ (lit< tt) (λ e. lit< tt)))
-    (λ e. fails_at_small _ _ _ _ (lit< tt) (λ k l. omega arith)))
-    (λ e. fails_if_small _ _ _ (lit< tt) (λ e. lit< tt)))
+    (then_small _ _ (fails_if_small _ _ _ (λ e. lit< tt)) (λ e. fails_if_small _ _ _ (λ e. lit< tt)))
+    (λ e. fails_at_small _ _ _ _ (λ k l. omega arith)))
+    (λ e. fails_if_small _ _ _ (λ e. lit< tt)))
     (λ e. let h = small e in
     then_small _ _
     (then_small _ _
     (then_small _ _
-    (then_small _ _ (fails_at_small _ _ _ _ (lit< tt) (λ k l. omega (arith, h.1))) (λ f. fails_at_small _ _ _ _ (lit< tt) (λ i l. omega (arith, h.0, side_small))))
-    (λ f. fails_at_small _ _ _ _ (lit< tt) (λ i l. omega (arith, h.0, side_small))))
-    (λ f. fails_at_small _ _ _ _ (lit< tt) (λ i l. omega (arith, h.0, side_small))))
-    (λ f. fails_at_small _ _ _ _ (lit< tt) (λ i l. omega (arith, h.0, side_small)))))
+    (then_small _ _ (fails_at_small _ _ _ _ (λ k l. omega (arith, h.1))) (λ f. fails_at_small _ _ _ _ (λ i l. omega (arith, h.0, side_small))))
+    (λ f. fails_at_small _ _ _ _ (λ i l. omega (arith, h.0, side_small))))
+    (λ f. fails_at_small _ _ _ _ (λ i l. omega (arith, h.0, side_small))))
+    (λ f. fails_at_small _ _ _ _ (λ i l. omega (arith, h.0, side_small)))))
     (λ e. let h = small (passed_first _ _ e) in prices_small (barred n costs bars) cols us vs h.0 h.0))
   where
     small : Passes (shaped_barred n costs (length cols ∷ length rows ∷ length us ∷ length vs ∷ []) (length bars)) → (n ≤ side) × (length costs ≤ 2 ^ 32)
@@ -88,11 +89,11 @@ check_barred_places n costs cols rows us vs bars =
 
 -- An oblong night's: 23 names the row count, whatever it is; every other place is far below 2^48.
 abbrev Placed : ℕ → Refusal → Type 0
-Placed m refusal = (number_of refusal < 256) × ((place_of refusal < 2 ^ 48) ⊎ (place_of refusal ≡ m))
+Placed m refusal = (place_of refusal < 2 ^ 48) ⊎ (place_of refusal ≡ m)
 
 small_placed : (m : ℕ) (verdict : Verdict) → Small verdict → Every (Placed m) verdict
-small_placed m Passed h = tt
-small_placed m (Fails refusal) h = (h.0, inl h.1)
+small_placed m (Ok _) h = tt
+small_placed m (Err refusal) h = inl h
 
 oblong_placed : (m n : ℕ) (costs : List ℤ) (cols : List ℕ) (us vs : List ℤ) → Every (Placed m) (checks_oblong m n costs cols us vs)
 unfolding checks_oblong
@@ -103,22 +104,22 @@ oblong_placed m n costs cols us vs =
     (both _ _
     (both _ _
     (both _ _
-    (both _ _ (both _ _ (if_small _ 0 _ (lit< tt) (lit< tt)) (λ e. fails_by_every (Placed m) _ _ _ _ (λ f. (lit< tt, inr refl)))) (λ e. if_small _ 0 _ (lit< tt) (lit< tt)))
-    (λ e. if_small _ 1 _ (lit< tt) (lit< tt)))
-    (λ e. if_small _ 3 _ (lit< tt) (lit< tt)))
-    (λ e. if_small _ 4 _ (lit< tt) (lit< tt)))
+    (both _ _ (both _ _ (if_small _ 0 _ (lit< tt)) (λ e. fails_by_every (Placed m) _ _ _ _ (λ f. inr refl))) (λ e. if_small _ 0 _ (lit< tt)))
+    (λ e. if_small _ 1 _ (lit< tt)))
+    (λ e. if_small _ 3 _ (lit< tt)))
+    (λ e. if_small _ 4 _ (lit< tt)))
     (λ e. let h = small e in small_placed m (paired_oblong m n costs cols)
     (then_small _ _
-    (then_small _ _ (fails_at_small _ _ _ _ (lit< tt) (λ k l. omega (arith, h.2))) (λ f. fails_at_small _ _ _ _ (lit< tt) (λ i l. omega (arith, h.0, side_small))))
-    (λ f. fails_at_small _ _ _ _ (lit< tt) (λ i l. omega (arith, h.0, side_small))))))
+    (then_small _ _ (fails_at_small _ _ _ _ (λ k l. omega (arith, h.2))) (λ f. fails_at_small _ _ _ _ (λ i l. omega (arith, h.0, side_small))))
+    (λ f. fails_at_small _ _ _ _ (λ i l. omega (arith, h.0, side_small))))))
     (λ e. let h = small (passed_first _ _ e) in small_placed m (price_tests (night_of m n costs []) cols us vs) (prices_small (night_of m n costs []) cols us vs h.0 h.1)))
-    (λ e. let h = small (passed_first _ _ (passed_first _ _ e)) in small_placed m (spares_not_below m n cols vs) (fails_at_small _ _ _ _ (lit< tt) (λ j l. omega (arith, h.1, side_small))))
+    (λ e. let h = small (passed_first _ _ (passed_first _ _ e)) in small_placed m (spares_not_below m n cols vs) (fails_at_small _ _ _ _ (λ j l. omega (arith, h.1, side_small))))
   where
     both : (a b : Verdict) → Every (Placed m) a → (Passes a → Every (Placed m) b) → Every (Placed m) (a then b)
     both = then_every (Placed m)
 
-    if_small : (number place : ℕ) (test : Bool) → number < 256 → place < 2 ^ 48 → Every (Placed m) (fails_if number place test)
-    if_small number place test a b = fails_by_every (Placed m) number place (pos 0) test (λ f. (a, inl b))
+    if_small : (reason : Reason) (place : ℕ) (test : Bool) → place < 2 ^ 48 → Every (Placed m) (fails_if reason place test)
+    if_small reason place test l = fails_by_every (Placed m) reason place (pos 0) test (λ f. inl l)
 
     small : Passes (shaped_oblong m n costs (length cols) (length us) (length vs)) → (m ≤ side) × (n ≤ side) × (length costs ≤ 2 ^ 32)
     small e =
@@ -128,13 +129,11 @@ oblong_placed m n costs cols us vs =
 
 -- So each has a number below 256, and is one number where the row count is below 2^48.
 pub check_oblong_numbers : (m n : ℕ) (costs : List ℤ) (cols : List ℕ) (us vs : List ℤ) {refusal : Refusal}
-    → check_oblong m n costs cols us vs ≡ Refused refusal → number_of refusal < 256
-unfolding check_oblong
-check_oblong_numbers m n costs cols us vs e = (refused_every (Placed m) _ _ (oblong_placed m n costs cols us vs) e).0
+    → check_oblong m n costs cols us vs ≡ Err refusal → number_of refusal < 256
+check_oblong_numbers m n costs cols us vs {refusal} e = number_small refusal.reason
 
 pub check_oblong_places : (m n : ℕ) (costs : List ℤ) (cols : List ℕ) (us vs : List ℤ) → m < 2 ^ 48 → {refusal : Refusal}
-    → check_oblong m n costs cols us vs ≡ Refused refusal → Tellable refusal
+    → check_oblong m n costs cols us vs ≡ Err refusal → Tellable refusal
 unfolding check_oblong
 check_oblong_places m n costs cols us vs l e =
-    let h = refused_every (Placed m) _ _ (oblong_placed m n costs cols us vs) e in
-    (h.0, ⊎_elim (λ b. b) (λ s. omega arith) h.1)
+    ⊎_elim (λ b. b) (λ s. omega arith) (refused_every (Placed m) _ _ (oblong_placed m n costs cols us vs) e)

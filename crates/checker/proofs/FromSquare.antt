@@ -20,7 +20,7 @@ use Rattle.assignment.proofs.Square.{square_named_pairing}
 use Rattle.assignment.proofs.Longer.{tight_first, spares_first}
 use Rattle.assignment.proofs.Padded.{padded_feasible, padded_tight, padded_spares}
 use Rattle.matrix.specs.Limits.{sheet_side, K}
-use Rattle.matrix.specs.declared.Answer.TheVariants.{Total}
+use Rattle.std.specs.Prelude.{Ok}
 use Rattle.bars.specs.Barred.{night_of, barred, first_barred, bits_above, filled_costs}
 use Rattle.bars.specs.Tests.{barred_most}
 use Rattle.bars.proofs.Passed.{none_barred_lem}
@@ -44,7 +44,7 @@ module _ (n : ℕ) (dear : ℤ) (costs : List ℤ) (bars : List ℕ) (small : n 
     met : Tight night us vs cols
     met = record { met = λ i l. rw (allowed i l) at (proven.tight.met i l ∙ filled-cost n dear costs bars i (at cols i) l (proven.named.inside i l)) }
 
-    pub filled_accepted : check_barred n costs cols rows us vs bars ≡ Total (total night cols)
+    pub filled_accepted : check_barred n costs cols rows us vs bars ≡ Ok (total night cols)
     filled_accepted = (accepted_barred_iff n costs bars cols rows us vs).1 (
       record {
         small = small;
@@ -73,7 +73,7 @@ module _ (m n : ℕ) (costs : List ℤ) (small : n ≤ sheet_side) (fits : m ≤
   oblong = night_of m n costs []
 
   pub padded_accepted : Feasible (padded oblong) us vs → Pairing (padded oblong) cols → Tight (padded oblong) us vs cols
-      → check_oblong m n costs cols us vs ≡ Total (total oblong cols)
+      → check_oblong m n costs cols us vs ≡ Ok (total oblong cols)
   padded_accepted fair p tight = (accepted_oblong_iff m n costs cols us vs).1 (
     record {
       small = small;
@@ -104,7 +104,7 @@ module _ (m n : ℕ) (costs : List ℤ) (small : n ≤ sheet_side) (fits : m ≤
         by true e = rw e (none_barred_lem m n costs i j)
         by false e = rw e
 
-    pub padded_proven_accepted : check_oblong m n costs cols us vs ≡ Total (total oblong cols)
+    pub padded_proven_accepted : check_oblong m n costs cols us vs ≡ Ok (total oblong cols)
     padded_proven_accepted =
         let p = square_named_pairing n square-costs cols rows size proven.named in
         padded_accepted

@@ -11,8 +11,8 @@ use Rattle.assignment.specs.Pairings.{square, Pairing, total, Least, Named}
 use Rattle.assignment.proofs.Square.{square_spares, square_named_pairing}
 use Rattle.assignment.proofs.Longer.{total_first, named_first, spares_first}
 use Rattle.matrix.specs.Verdicts.{Passes}
-use Rattle.matrix.specs.declared.Refusal.{Refusal}
-use Rattle.matrix.specs.declared.Answer.TheVariants.{Total, Refused}
+use Rattle.matrix.specs.declared.refusals.Refusal.{Refusal}
+use Rattle.std.specs.Prelude.{Ok, Err}
 use Rattle.matrix.proofs.Verdicts.{totalled_iff}
 use Rattle.checker.specs.Check.{checks, check}
 use Rattle.checker.specs.Proven.{Accepts, Proven, Shown}
@@ -35,16 +35,16 @@ module _ (n : ℕ) (costs : List ℤ) where
   passed_shown cols rows us vs e = proven_shown cols rows us vs ((checks_iff n costs cols rows us vs).0 e)
 
   -- What is accepted is least.
-  pub accepted_least : (cols rows : List ℕ) (us vs : List ℤ) {t : ℤ} → check n costs cols rows us vs ≡ Total t → Least (square n costs) (take n cols)
+  pub accepted_least : (cols rows : List ℕ) (us vs : List ℤ) {t : ℤ} → check n costs cols rows us vs ≡ Ok t → Least (square n costs) (take n cols)
   unfolding check
   accepted_least cols rows us vs accepted = answer-least (square n costs) us vs cols _ _ (passed_shown cols rows us vs) accepted
 
   -- The total that is given is its total.
-  pub accepted_total : (cols rows : List ℕ) (us vs : List ℤ) {t : ℤ} → check n costs cols rows us vs ≡ Total t → t ≡ total (square n costs) (take n cols)
+  pub accepted_total : (cols rows : List ℕ) (us vs : List ℤ) {t : ℤ} → check n costs cols rows us vs ≡ Ok t → t ≡ total (square n costs) (take n cols)
   accepted_total cols rows us vs accepted = (accepted_proven n costs cols rows us vs accepted).1 ∙ sym (total_first (square n costs) cols)
 
   -- Prices that are accepted for one pairing: another well-formed one is accepted under them exactly if it is least.
-  pub accepted_iff_least : (cols rows : List ℕ) (us vs : List ℤ) {t : ℤ} → check n costs cols rows us vs ≡ Total t
+  pub accepted_iff_least : (cols rows : List ℕ) (us vs : List ℤ) {t : ℤ} → check n costs cols rows us vs ≡ Ok t
       → (other back : List ℕ) → n ≤ length other → n ≤ length back → Named (square n costs) other back
       → Accepts (check n costs other back us vs) ↔ Least (square n costs) (take n other)
   unfolding check
@@ -66,6 +66,6 @@ module _ (n : ℕ) (costs : List ℤ) where
 
   -- What is not least is refused, whatever rows and prices come with it.
   pub not_least_refused : (cols rows : List ℕ) (us vs : List ℤ) → ¬ Least (square n costs) (take n cols)
-      → (refusal : Refusal) × (check n costs cols rows us vs ≡ Refused refusal)
+      → (refusal : Refusal) × (check n costs cols rows us vs ≡ Err refusal)
   unfolding check
   not_least_refused cols rows us vs not_least = answer-refused (square n costs) us vs cols _ _ (passed_shown cols rows us vs) not_least

@@ -6,8 +6,10 @@ pub mod Slacks
 pub mod Accepted
 pub mod Shown
 pub mod Least
+pub mod Found
 pub mod Barred
 pub mod Oblong
+pub mod Past
 pub mod SquareOblong
 pub mod FromSquare
 pub mod Determined

@@ -14,8 +14,8 @@ use Rattle.assignment.specs.Prices.{Tight, SparesNotBelow}
 use Rattle.assignment.proofs.Longer.{at_first, total_first}
 use Rattle.matrix.specs.Limits.{sheet_side}
 use Rattle.matrix.specs.Verdicts.{Passes}
-use Rattle.matrix.specs.declared.Refusal.{Refusal}
-use Rattle.matrix.specs.declared.Answer.TheVariants.{Total, Refused}
+use Rattle.matrix.specs.declared.refusals.Refusal.{Refusal}
+use Rattle.std.specs.Prelude.{Ok, Err}
 use Rattle.matrix.proofs.Verdicts.{then_iff, totalled_iff}
 use Rattle.matrix.proofs.Passed.{side_within_lem, costs_fill_lem, list_long_lem, costs_within_lem, columns_inside_lem}
 use Rattle.bars.specs.Barred.{night_of}
@@ -85,7 +85,7 @@ module _ (m n : ℕ) (costs : List ℤ) where
     )
 
     -- It accepts, with the total, exactly what is well-formed and shown by its prices.
-    pub accepted_oblong_iff : {t : ℤ} → (check_oblong m n costs cols us vs ≡ Total t)
+    pub accepted_oblong_iff : {t : ℤ} → (check_oblong m n costs cols us vs ≡ Ok t)
         ↔ (OblongPaired m n costs cols × Fair night us vs × Tight night us vs cols × SparesNotBelow night vs cols × (t ≡ total night cols))
     unfolding check_oblong
     accepted_oblong_iff {t} = (
@@ -108,16 +108,16 @@ module _ (m n : ℕ) (costs : List ℤ) where
       record { pairing = oblong_pairing cols h.0; feasible = h.1.feasible; tight = h.2; spares = h.3 }
 
   -- What is accepted is least.
-  pub accepted_oblong_least : (cols : List ℕ) (us vs : List ℤ) {t : ℤ} → check_oblong m n costs cols us vs ≡ Total t → Least night (take m cols)
+  pub accepted_oblong_least : (cols : List ℕ) (us vs : List ℤ) {t : ℤ} → check_oblong m n costs cols us vs ≡ Ok t → Least night (take m cols)
   unfolding check_oblong
   accepted_oblong_least cols us vs accepted = answer-least night us vs cols _ _ (passed_shown cols us vs) accepted
 
   -- The total that is given is its total.
-  pub accepted_oblong_total : (cols : List ℕ) (us vs : List ℤ) {t : ℤ} → check_oblong m n costs cols us vs ≡ Total t → t ≡ total night (take m cols)
+  pub accepted_oblong_total : (cols : List ℕ) (us vs : List ℤ) {t : ℤ} → check_oblong m n costs cols us vs ≡ Ok t → t ≡ total night (take m cols)
   accepted_oblong_total cols us vs accepted = ((accepted_oblong_iff cols us vs).0 accepted).4 ∙ sym (total_first night cols)
 
   -- Prices that are accepted for one choice: another well-formed one is accepted under them exactly if it is least.
-  pub accepted_oblong_iff_least : (cols : List ℕ) (us vs : List ℤ) {t : ℤ} → check_oblong m n costs cols us vs ≡ Total t
+  pub accepted_oblong_iff_least : (cols : List ℕ) (us vs : List ℤ) {t : ℤ} → check_oblong m n costs cols us vs ≡ Ok t
       → (other : List ℕ) → OblongPaired m n costs other → Accepts (check_oblong m n costs other us vs) ↔ Least night (take m other)
   unfolding check_oblong
   accepted_oblong_iff_least cols us vs accepted other f =
@@ -127,6 +127,6 @@ module _ (m n : ℕ) (costs : List ℤ) where
 
   -- What is not least is refused, whatever prices come with it.
   pub not_least_oblong_refused : (cols : List ℕ) (us vs : List ℤ) → ¬ Least night (take m cols)
-      → (refusal : Refusal) × (check_oblong m n costs cols us vs ≡ Refused refusal)
+      → (refusal : Refusal) × (check_oblong m n costs cols us vs ≡ Err refusal)
   unfolding check_oblong
   not_least_oblong_refused cols us vs not_least = answer-refused night us vs cols _ _ (passed_shown cols us vs) not_least

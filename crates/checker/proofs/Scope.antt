@@ -17,7 +17,7 @@ use Rattle.assignment.specs.Pairings.{Night, square, total}
 use Rattle.assignment.specs.Prices.{priced}
 use Rattle.matrix.specs.Verdicts.{bare}
 use Rattle.matrix.specs.Answers.{bare_answer, totalled}
-use Rattle.matrix.specs.declared.Verdict.{Verdict}
+use Rattle.matrix.specs.Verdicts.{Verdict}
 use Rattle.matrix.proofs.First.{first_cong}
 use Rattle.matrix.proofs.Verdicts.{bare_then, bare-at, bare-totalled, fails_at_cong}
 use Rattle.matrix.proofs.Bare.{shaped-bare}

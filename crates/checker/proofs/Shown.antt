@@ -11,10 +11,9 @@ use Rattle.assignment.proofs.Duality.{prices_least, least_iff}
 use Rattle.assignment.proofs.Longer.{tight_first, spares_first}
 use Rattle.matrix.specs.Verdicts.{Passes}
 use Rattle.matrix.specs.Answers.{totalled}
-use Rattle.matrix.specs.declared.Refusal.{Refusal}
-use Rattle.matrix.specs.declared.Verdict.{Verdict}
-use Rattle.matrix.specs.declared.Verdict.TheVariants.{Passed, Fails}
-use Rattle.matrix.specs.declared.Answer.TheVariants.{Total, Refused}
+use Rattle.matrix.specs.declared.refusals.Refusal.{Refusal}
+use Rattle.matrix.specs.Verdicts.{Verdict}
+use Rattle.std.specs.Prelude.{Ok, Err}
 use Rattle.matrix.proofs.Verdicts.{totalled_iff, fails_totalled}
 use Rattle.checker.specs.Proven.{Accepts, Shown}
 
@@ -36,18 +35,18 @@ module _ (night : Night) (us vs : List ℤ) where
 
   -- What is not least fails, in any hall of tests whose pass shows a pairing.
   pub not_least_fails : (cols : List ℕ) (verdict : Verdict) → (Passes verdict → Shown night cols us vs) → ¬ Least night (take night.row_count cols)
-      → (refusal : Refusal) × (verdict ≡ Fails refusal)
-  not_least_fails cols Passed shows not_least = absurd (not_least (shown_least cols (shows refl)))
-  not_least_fails cols (Fails refusal) shows not_least = (refusal, refl)
+      → (refusal : Refusal) × (verdict ≡ Err refusal)
+  not_least_fails cols (Ok _) shows not_least = absurd (not_least (shown_least cols (shows refl)))
+  not_least_fails cols (Err refusal) shows not_least = (refusal, refl)
 
   -- ---- a checker: an answer that gives a total where a hall of tests is passed, and its refusal where not
 
   module _ (cols : List ℕ) (verdict : Verdict) (total : ℤ) where
     -- A pass shows the pairing: what is accepted is least, and what is not least is refused.
-    pub answer-least : (Passes verdict → Shown night cols us vs) → {t : ℤ} → totalled verdict total ≡ Total t → Least night (take night.row_count cols)
+    pub answer-least : (Passes verdict → Shown night cols us vs) → {t : ℤ} → totalled verdict total ≡ Ok t → Least night (take night.row_count cols)
     answer-least shows accepted = shown_least cols (shows ((totalled_iff verdict total).0 accepted).0)
 
-    pub answer-refused : (Passes verdict → Shown night cols us vs) → ¬ Least night (take night.row_count cols) → (refusal : Refusal) × (totalled verdict total ≡ Refused refusal)
+    pub answer-refused : (Passes verdict → Shown night cols us vs) → ¬ Least night (take night.row_count cols) → (refusal : Refusal) × (totalled verdict total ≡ Err refusal)
     answer-refused shows not_least =
         let r = not_least_fails cols verdict shows not_least in
         (r.0, sym (fails_totalled total r.1))

@@ -21,10 +21,12 @@ use Rattle.assignment.specs.Pairings.{Night, square, signed_at}
 use Rattle.assignment.specs.Prices.{priced}
 use Rattle.matrix.specs.Limits.{K}
 use Rattle.matrix.specs.Verdicts.{Passes, fails_if, fails_at}
-use Rattle.matrix.specs.Refusals.{PricesOverCost, PricesNotCost}
+use Rattle.matrix.specs.Refusals.{number}
+use Rattle.matrix.specs.declared.refusals.Reason.{Reason}
+use Rattle.matrix.specs.declared.refusals.Reason.TheVariants.{PricesOverCost, PricesNotCost}
 use Rattle.matrix.specs.Tests.{prices_within}
-use Rattle.matrix.specs.declared.Refusal.{Refusal}
-use Rattle.matrix.specs.declared.Answer.TheVariants.{Refused}
+use Rattle.matrix.specs.declared.refusals.Refusal.{Refusal}
+use Rattle.std.specs.Prelude.{Err}
 use Rattle.matrix.proofs.Places.{place_in, place-below}
 use Rattle.matrix.proofs.Verdicts.{then_iff, Every, then_every, fails_by_every, fails_at_by_every, refused_every}
 use Rattle.matrix.proofs.Passed.{shaped_iff, costs_within_lem, columns_inside_lem, prices_within_lem}
@@ -39,30 +41,31 @@ use Rattle.checker.proofs.Barred.{shaped_barred_iff}
 use Rattle.checker.proofs.Oblong.{shaped_oblong_iff}
 
 -- A refusal that is neither 9 nor 10.
-pub neither_right : (number place : ℕ) → ¬ (number ≡ PricesOverCost) → ¬ (number ≡ PricesNotCost) → SlackRight (record { number = number; place = place; slack = pos 0 })
-neither_right number place nine ten =
+pub neither_right : (reason : Reason) (place : ℕ) → ¬ (number reason ≡ number PricesOverCost) → ¬ (number reason ≡ number PricesNotCost)
+    → SlackRight (record { reason = reason; place = place; slack = pos 0 })
+neither_right reason place nine ten =
     record { nine_negative = λ e. absurd (nine e); ten_positive = λ e. absurd (ten e); others_none = λ e f. refl; within = omega zarith }
 
-neither_if : (number place : ℕ) (test : Bool) → 10 < number → Every SlackRight (fails_if number place test)
-neither_if number place test l = fails_by_every SlackRight number place (pos 0) test (λ e. neither_right number place (λ s. omega arith) (λ s. omega arith))
+neither_if : (reason : Reason) (place : ℕ) (test : Bool) → 10 < number reason → Every SlackRight (fails_if reason place test)
+neither_if reason place test l = fails_by_every SlackRight reason place (pos 0) test (λ e. neither_right reason place (λ s. omega arith) (λ s. omega arith))
 
-pub neither_at : (number : ℕ) (place : ℕ → ℕ) (n : ℕ) (test : ℕ → Bool) → 10 < number → Every SlackRight (fails_at number place n test)
-neither_at number place n test l =
-    fails_at_by_every SlackRight number place (λ k. pos 0) n test (λ k h e clear. neither_right number (place k) (λ s. omega arith) (λ s. omega arith))
+pub neither_at : (reason : Reason) (place : ℕ → ℕ) (n : ℕ) (test : ℕ → Bool) → 10 < number reason → Every SlackRight (fails_at reason place n test)
+neither_at reason place n test l =
+    fails_at_by_every SlackRight reason place (λ k. pos 0) n test (λ k h e clear. neither_right reason (place k) (λ s. omega arith) (λ s. omega arith))
 
-none_right : (number place : ℕ) → number < 9 → SlackRight (record { number = number; place = place; slack = pos 0 })
-none_right number place l = neither_right number place (λ e. omega arith) (λ e. omega arith)
+none_right : (reason : Reason) (place : ℕ) → number reason < 9 → SlackRight (record { reason = reason; place = place; slack = pos 0 })
+none_right reason place l = neither_right reason place (λ e. omega arith) (λ e. omega arith)
 
-pub none_if : (number place : ℕ) (test : Bool) → number < 9 → Every SlackRight (fails_if number place test)
-none_if number place test l = fails_by_every SlackRight number place (pos 0) test (λ e. none_right number place l)
+pub none_if : (reason : Reason) (place : ℕ) (test : Bool) → number reason < 9 → Every SlackRight (fails_if reason place test)
+none_if reason place test l = fails_by_every SlackRight reason place (pos 0) test (λ e. none_right reason place l)
 
-pub none_at : (number : ℕ) (place : ℕ → ℕ) (n : ℕ) (test : ℕ → Bool) → number < 9 → Every SlackRight (fails_at number place n test)
-none_at number place n test l = fails_at_by_every SlackRight number place (λ k. pos 0) n test (λ k h e clear. none_right number (place k) l)
+pub none_at : (reason : Reason) (place : ℕ → ℕ) (n : ℕ) (test : ℕ → Bool) → number reason < 9 → Every SlackRight (fails_at reason place n test)
+none_at reason place n test l = fails_at_by_every SlackRight reason place (λ k. pos 0) n test (λ k h e clear. none_right reason (place k) l)
 
-nine_right : (place : ℕ) (slack : ℤ) → slack <ℤ pos 0 → Within (21 * K) slack → SlackRight (record { number = PricesOverCost; place = place; slack = slack })
+nine_right : (place : ℕ) (slack : ℤ) → slack <ℤ pos 0 → Within (21 * K) slack → SlackRight (record { reason = PricesOverCost; place = place; slack = slack })
 nine_right place slack l w = record { nine_negative = λ e. l; ten_positive = λ e. absurd (omega arith); others_none = λ e f. absurd (e refl); within = w }
 
-ten_right : (place : ℕ) (slack : ℤ) → pos 0 <ℤ slack → Within (21 * K) slack → SlackRight (record { number = PricesNotCost; place = place; slack = slack })
+ten_right : (place : ℕ) (slack : ℤ) → pos 0 <ℤ slack → Within (21 * K) slack → SlackRight (record { reason = PricesNotCost; place = place; slack = slack })
 ten_right place slack l w = record { nine_negative = λ e. absurd (omega arith); ten_positive = λ e. l; others_none = λ e f. absurd (f refl); within = w }
 
 and_right : (a b : Bool) → (a && b) ≡ true → b ≡ true
@@ -127,7 +130,7 @@ module _ (night : Night) (us vs : List ℤ) (costs : (i j : ℕ) → i < night.r
 
 -- A refusal of the checker carries the right slack.
 pub check_slacks : (n : ℕ) (costs : List ℤ) (cols rows : List ℕ) (us vs : List ℤ) {refusal : Refusal}
-    → check n costs cols rows us vs ≡ Refused refusal → SlackRight refusal
+    → check n costs cols rows us vs ≡ Err refusal → SlackRight refusal
 unfolding check checks
 check_slacks n costs cols rows us vs e =
     refused_every SlackRight _ _
@@ -144,7 +147,7 @@ check_slacks n costs cols rows us vs e =
 
 -- So does one of a night with bars.
 pub check_barred_slacks : (n : ℕ) (costs : List ℤ) (cols rows : List ℕ) (us vs : List ℤ) (bars : List ℕ) {refusal : Refusal}
-    → check_barred n costs cols rows us vs bars ≡ Refused refusal → SlackRight refusal
+    → check_barred n costs cols rows us vs bars ≡ Err refusal → SlackRight refusal
 unfolding check_barred checks_barred
 check_barred_slacks n costs cols rows us vs bars e =
     refused_every SlackRight _ _
@@ -167,7 +170,7 @@ check_barred_slacks n costs cols rows us vs bars e =
 
 -- And one of an oblong night.
 pub check_oblong_slacks : (m n : ℕ) (costs : List ℤ) (cols : List ℕ) (us vs : List ℤ) {refusal : Refusal}
-    → check_oblong m n costs cols us vs ≡ Refused refusal → SlackRight refusal
+    → check_oblong m n costs cols us vs ≡ Err refusal → SlackRight refusal
 unfolding check_oblong checks_oblong
 check_oblong_slacks m n costs cols us vs e =
     refused_every SlackRight _ _

@@ -1,33 +1,31 @@
 -- A square night checked as an oblong one: where its lists name each other, the answer is that of the square checker, for sides to 64. Where they do
 -- not, 7 is told of other rows: the one reads the rows, the other the columns alone. Assumes nothing.
 use mathlib.Core.Path.{◌≡◌, refl, sym, ap, ap₂, ◌∙◌}
-use mathlib.Core.Bool.{Bool}
 use mathlib.Core.List.{List, [], ◌∷◌}
-use Prim.Native.Nat.{ℕ, ◌+◌, ◌≤◌, ◌<◌}
-use native.Mathlib.Decide.{dec_lt}
+use Prim.Native.Nat.{ℕ, ◌+◌, ◌≤◌}
 use native.Mathlib.Nat.{le_refl, le_trans}
+use mathlib.Core.Bool.{Bool, true, false}
 use native.Mathlib.Omega.{arith}
-use borrow.Author.Tests.{lt-ltb, le-ltb}
-use lib.IntN.{ℤ, pos}
+use borrow.Author.Tests.{le-ltb}
+use lib.Dec.{ltb}
+use lib.IntN.{ℤ}
 use lib.ListN.{length}
-use Rattle.lists.specs.Runs.{first}
 use Rattle.lists.specs.Permutations.{at, Injective}
 use Rattle.lists.proofs.Injections.{reached}
 use Rattle.lists.proofs.Permutations.{injective_back}
 use Rattle.assignment.specs.Pairings.{Night, square, total, Named}
 use Rattle.assignment.specs.Prices.{SparesNotBelow}
 use Rattle.matrix.specs.Limits.{side, sheet_side}
-use Rattle.matrix.specs.Refusals.{ListLength}
-use Rattle.matrix.specs.Verdicts.{Passes, ◌then◌, fails_by}
+use Rattle.matrix.specs.Verdicts.{Passes, ◌then◌, fails_by, fails_if, fails_at}
+use Rattle.matrix.specs.declared.refusals.Reason.TheVariants.{ListLength}
 use Rattle.matrix.specs.Tests.{short, side_within, costs_fill, lists_long, list_long, shaped, costs_within, columns_inside}
 use Rattle.matrix.specs.Answers.{totalled}
-use Rattle.matrix.specs.declared.Refusal.{Refusal}
-use Rattle.matrix.specs.declared.Verdict.{Verdict}
-use Rattle.matrix.specs.declared.Verdict.TheVariants.{Passed, Fails}
+use Rattle.matrix.specs.Verdicts.{Verdict}
+use Rattle.std.specs.Prelude.{Ok, Err, Some, None}
 use Rattle.matrix.proofs.SmallLimits.{sheet_side_within}
-use Rattle.matrix.proofs.First.{clear_start, clear_more, found}
-use Rattle.matrix.proofs.Verdicts.{then_iff, then_assoc, fails_then, passed_then, found_at_by}
-use Rattle.matrix.proofs.Passed.{side_within_lem, list_long_lem, lists_long_lem, columns_inside_lem}
+use Rattle.matrix.proofs.First.{clear_start, clear_more}
+use Rattle.matrix.proofs.Verdicts.{then_iff, then_assoc, passed_then, found_fails}
+use Rattle.matrix.proofs.Passed.{side_within_lem, columns_inside_lem}
 use Rattle.bars.specs.Barred.{night_of}
 use Rattle.bars.proofs.Passed.{square-unbarred}
 use Rattle.checker.specs.Tests.{rows_named, rows_fit, columns_once, spares_not_below}
@@ -39,48 +37,21 @@ passed_before : (a b : Verdict) → Passes a → (a then b) ≡ b
 passed_before a b e = sym (passed_then b e refl)
 
 passed_after : (a b : Verdict) → Passes b → (a then b) ≡ a
-unfolding ◌then◌
-passed_after Passed b e = e
-passed_after (Fails refusal) b e = refl
+passed_after (Ok _) b e = e
+passed_after (Err refusal) b e = refl
+
+-- Three tests in a row refuse as one of four does, whose second is passed.
+three : (t : ℕ → Bool) (b₀ b₂ b₃ : Bool) → t 0 ≡ b₀ → t 1 ≡ false → t 2 ≡ b₂ → t 3 ≡ b₃
+    → fails_at ListLength (λ k. k + 1) 4 t ≡ (fails_if ListLength 1 b₀ then fails_if ListLength 3 b₂ then fails_if ListLength 4 b₃)
+unfolding fails_by
+three t true b₂ b₃ e f g h = sym (found_fails ListLength (λ k. k + 1) 4 t (Some 0) (omega arith, e, clear_start t))
+three t false true b₃ e f g h = sym (found_fails ListLength (λ k. k + 1) 4 t (Some 2) (omega arith, g, clear_more t 1 (clear_more t 0 (clear_start t) e) f))
+three t false false true e f g h = sym (found_fails ListLength (λ k. k + 1) 4 t (Some 3) (omega arith, h, clear_more t 2 (clear_more t 1 (clear_more t 0 (clear_start t) e) f) g))
+three t false false false e f g h = sym (found_fails ListLength (λ k. k + 1) 4 t None (clear_more t 3 (clear_more t 2 (clear_more t 1 (clear_more t 0 (clear_start t) e) f) g) h))
 
 -- Where list 2 is long enough, 3 is that of the three other lists.
-module _ (n a b c d : ℕ) (rows : n ≤ b) where
-  abbrev test : ℕ → Bool
-  test = short n (a ∷ b ∷ c ∷ d ∷ [])
-
-  abbrev given : ℕ → Refusal
-  given place = record { number = ListLength; place = place; slack = pos 0 }
-
-  -- list k + 1 is the first short one
-  first_short : (k : ℕ) → k < 4 → k ≡ first 4 test → lists_long n (a ∷ b ∷ c ∷ d ∷ []) ≡ Fails (given (k + 1))
-  unfolding fails_by
-  first_short k l e = sym (found_at_by ListLength (λ i. i + 1) (λ i. pos 0) 4 test e l)
-
-  is_short : (number length : ℕ) → length < n → list_long number n length ≡ Fails (given number)
-  unfolding fails_by
-  is_short number length l = ap (fails_by ListLength number (pos 0)) (lt-ltb length n l)
-
-  lists_three : lists_long n (a ∷ b ∷ c ∷ d ∷ []) ≡ (list_long 1 n a then list_long 3 n c then list_long 4 n d)
-  lists_three = by (dec_lt a n) (dec_lt c n) (dec_lt d n)
-    where
-      by : Dec (a < n) → Dec (c < n) → Dec (d < n) → lists_long n (a ∷ b ∷ c ∷ d ∷ []) ≡ (list_long 1 n a then list_long 3 n c then list_long 4 n d)
-      by (yes h) k l =
-          first_short 0 (omega arith) (found test 4 0 (omega arith) (clear_start test) (lt-ltb a n h))
-          ∙ fails_then (list_long 4 n d) (sym (fails_then (list_long 3 n c) (is_short 1 a h)))
-      by (no h) (yes k) l =
-          let none = clear_more test 1 (clear_more test 0 (clear_start test) (le-ltb a n (omega arith))) (le-ltb b n rows) in
-          let one = (list_long_lem 1 n a).1 (omega arith) in
-          first_short 2 (omega arith) (found test 4 2 (omega arith) none (lt-ltb c n k))
-          ∙ fails_then (list_long 4 n d) (passed_before (list_long 1 n a) (list_long 3 n c) one ∙ is_short 3 c k)
-      by (no h) (no k) (yes l) =
-          let none = clear_more test 2 (clear_more test 1 (clear_more test 0 (clear_start test) (le-ltb a n (omega arith))) (le-ltb b n rows)) (le-ltb c n (omega arith)) in
-          let two = (then_iff (list_long 1 n a) (list_long 3 n c)).1 ((list_long_lem 1 n a).1 (omega arith), (list_long_lem 3 n c).1 (omega arith)) in
-          first_short 3 (omega arith) (found test 4 3 (omega arith) none (lt-ltb d n l))
-          ∙ sym (passed_before (list_long 1 n a then list_long 3 n c) (list_long 4 n d) two ∙ is_short 4 d l)
-      by (no h) (no k) (no l) =
-          let two = (then_iff (list_long 1 n a) (list_long 3 n c)).1 ((list_long_lem 1 n a).1 (omega arith), (list_long_lem 3 n c).1 (omega arith)) in
-          (lists_long_lem n a b c d).1 (record { first_long = omega arith; second_long = rows; third_long = omega arith; fourth_long = omega arith })
-          ∙ sym ((then_iff (list_long 1 n a then list_long 3 n c) (list_long 4 n d)).1 (two, (list_long_lem 4 n d).1 (omega arith)))
+lists_three : (n a b c d : ℕ) → n ≤ b → lists_long n (a ∷ b ∷ c ∷ d ∷ []) ≡ (list_long 1 n a then list_long 3 n c then list_long 4 n d)
+lists_three n a b c d rows = three (short n (a ∷ b ∷ c ∷ d ∷ [])) (ltb a n) (ltb c n) (ltb d n) refl (le-ltb b n rows) refl refl
 
 module _ (n : ℕ) (costs : List ℤ) (cols rows : List ℕ) (us vs : List ℤ) (small : n ≤ sheet_side) (enough : n ≤ length rows) (named : Named (square n costs) cols rows) where
   injective : Injective n n (at cols)

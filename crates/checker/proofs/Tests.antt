@@ -3,7 +3,7 @@ use mathlib.Core.Path.{◌≡◌, refl, sym, ap, ◌∙◌}
 use mathlib.Core.Bool.{Bool, true, false, not, ◌&&◌, true≢false}
 use mathlib.Core.Logic.{◌↔◌, ⊎_elim}
 use mathlib.Core.List.{List}
-use Prim.Native.Nat.{ℕ, ◌≤◌, ◌<◌}
+use Prim.Native.Nat.{ℕ, ◌*◌, ◌≤◌, ◌<◌}
 use native.Mathlib.Decide.{dec_lt}
 use native.Mathlib.Omega.{arith}
 use borrow.Author.Tests.{ltb-false, le-ltb, eqb-true, eq-eqb, not-true, not-false}
@@ -20,12 +20,15 @@ use Rattle.lists.specs.Counts.{some}
 use Rattle.lists.proofs.Counts.{some_read, some_make}
 use Rattle.assignment.specs.Pairings.{Night, Spare, signed_at}
 use Rattle.assignment.specs.Prices.{priced, Feasible, Tight, SparesNotBelow}
+use Rattle.matrix.specs.Limits.{side}
+use Rattle.matrix.specs.Tests.{prices_within}
 use Rattle.matrix.specs.Verdicts.{Passes}
 use Rattle.matrix.proofs.First.{Clear, nowhere, ended}
 use Rattle.matrix.proofs.Verdicts.{then_iff, fails_if_iff, fails_at_by_iff, fails_at_iff}
 use Rattle.matrix.proofs.Passed.{prices_within_lem}
 use Rattle.checker.specs.Tests.{rows_named, slack, over, over_in, under_costs, under_costs_but, loose, tight_on, tight_on_but, rows_fit, used_by, columns_once, spare_below, spares_not_below}
 use Rattle.checker.specs.Check.{price_tests}
+use Rattle.checker.specs.Asked.{Priced}
 use Rattle.checker.specs.Proven.{Fair, FeasibleBut, TightBut}
 use Rattle.checker.proofs.Places.{differ_false, differ_same}
 use Rattle.checker.proofs.But.{but_clear}
@@ -174,3 +177,9 @@ module _ (night : Night) (cols : List ℕ) (vs : List ℤ) where
         λ e. record { not_below = λ i j l h spare. not_below_spare j (t.0 e j h) spare i l },
         λ s. t.1 (λ j h. spare_not_below j (λ spare i l. s.not_below i j l h spare)),
       )
+
+-- Past 8, the costs and the prices are those of a night that 9 and 10 read.
+pub prices_passed : (m n : ℕ) (costs us vs : List ℤ) → m ≤ side → n ≤ side → length costs ≡ m * n → m ≤ length us → n ≤ length vs → Passes (prices_within m n us vs) → Priced m n costs us vs
+prices_passed m n costs us vs h k filled rows columns e =
+    let w = (prices_within_lem m n us vs).0 e in
+    record { rows_small = h; small = k; filled = filled; row_prices = record { enough = rows; within = w.0 }; column_prices = record { enough = columns; within = w.1 } }

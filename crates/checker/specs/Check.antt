@@ -5,8 +5,8 @@ use Rattle.matrix.specs.Limits.{sheet_side}
 use Rattle.matrix.specs.Verdicts.{◌then◌}
 use Rattle.matrix.specs.Tests.{side_within, costs_fill, lists_long, list_long, shaped, costs_within, columns_inside, prices_within}
 use Rattle.matrix.specs.Answers.{totalled}
-use Rattle.matrix.specs.declared.Verdict.{Verdict}
-use Rattle.matrix.specs.declared.Answer.{Answer}
+use Rattle.matrix.specs.Verdicts.{Verdict}
+use Rattle.matrix.specs.Answers.{Answer}
 use Rattle.bars.specs.Barred.{night_of, barred}
 use Rattle.bars.specs.Tests.{costs_small, bars_clear, unbarred}
 use Rattle.checker.specs.Tests.{rows_named, under_costs, tight_on, rows_fit, columns_once, spares_not_below}

@@ -5,3 +5,4 @@ pub mod Asked
 pub mod Scope
 pub mod Slacks
 pub mod Nights
+pub mod PricedNights

@@ -1,8 +1,9 @@
 -- The checker's nights on paper: document 01's starred N9 and N10 and further ones, on the costs of N8; then nights with bars, and oblong ones.
 use Rattle.std.specs.Prelude.{List, [], ◌∷◌, ℕ, ℤ, pos, negsuc}
-use Rattle.matrix.specs.declared.Answer.{Answer}
-use Rattle.matrix.specs.declared.Answer.TheVariants.{Total, Refused}
-use Rattle.matrix.specs.Refusals.{ListLength, ColumnOutside, RowNotNamed, PriceOutside, PricesOverCost, PricesNotCost, BarsPastSide, BarredPair, SpareBelow}
+use Rattle.matrix.specs.Answers.{Answer}
+use Rattle.std.specs.Prelude.{Ok, Err}
+use Rattle.matrix.specs.declared.refusals.Reason.{Reason}
+use Rattle.matrix.specs.declared.refusals.Reason.TheVariants.{ListLength, ColumnOutside, RowNotNamed, PriceOutside, PricesOverCost, PricesNotCost, BarsPastSide, BarredPair, SpareBelow}
 use Rattle.checker.specs.Check.{check, check_barred, check_oblong}
 
 -- Columns, rows, row prices, column prices, and what the checker answers.
@@ -16,11 +17,11 @@ pub record Line : Type 0 where
 abbrev pub line : List ℕ → List ℕ → List ℤ → List ℤ → Answer → Line
 line cols rows us vs answer = record { cols = cols; rows = rows; prices_of_rows = us; prices_of_columns = vs; answer = answer }
 
-abbrev pub refused_by : ℕ → ℕ → ℤ → Answer
-refused_by number place slack = Refused (record { number = number; place = place; slack = slack })
+abbrev pub refused_by : Reason → ℕ → ℤ → Answer
+refused_by reason place slack = Err (record { reason = reason; place = place; slack = slack })
 
-abbrev pub refused : ℕ → ℕ → Answer
-refused number place = refused_by number place (pos 0)
+abbrev pub refused : Reason → ℕ → Answer
+refused reason place = refused_by reason place (pos 0)
 
 -- N8: [3 1 0 / 0 0 2 / 4 1 0], its row prices and its column prices.
 abbrev pub costs : List ℤ
@@ -39,11 +40,11 @@ checked l = line l.cols l.rows l.prices_of_rows l.prices_of_columns (check 3 cos
 abbrev pub nights : List Line
 nights =
     -- "N9: N8's prices, columns 1 0 2: checker accepts, total 1."
-    line (1 ∷ 0 ∷ 2 ∷ []) (1 ∷ 0 ∷ 2 ∷ []) us vs (Total (pos 1))
+    line (1 ∷ 0 ∷ 2 ∷ []) (1 ∷ 0 ∷ 2 ∷ []) us vs (Ok (pos 1))
     -- "N10: N8's prices, columns 0 1 2: refusal 10, row 0." The prices of its place, 1 and 0, are 2 below the cost.
     ∷ line (0 ∷ 1 ∷ 2 ∷ []) (0 ∷ 1 ∷ 2 ∷ []) us vs (refused_by PricesNotCost 0 (pos 2))
     -- N8's own columns, with entries past the side, which are not read.
-    ∷ line (2 ∷ 0 ∷ 1 ∷ 9 ∷ []) (1 ∷ 2 ∷ 0 ∷ 9 ∷ []) us vs (Total (pos 1))
+    ∷ line (2 ∷ 0 ∷ 1 ∷ 9 ∷ []) (1 ∷ 2 ∷ 0 ∷ 9 ∷ []) us vs (Ok (pos 1))
     -- A column price list that is short; a column that is not below 3 in row 1, though row 0 is not named back; a column listed twice.
     ∷ line (1 ∷ 0 ∷ 2 ∷ []) (1 ∷ 0 ∷ 2 ∷ []) us (pos 0 ∷ pos 0 ∷ []) (refused ListLength 4)
     ∷ line (1 ∷ 3 ∷ 2 ∷ []) (1 ∷ 1 ∷ 2 ∷ []) us vs (refused ColumnOutside 1)
@@ -72,7 +73,7 @@ checked_barred bars l =
 abbrev pub barred_nights : List Line
 barred_nights =
     -- The prices of the barred place, 900,000 both, are over its cost: there 9 is skipped.
-    line (1 ∷ 0 ∷ []) (1 ∷ 0 ∷ []) dear_us dear_vs (Total (pos 1800000))
+    line (1 ∷ 0 ∷ []) (1 ∷ 0 ∷ []) dear_us dear_vs (Ok (pos 1800000))
     -- The cheaper pairing has a barred pair.
     ∷ line (0 ∷ 1 ∷ []) (0 ∷ 1 ∷ []) dear_us dear_vs (refused BarredPair 0)
     -- A column price one too high, and so over the cost at place (0, 1), which is allowed.
@@ -102,8 +103,8 @@ checked_oblong l = line l.cols [] l.prices_of_rows l.prices_of_columns (check_ob
 abbrev pub oblong_nights : List Line
 oblong_nights =
     -- Columns 2 0, and 2 1, for nothing.
-    line (2 ∷ 0 ∷ []) [] no_prices no_prices (Total (pos 0))
-    ∷ line (2 ∷ 1 ∷ []) [] no_prices no_prices (Total (pos 0))
+    line (2 ∷ 0 ∷ []) [] no_prices no_prices (Ok (pos 0))
+    ∷ line (2 ∷ 1 ∷ []) [] no_prices no_prices (Ok (pos 0))
     -- A column used twice; a column price list that is short, where two row prices are enough.
     ∷ line (2 ∷ 2 ∷ []) [] no_prices no_prices (refused RowNotNamed 1)
     ∷ line (2 ∷ 0 ∷ []) [] (pos 0 ∷ pos 0 ∷ []) (pos 0 ∷ pos 0 ∷ []) (refused ListLength 4)

@@ -5,14 +5,14 @@ use Rattle.assignment.specs.Pairings.{Night, Pairing, square, Named, signed_at}
 use Rattle.lists.specs.Permutations.{at}
 use Rattle.assignment.specs.Prices.{priced, Feasible, Tight, SparesNotBelow}
 use Rattle.matrix.specs.Limits.{side, sheet_side, K}
-use Rattle.matrix.specs.declared.Answer.{Answer}
-use Rattle.matrix.specs.declared.Answer.TheVariants.{Total}
+use Rattle.matrix.specs.Answers.{Answer}
+use Rattle.std.specs.Prelude.{Ok}
 use Rattle.bars.specs.Tests.{barred_most}
 use Rattle.bars.specs.Barred.{barred, bits_above}
 
 -- An answer that accepts: with some total.
 abbrev pub Accepts : Answer → Type 0
-Accepts answer = (total : ℤ) × (answer ≡ Total total)
+Accepts answer = (total : ℤ) × (answer ≡ Ok total)
 
 -- Sizes: the side within its limit, n * n costs, at least n columns and at least n rows listed.
 pub record Sizes (n : ℕ) (costs : List ℤ) (cols rows : List ℕ) : Type 0 where

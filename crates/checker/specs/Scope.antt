@@ -9,9 +9,9 @@ use Rattle.assignment.specs.Prices.{priced}
 use Rattle.matrix.specs.Verdicts.{◌then◌, fails_at}
 use Rattle.matrix.specs.Tests.{shaped, costs_within, columns_inside, prices_within}
 use Rattle.matrix.specs.Answers.{totalled}
-use Rattle.matrix.specs.Refusals.{PricesOverCost, PricesNotCost}
-use Rattle.matrix.specs.declared.Verdict.{Verdict}
-use Rattle.matrix.specs.declared.Answer.{Answer}
+use Rattle.matrix.specs.declared.refusals.Reason.TheVariants.{PricesOverCost, PricesNotCost}
+use Rattle.matrix.specs.Verdicts.{Verdict}
+use Rattle.matrix.specs.Answers.{Answer}
 use Rattle.checker.specs.Tests.{rows_named, differ}
 
 -- "row price + column price over the cost", at place (i, j), where it is allowed.

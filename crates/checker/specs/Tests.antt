@@ -1,5 +1,5 @@
 -- The checker's own tests, for any night.
-use Rattle.std.specs.Prelude.{Bool, not, ◌&&◌, ◌||◌, List, ℕ, ◌+◌, ◌*◌, ltb, eqb, ℤ, pos, ◌-ℤ◌}
+use Rattle.std.specs.Prelude.{Bool, not, ◌&&◌, ◌||◌, List, ℕ, ◌+◌, ◌*◌, ltb, eqb, ℤ, pos, ◌+ℤ◌, ◌-ℤ◌}
 use Rattle.std.specs.Int.Signed.{lt_z}
 use Rattle.lists.specs.Runs.{first}
 use Rattle.lists.specs.Permutations.{at}
@@ -7,8 +7,8 @@ use Rattle.lists.specs.Counts.{some}
 use Rattle.assignment.specs.Pairings.{Night, signed_at}
 use Rattle.assignment.specs.Prices.{priced}
 use Rattle.matrix.specs.Verdicts.{fails_at_by, fails_if, fails_at}
-use Rattle.matrix.specs.declared.Verdict.{Verdict}
-use Rattle.matrix.specs.Refusals.{RowNotNamed, PricesOverCost, PricesNotCost, RowsOver, SpareBelow}
+use Rattle.matrix.specs.Verdicts.{Verdict}
+use Rattle.matrix.specs.declared.refusals.Reason.TheVariants.{RowNotNamed, PricesOverCost, PricesNotCost, RowsOver, SpareBelow}
 
 -- 7, "the column of a row does not name that row back".
 abbrev pub rows_named : ℕ → List ℕ → List ℕ → Verdict
@@ -17,6 +17,10 @@ rows_named n cols rows = fails_at RowNotNamed (λ i. i) n (λ i. not (eqb (at ro
 -- "the slack, cost minus both prices", of place (i, j).
 abbrev pub slack : Night → List ℤ → List ℤ → ℕ → ℕ → ℤ
 slack night us vs i j = night.cost i j -ℤ priced us vs i j
+
+-- The prices u and v of a place are over its cost: its slack is below 0.
+unfoldable pub is_over : ℤ → ℤ → ℤ → Bool
+is_over cost u v = lt_z (cost -ℤ (u +ℤ v)) (pos 0)
 
 -- "row price + column price over the cost", at place (i, j), where it is allowed: its slack is below 0.
 abbrev pub over : Night → List ℤ → List ℤ → ℕ → ℕ → Bool

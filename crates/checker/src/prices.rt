@@ -1,17 +1,14 @@
 // Tests 8, 9 and 10 of a night of m rows and n columns: its costs in row order, and for each row a number whose bits are the columns barred to it. A row
 // past the end of the bars has none: the slice without an entry bars nothing.
-ghost use Rattle.std.specs.Prelude.{◌≡◌, not, ◌&&◌, [], ◌*◌, ◌≤◌, ◌<◌, pos, ◌+ℤ◌, ◌-ℤ◌, length};
-ghost use Rattle.std.specs.Int.Signed.{lt_z};
+ghost use Rattle.std.specs.Prelude.{◌≡◌, not, ◌&&◌, [], ◌*◌, ◌≤◌, ◌<◌, ◌+ℤ◌, ◌-ℤ◌, length};
 ghost use Rattle.ints.specs.Parts.{Within};
-ghost use Rattle.lists.specs.Runs.{first};
-ghost use Rattle.lists.specs.Permutations.{at};
-ghost use Rattle.lists.specs.Counts.{bit_of};
+ghost use Rattle.lists.specs.Runs.{Finds};
+ghost use Rattle.lists.specs.Counts.{some, bit_of};
 ghost use Rattle.assignment.specs.Pairings.{signed_at};
 ghost use Rattle.matrix.specs.Asked.{ColumnsListed};
 ghost use Rattle.matrix.specs.Limits.{side, K};
-ghost use Rattle.matrix.specs.Verdicts.{Passes, ◌then◌};
 ghost use Rattle.bars.specs.Barred.{night_of};
-ghost use Rattle.checker.specs.Tests.{slack, over_first, over_in, but, under_costs_but, loose, tight_on_but};
+ghost use Rattle.checker.specs.Tests.{slack, is_over, over, over_in, but, under_costs_but, loose, tight_on_but};
 ghost use Rattle.checker.specs.Check.{price_tests};
 ghost use Rattle.checker.specs.Asked.{BitsFit, Priced};
 ghost use Rattle.checker.specs.Proven.{Prices};
@@ -19,162 +16,132 @@ ghost use Rattle.checker.specs.Proven.{Prices};
 use bars::bits::has;
 use bars::bits_at;
 use matrix::rows::{reduced_cost, row_of};
-use matrix::{Verdict, refusals, tests};
+use matrix::{Reason, Refusal, tests};
 
 // The test of one place: its slack, the cost minus both prices.
+#[tactic(auto, using(crate::proofs::Places::sum_fits, crate::proofs::Places::slack_fits))]
 fn slack(cost: i32, u: i64, v: i64) -> i64
     requires { Within (10 * K) u × Within (10 * K) v }
     ensures { result ≡ cost -ℤ (u +ℤ v) }
 {
     let both = u + v;
-    cost as i64 - both
+    i64::from(cost) - both
 }
 
-// The slack of place (i, j).
-fn slack_at(m: usize, n: usize, costs: &[i32], us: &[i64], vs: &[i64], i: usize, j: usize) -> i64
-    requires { (i < m) × (j < n) × Priced m n costs.now us.now vs.now }
-    ensures { result ≡ slack (night_of m n costs.now []) us.now vs.now i j }
+// Whether the prices of one place are over its cost: the cost minus the row's price is below the column's.
+#[tactic(auto, using(crate::proofs::Places::price_near), unfolding(crate::specs::Tests::is_over))]
+fn is_over(cost: i32, u: i64, v: i64) -> bool
+    requires { Within (10 * K) u × Within (10 * K) v }
+    ensures { result ≡ is_over cost u v }
 {
-    slack(costs[i * n + j], us[i], vs[j])
+    reduced_cost(cost, u) < v
 }
 
-// Whether the prices are over the cost at column j of a row: the cost minus the row's price is below the column's.
-fn over_at(row: &[i32], u: i64, vs: &[i64], j: usize) -> bool
-    requires { (j < length row.now) × Within (10 * K) u × Prices (length row.now) vs.now }
-    ensures { result ≡ lt_z (signed_at row.now j -ℤ (u +ℤ signed_at vs.now j)) (pos 0) }
-{
-    reduced_cost(row[j], u) < vs[j]
-}
-
-// Refusal 9 in one row without bars: the first column at which the prices are over the cost, or the row's length. Four columns a turn while there are four.
-fn first_column_over(row: &[i32], u: i64, vs: &[i64]) -> usize
+// Refusal 9 in one row without bars: whether it has a column at which the prices are over the cost. The pass ends at no column, so that several are
+// compared at once.
+fn some_over(row: &[i32], u: i64, vs: &[i64]) -> bool
     requires { Within (10 * K) u × Prices (length row.now) vs.now }
-    ensures { result ≡ first (length row.now) (λ j. lt_z (signed_at row.now j -ℤ (u +ℤ signed_at vs.now j)) (pos 0)) }
+    ensures { result ≡ some (length row.now) (λ j. is_over (signed_at row.now j) u (signed_at vs.now j)) }
 {
-    let mut j = 0;
-    while 4 <= row.len() - j {
-        if over_at(row, u, vs, j) {
-            return j;
-        }
-        if over_at(row, u, vs, j + 1) {
-            return j + 1;
-        }
-        if over_at(row, u, vs, j + 2) {
-            return j + 2;
-        }
-        if over_at(row, u, vs, j + 3) {
-            return j + 3;
-        }
-        j += 4;
+    let mut found = false;
+    for j in 0..row.len() {
+        found |= is_over(row[j], u, vs[j]);
     }
-    while j < row.len() {
-        if over_at(row, u, vs, j) {
-            return j;
-        }
-        j += 1;
-    }
-    j
+    found
 }
 
-// Whether the prices are over the cost at column j of a row, and the column is not barred.
-fn allowed_over(row: &[i32], u: i64, vs: &[i64], bits: u64, j: usize) -> bool
-    requires { (j < length row.now) × (j < 64) × Within (10 * K) u × Prices (length row.now) vs.now }
-    ensures { result ≡ (not (bit_of bits j) && lt_z (signed_at row.now j -ℤ (u +ℤ signed_at vs.now j)) (pos 0)) }
+// Refusal 9 in one row without bars: the first column at which the prices are over the cost, which is looked for only where one pass tells of one.
+fn first_column_over(row: &[i32], u: i64, vs: &[i64]) -> Option<usize>
+    requires { Within (10 * K) u × Prices (length row.now) vs.now }
+    ensures { Finds (length row.now) (λ j. is_over (signed_at row.now j) u (signed_at vs.now j)) result }
 {
-    if has(bits, j) {
-        return false;
+    if !some_over(row, u, vs) {
+        return None;
     }
-    over_at(row, u, vs, j)
+    (0..row.len()).find(|&j| is_over(row[j], u, vs[j]))
 }
 
-// Refusal 9 in one row with bars: the first allowed column at which the prices are over the cost, or the row's length.
-fn first_allowed_over(row: &[i32], u: i64, vs: &[i64], bits: u64) -> usize
+// Refusal 9 in one row with bars: the first allowed column at which the prices are over the cost.
+fn first_allowed_over(row: &[i32], u: i64, vs: &[i64], bits: u64) -> Option<usize>
     requires { (length row.now ≤ 64) × Within (10 * K) u × Prices (length row.now) vs.now }
-    ensures { result ≡ first (length row.now) (λ j. not (bit_of bits j) && lt_z (signed_at row.now j -ℤ (u +ℤ signed_at vs.now j)) (pos 0)) }
+    ensures { Finds (length row.now) (λ j. not (bit_of bits j) && is_over (signed_at row.now j) u (signed_at vs.now j)) result }
 {
-    let mut j = 0;
-    while j < row.len() {
-        if allowed_over(row, u, vs, bits, j) {
-            return j;
+    (0..row.len()).find(|&j| !has(bits, j) && is_over(row[j], u, vs[j]))
+}
+
+// A night's costs and bars, with a price for each row and each column, all of them tested: what tests 9 and 10 read.
+#[derive(Clone, Copy)]
+struct PricedNight<'a> {
+    m: usize,
+    n: usize,
+    costs: &'a [i32],
+    us: &'a [i64],
+    vs: &'a [i64],
+    bars: &'a [u64],
+    ghost priced: { Priced m n costs.now us.now vs.now },
+    ghost fit: { BitsFit n bars.now },
+}
+
+impl PricedNight<'_> {
+    ghost use Rattle.checker.specs.PricedNights.{night};
+
+    // The slack of place (i, j).
+    fn slack_at(&self, i: usize, j: usize) -> i64
+        requires { (i < self.now.m) × (j < self.now.n) }
+        ensures { result ≡ slack (night self.now) self.now.us.now self.now.vs.now i j }
+    {
+        slack(self.costs[i * self.n + j], self.us[i], self.vs[j])
+    }
+
+    // Refusal 9 in row i: the first allowed column at which the prices are over the cost. Whether the row has bars is asked once.
+    fn column_over(&self, i: usize) -> Option<usize>
+        requires { i < self.now.m }
+        ensures { Finds self.now.n (over (night self.now) self.now.us.now self.now.vs.now i) result }
+    {
+        let row = row_of(self.costs, self.n, i);
+        let bits = bits_at(self.bars, i);
+        if bits == 0 {
+            return first_column_over(row, self.us[i], self.vs);
         }
-        j += 1;
+        first_allowed_over(row, self.us[i], self.vs, bits)
     }
-    j
-}
 
-// Refusal 9 in one row. Whether it has bars is asked once.
-fn first_over(row: &[i32], u: i64, vs: &[i64], bits: u64) -> usize
-    requires { (¬ (bits ≡ 0) → length row.now ≤ 64) × Within (10 * K) u × Prices (length row.now) vs.now }
-    ensures { result ≡ first (length row.now) (λ j. not (bit_of bits j) && lt_z (signed_at row.now j -ℤ (u +ℤ signed_at vs.now j)) (pos 0)) }
-{
-    if bits == 0 {
-        return first_column_over(row, u, vs);
+    // Refusal 9 in row i: whether it has an allowed place at which the prices are over the cost.
+    #[tactic(auto, using(crate::proofs::Found::found_some))]
+    fn is_over_in(&self, i: usize) -> bool
+        requires { i < self.now.m }
+        ensures { result ≡ over_in (night self.now) self.now.us.now self.now.vs.now i }
+    {
+        self.column_over(i).is_some()
     }
-    first_allowed_over(row, u, vs, bits)
-}
 
-// Refusal 9 in row i: the first allowed column at which the prices are over the cost, or n.
-fn column_over(
-    m: usize,
-    n: usize,
-    costs: &[i32],
-    us: &[i64],
-    vs: &[i64],
-    bars: &[u64],
-    i: usize,
-) -> usize
-    requires { (i < m) × Priced m n costs.now us.now vs.now × BitsFit n bars.now }
-    ensures { result ≡ over_first (night_of m n costs.now bars.now) us.now vs.now i }
-{
-    first_over(row_of(costs, n, i), us[i], vs, bits_at(bars, i))
-}
-
-// Refusal 9 in row i, where it is not `skip`: whether it has an allowed place at which the prices are over the cost.
-fn row_over(
-    m: usize,
-    n: usize,
-    skip: usize,
-    costs: &[i32],
-    us: &[i64],
-    vs: &[i64],
-    bars: &[u64],
-    i: usize,
-) -> bool
-    requires { (i < m) × Priced m n costs.now us.now vs.now × BitsFit n bars.now }
-    ensures { result ≡ but skip (over_in (night_of m n costs.now bars.now) us.now vs.now) i }
-{
-    if i == skip {
-        return false;
+    // Refusal 9: the first row but `skip` that has an allowed place at which the prices are over the cost.
+    fn row_over(&self, skip: usize) -> Option<usize>
+        ensures { Finds self.now.m (but skip (over_in (night self.now) self.now.us.now self.now.vs.now)) result }
+    {
+        (0..self.m).find(|&i| i != skip && self.is_over_in(i))
     }
-    column_over(m, n, costs, us, vs, bars, i) < n
-}
 
-// Refusal 9: the first row but `skip` that has an allowed place at which the prices are over the cost, or m.
-fn first_row_over(
-    m: usize,
-    n: usize,
-    skip: usize,
-    costs: &[i32],
-    us: &[i64],
-    vs: &[i64],
-    bars: &[u64],
-) -> usize
-    requires { Priced m n costs.now us.now vs.now × BitsFit n bars.now }
-    ensures { result ≡ first m (but skip (over_in (night_of m n costs.now bars.now) us.now vs.now)) }
-{
-    let mut i = 0;
-    while i < m {
-        if row_over(m, n, skip, costs, us, vs, bars, i) {
-            return i;
-        }
-        i += 1;
+    // Refusal 10 in row i: whether its paired place has prices that are not the cost.
+    #[tactic(auto, using(crate::proofs::Places::differ_bits))]
+    fn is_loose(&self, cols: &[u32], i: usize) -> bool
+        requires { (i < self.now.m) × ColumnsListed self.now.m self.now.n cols.now }
+        ensures { result ≡ loose (night self.now) cols.now self.now.us.now self.now.vs.now i }
+    {
+        self.slack_at(i, cols[i] as usize) != 0
     }
-    i
+
+    // Refusal 10: the first row but `skip` whose paired place has prices that are not the cost.
+    fn row_loose(&self, skip: usize, cols: &[u32]) -> Option<usize>
+        requires { ColumnsListed self.now.m self.now.n cols.now }
+        ensures { Finds self.now.m (but skip (loose (night self.now) cols.now self.now.us.now self.now.vs.now)) result }
+    {
+        (0..self.m).find(|&i| i != skip && self.is_loose(cols, i))
+    }
 }
 
 // Test 9, leaving out row `skip`. The checker leaves none out: its `skip` is m, which is no row.
 pub fn under_costs(
-    before: Verdict,
     m: usize,
     n: usize,
     skip: usize,
@@ -182,87 +149,32 @@ pub fn under_costs(
     us: &[i64],
     vs: &[i64],
     bars: &[u64],
-) -> Verdict
-    requires { Passes before → Priced m n costs.now us.now vs.now × BitsFit n bars.now }
-    ensures { result ≡ (before then under_costs_but skip (night_of m n costs.now bars.now) us.now vs.now) }
+) -> Result<(), Refusal>
+    requires { Priced m n costs.now us.now vs.now × BitsFit n bars.now }
+    ensures { result ≡ under_costs_but skip (night_of m n costs.now bars.now) us.now vs.now }
 {
-    match before {
-        Verdict::Fails(refusal) => {
-            return Verdict::Fails(refusal);
+    let night = PricedNight {
+        m,
+        n,
+        costs,
+        us,
+        vs,
+        bars,
+    };
+    if let Some(i) = night.row_over(skip) {
+        if let Some(j) = night.column_over(i) {
+            return Err(Refusal {
+                reason: Reason::PricesOverCost,
+                place: i * n + j,
+                slack: night.slack_at(i, j),
+            });
         }
-        Verdict::Passed => {}
     }
-    let i = first_row_over(m, n, skip, costs, us, vs, bars);
-    if m <= i {
-        return Verdict::Passed;
-    }
-    let j = column_over(m, n, costs, us, vs, bars, i);
-    let slack = slack_at(m, n, costs, us, vs, i, j);
-    tests::fails_by(true, refusals::PRICES_OVER_COST, i * n + j, slack)
-}
-
-// The slack of the paired place of row i.
-fn paired_slack(
-    m: usize,
-    n: usize,
-    costs: &[i32],
-    cols: &[u32],
-    us: &[i64],
-    vs: &[i64],
-    i: usize,
-) -> i64
-    requires { (i < m) × Priced m n costs.now us.now vs.now × ColumnsListed m n cols.now }
-    ensures { result ≡ slack (night_of m n costs.now []) us.now vs.now i (at cols.now i) }
-{
-    slack_at(m, n, costs, us, vs, i, cols[i] as usize)
-}
-
-// Refusal 10 in row i, where it is not `skip`: whether its paired place has prices that are not the cost.
-fn row_loose(
-    m: usize,
-    n: usize,
-    skip: usize,
-    costs: &[i32],
-    cols: &[u32],
-    us: &[i64],
-    vs: &[i64],
-    i: usize,
-) -> bool
-    requires { (i < m) × Priced m n costs.now us.now vs.now × ColumnsListed m n cols.now }
-    ensures { result ≡ but skip (loose (night_of m n costs.now []) cols.now us.now vs.now) i }
-{
-    if i == skip {
-        return false;
-    }
-    paired_slack(m, n, costs, cols, us, vs, i) != 0
-}
-
-// Refusal 10: the first row but `skip` whose paired place has prices that are not the cost, or m.
-fn first_row_loose(
-    m: usize,
-    n: usize,
-    skip: usize,
-    costs: &[i32],
-    cols: &[u32],
-    us: &[i64],
-    vs: &[i64],
-) -> usize
-    requires { Priced m n costs.now us.now vs.now × ColumnsListed m n cols.now }
-    ensures { result ≡ first m (but skip (loose (night_of m n costs.now []) cols.now us.now vs.now)) }
-{
-    let mut i = 0;
-    while i < m {
-        if row_loose(m, n, skip, costs, cols, us, vs, i) {
-            return i;
-        }
-        i += 1;
-    }
-    i
+    Ok(())
 }
 
 // Test 10, leaving out row `skip`, as test 9 does. It reads no bars: the places are those of the pairing.
 pub fn tight_on(
-    before: Verdict,
     m: usize,
     n: usize,
     skip: usize,
@@ -270,27 +182,31 @@ pub fn tight_on(
     cols: &[u32],
     us: &[i64],
     vs: &[i64],
-) -> Verdict
-    requires { Passes before → Priced m n costs.now us.now vs.now × ColumnsListed m n cols.now }
-    ensures { result ≡ (before then tight_on_but skip (night_of m n costs.now []) cols.now us.now vs.now) }
+) -> Result<(), Refusal>
+    requires { Priced m n costs.now us.now vs.now × ColumnsListed m n cols.now }
+    ensures { result ≡ tight_on_but skip (night_of m n costs.now []) cols.now us.now vs.now }
 {
-    match before {
-        Verdict::Fails(refusal) => {
-            return Verdict::Fails(refusal);
-        }
-        Verdict::Passed => {}
+    let night = PricedNight {
+        m,
+        n,
+        costs,
+        us,
+        vs,
+        bars: &[],
+    };
+    match night.row_loose(skip, cols) {
+        Some(i) => Err(Refusal {
+            reason: Reason::PricesNotCost,
+            place: i,
+            slack: night.slack_at(i, cols[i] as usize),
+        }),
+        None => Ok(()),
     }
-    let i = first_row_loose(m, n, skip, costs, cols, us, vs);
-    if m <= i {
-        return Verdict::Passed;
-    }
-    let slack = paired_slack(m, n, costs, cols, us, vs, i);
-    tests::fails_by(true, refusals::PRICES_NOT_COST, i, slack)
 }
 
 // Tests 8, 9, 10: no two prices are added before every price has been tested.
+#[tactic(auto, using(crate::proofs::Tests::prices_passed, crate::proofs::But::under_all, crate::proofs::But::tight_all))]
 pub fn priced(
-    before: Verdict,
     m: usize,
     n: usize,
     costs: &[i32],
@@ -298,11 +214,11 @@ pub fn priced(
     us: &[i64],
     vs: &[i64],
     bars: &[u64],
-) -> Verdict
-    requires { Passes before → (m ≤ side) × (n ≤ side) × (length costs.now ≡ m * n) × ColumnsListed m n cols.now × (m ≤ length us.now) × (n ≤ length vs.now) × BitsFit n bars.now }
-    ensures { result ≡ (before then price_tests (night_of m n costs.now bars.now) cols.now us.now vs.now) }
+) -> Result<(), Refusal>
+    requires { (m ≤ side) × (n ≤ side) × (length costs.now ≡ m * n) × ColumnsListed m n cols.now × (m ≤ length us.now) × (n ≤ length vs.now) × BitsFit n bars.now }
+    ensures { result ≡ price_tests (night_of m n costs.now bars.now) cols.now us.now vs.now }
 {
-    let within = tests::prices_within(before, m, n, us, vs);
-    let under = under_costs(within, m, n, m, costs, us, vs, bars);
-    tight_on(under, m, n, m, costs, cols, us, vs)
+    tests::prices_within(m, n, us, vs)?;
+    under_costs(m, n, m, costs, us, vs, bars)?;
+    tight_on(m, n, m, costs, cols, us, vs)
 }

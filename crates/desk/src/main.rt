@@ -3,9 +3,6 @@
 // line.
 #![tactic(auto)]
 
-ghost use Rattle.std.specs.Prelude.{◌≡◌, take, IfOk, IfSome};
-
-use std::alloc::Global;
 use std::env::{Env, FillError};
 use std::io;
 use std::io::Read;
@@ -21,20 +18,12 @@ fn has_word(rt: &impl Env) -> bool {
     !matches!(rt.arg(1, &mut first), Err(FillError::NotPresent))
 }
 
-// The first bytes of an input, at most so many.
-fn read_most<R: Read + Drop>(alloc: Global, input: R, most: u64) -> io::Result<Vec<u8>>
-    ensures { IfOk result (λ bytes. IfSome (R.remaining input) (λ held. bytes.items ≡ take most held)) }
-{
-    let mut bytes = Vec::new(alloc);
-    input.take(most).read_to_end(&mut bytes)?;
-    Ok(bytes)
-}
-
 fn main(rt: HostRuntime) -> io::Result<()> {
     if has_word(&rt) {
         return tell_call(&rt);
     }
-    let sheet = read_most(rt.alloc(), rt.stdin(), 65537)?;
+    let mut sheet = Vec::new(rt.alloc());
+    rt.stdin().take(65537).read_to_end(&mut sheet)?;
     if sheet.is_empty() {
         tell_call(&rt)?;
     }

@@ -1,9 +1,7 @@
 -- What a C caller gets, from the values of what the entries answer: "0, or number + 256*place".
-use Rattle.std.specs.Prelude.{cond, List, ℕ, ◌+◌, ◌*◌, ◌-◌, ◌^◌, ◌<◌, ltb}
+use Rattle.std.specs.Prelude.{cond, List, ℕ, ◌+◌, ◌*◌, ◌-◌, ◌^◌, ltb}
 use Rattle.matrix.specs.Answers.{Values, values_of}
-use Rattle.matrix.specs.Refusals.{number_of}
-use Rattle.matrix.specs.declared.Answer.{Answer}
-use Rattle.matrix.specs.declared.Answer.TheVariants.{Total, Refused}
+use Rattle.matrix.specs.Answers.{Answer}
 use Rattle.lapjv.specs.Solve.{Lent}
 use Rattle.lapjv.specs.Values.{SolvedValues, Told}
 use Rattle.repair.specs.Repair.{Outcome}
@@ -32,11 +30,6 @@ checked v = record { refusal = v.number + 256 * v.place; total = v.total; slack 
 -- The same whatever the place: "where number + 256*place would not fit 64 bits, the C face tells the place as 2^56 - 1".
 abbrev pub checked_any : Values → Checked
 checked_any v = record { refusal = v.number + 256 * cond (ltb v.place (2 ^ 56)) v.place (2 ^ 56 - 1); total = v.total; slack = v.slack }
-
--- What is asked of an answer to be told so: a number below 256.
-abbrev pub NumberedIn : Answer → Type 0
-NumberedIn (Total total) = Unit {0}
-NumberedIn (Refused refusal) = number_of refusal < 256
 
 -- Side and total of a slip that holds, or a refusal.
 abbrev pub audit_told : AuditedValues → Audit

@@ -1,9 +1,6 @@
 -- What a C caller gets about a second pairing: "refusal", "total", "slack" and "also 0 or 1".
-use Rattle.std.specs.Prelude.{Bool, cond, List, ℕ, ◌+◌, ◌*◌, ◌-◌, ◌^◌, ◌<◌, ltb, ℤ}
-use Rattle.matrix.specs.Refusals.{number_of}
+use Rattle.std.specs.Prelude.{Bool, cond, List, ℕ, ◌+◌, ◌*◌, ◌-◌, ◌^◌, ltb, ℤ}
 use Rattle.swaps.specs.Entries.{Lent, lent_of, Outcome, SecondValues, second_values}
-use Rattle.swaps.specs.declared.Seconded.{Seconded}
-use Rattle.swaps.specs.declared.Seconded.TheVariants.{Told, Refused}
 use Rattle.face.specs.declared.Second.{Second}
 
 -- A truth as a number.
@@ -18,11 +15,6 @@ seconded v = record { refusal = v.number + 256 * v.place; total = v.total; slack
 abbrev pub seconded_any : SecondValues → Second
 seconded_any v =
     record { refusal = v.number + 256 * cond (ltb v.place (2 ^ 56)) v.place (2 ^ 56 - 1); total = v.total; slack = v.slack; also = flag v.also }
-
--- What is asked of an answer to be told so: a number below 256.
-abbrev pub NumberedSecond : Seconded → Type 0
-NumberedSecond (Told pairings) = Unit {0}
-NumberedSecond (Refused refusal) = number_of refusal < 256
 
 -- The three lists that may be written.
 abbrev pub three : List ℕ → List ℕ → List ℤ → Lent

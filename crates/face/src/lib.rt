@@ -20,13 +20,13 @@ ghost use Rattle.sheet.specs.Settle.{Delivery, pair};
 ghost use Rattle.pieces.specs.Kept.{kept};
 ghost use Rattle.pieces.specs.Calls.{taken, piece, ending, delivered, end, reset};
 ghost use Rattle.swaps.specs.Entries.{second_values, second_square, second_barred, second_oblong};
-ghost use Rattle.face.specs.Seconds.{flag, seconded_any, NumberedSecond, three, HandedSecond, handed_second, handed_second_any};
-ghost use Rattle.face.specs.Face.{totalled, HandedColumns, handed_columns, audit_told, checked, checked_any, NumberedIn, solution, Handed, handed, HandedBack, handed_back};
+ghost use Rattle.face.specs.Seconds.{seconded_any, three, HandedSecond, handed_second, handed_second_any};
+ghost use Rattle.face.specs.Face.{totalled, HandedColumns, handed_columns, audit_told, checked, checked_any, solution, Handed, handed, HandedBack, handed_back};
 
-use audit::Audited;
-use lapjv::Solved;
-use matrix::Answer;
-use swaps::Seconded;
+use audit::Confirmed;
+use lapjv::Sums;
+use matrix::Refusal;
+use swaps::Pairings;
 
 // What `cost` and `score` answer: a total, or a refusal and 0. The refusal is 0 or number + 256*place.
 #[repr(C)]
@@ -79,14 +79,14 @@ pub struct Second {
 }
 
 // What a C caller gets of the answer of `cost` or `score`.
-fn told(answer: Answer) -> Totalled
+fn told(answer: Result<i64, Refusal>) -> Totalled
     requires { TellableIn answer }
     ensures { result ≡ totalled (values_of answer) }
 {
     match answer {
-        Answer::Total(total) => Totalled { refusal: 0, total },
-        Answer::Refused(refusal) => Totalled {
-            refusal: matrix::refusals::code(refusal),
+        Ok(total) => Totalled { refusal: 0, total },
+        Err(refusal) => Totalled {
+            refusal: refusal.code(),
             total: 0,
         },
     }
@@ -108,21 +108,20 @@ pub extern "C" fn bristlefrost_plain(n: usize, costs: &[i32], cols: &mut [u32]) 
     told(plain::plain(n, costs, cols))
 }
 
-// What a C caller gets of the answer of the checker or of a repair.
-fn told_checked(answer: Answer) -> Checked
-    requires { TellableIn answer }
-    ensures { result ≡ checked (values_of answer) }
+// What a C caller gets of the answer of the checker or of a repair, with any place.
+fn told_checked(answer: Result<i64, Refusal>) -> Checked
+    ensures { result ≡ checked_any (values_of answer) }
 {
     match answer {
-        Answer::Total(total) => Checked {
+        Ok(total) => Checked {
             refusal: 0,
             total,
             slack: 0,
         },
-        Answer::Refused(refusal) => Checked {
-            refusal: matrix::refusals::code(refusal),
+        Err(refusal) => Checked {
+            refusal: refusal.capped_code(),
             total: 0,
-            slack: matrix::refusals::slack(refusal),
+            slack: refusal.slack,
         },
     }
 }
@@ -158,25 +157,6 @@ pub extern "C" fn bristlefrost_check_barred(
     told_checked(checker::check_barred(n, costs, cols, rows, row_prices, col_prices, bars))
 }
 
-// What a C caller gets of an answer with any place.
-fn told_any(answer: Answer) -> Checked
-    requires { NumberedIn answer }
-    ensures { result ≡ checked_any (values_of answer) }
-{
-    match answer {
-        Answer::Total(total) => Checked {
-            refusal: 0,
-            total,
-            slack: 0,
-        },
-        Answer::Refused(refusal) => Checked {
-            refusal: matrix::refusals::capped_code(refusal),
-            total: 0,
-            slack: matrix::refusals::slack(refusal),
-        },
-    }
-}
-
 // The checker of m rows and n columns.
 #[unsafe(no_mangle)]
 pub extern "C" fn bristlefrost_check_oblong(
@@ -189,30 +169,27 @@ pub extern "C" fn bristlefrost_check_oblong(
 ) -> Checked
     ensures { result ≡ checked_any (values_of (check_oblong m n costs.now cols.now row_prices.now col_prices.now)) }
 {
-    told_any(checker::check_oblong(m, n, costs, cols, row_prices, col_prices))
+    told_checked(checker::check_oblong(m, n, costs, cols, row_prices, col_prices))
 }
 
 // What a C caller gets of the solver's answer.
-fn told_solved(answer: Solved) -> Solution
+fn told_solved(answer: Result<Sums, Refusal>) -> Solution
     requires { TellableSolved answer }
     ensures { result ≡ solution (solved_values answer) }
 {
     match answer {
-        Solved::Paired(night) => {
-            let counts = night.counts;
-            Solution {
-                refusal: 0,
-                total: night.total,
-                free_rows: counts.free_rows as u64,
-                looks_one: counts.looks_one as u64,
-                left_one: counts.left_one as u64,
-                looks_two: counts.looks_two as u64,
-                rows_left: counts.rows_left as u64,
-                columns_scanned: counts.columns_scanned as u64,
-            }
-        }
-        Solved::Refused(refusal) => Solution {
-            refusal: matrix::refusals::code(refusal),
+        Ok(Sums { total, counts }) => Solution {
+            refusal: 0,
+            total,
+            free_rows: counts.free_rows as u64,
+            looks_one: counts.looks_one as u64,
+            left_one: counts.left_one as u64,
+            looks_two: counts.looks_two as u64,
+            rows_left: counts.rows_left as u64,
+            columns_scanned: counts.columns_scanned as u64,
+        },
+        Err(refusal) => Solution {
+            refusal: refusal.code(),
             total: 0,
             free_rows: 0,
             looks_one: 0,
@@ -263,35 +240,21 @@ pub extern "C" fn bristlefrost_repair(
     ))
 }
 
-// A truth as a number.
-fn flag(b: bool) -> u64
-    ensures { result ≡ flag b }
-{
-    if b {
-        return 1;
-    }
-    0
-}
-
 // What a C caller gets of an answer about a second pairing, with any place.
-fn told_second(answer: Seconded) -> Second
-    requires { NumberedSecond answer }
+fn told_second(answer: Result<Pairings, Refusal>) -> Second
     ensures { result ≡ seconded_any (second_values answer) }
 {
     match answer {
-        Seconded::Told(pairings) => {
-            let also = flag(pairings.another);
-            Second {
-                refusal: 0,
-                total: pairings.total,
-                slack: 0,
-                also,
-            }
-        }
-        Seconded::Refused(refusal) => Second {
-            refusal: matrix::refusals::capped_code(refusal),
+        Ok(Pairings { total, another }) => Second {
+            refusal: 0,
+            total,
+            slack: 0,
+            also: u64::from(another),
+        },
+        Err(refusal) => Second {
+            refusal: refusal.capped_code(),
             total: 0,
-            slack: matrix::refusals::slack(refusal),
+            slack: refusal.slack,
             also: 0,
         },
     }
@@ -375,18 +338,18 @@ pub extern "C" fn bristlefrost_score(first: &[u8], second: &[u8]) -> Totalled
 }
 
 // What a C caller gets of an audit.
-fn told_audited(answer: Audited) -> Audit
+fn told_audited(answer: Result<Confirmed, Refusal>) -> Audit
     requires { TellableAudited answer }
     ensures { result ≡ audit_told (audited_values answer) }
 {
     match answer {
-        Audited::Holds(side, total) => Audit {
+        Ok(Confirmed { side, total }) => Audit {
             refusal: 0,
             side: side as u64,
             total,
         },
-        Audited::Refused(refusal) => Audit {
-            refusal: matrix::refusals::code(refusal),
+        Err(refusal) => Audit {
+            refusal: refusal.code(),
             side: 0,
             total: 0,
         },

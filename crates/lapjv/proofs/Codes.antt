@@ -2,11 +2,10 @@
 use mathlib.Core.List.{List}
 use Prim.Native.Nat.{ℕ}
 use native.Mathlib.Omega.{arith}
-use lib.Dec.{lit<}
 use lib.IntN.{ℤ}
 use lib.ListN.{length}
-use Rattle.matrix.specs.declared.Verdict.{Verdict}
-use Rattle.matrix.specs.declared.Verdict.TheVariants.{Passed, Fails}
+use Rattle.matrix.specs.Verdicts.{Verdict}
+use Rattle.std.specs.Prelude.{Ok, Err}
 use Rattle.matrix.proofs.Verdicts.{passed_first, Small, then_small, fails_at_small}
 use Rattle.matrix.proofs.Passed.{shaped_iff}
 use Rattle.matrix.proofs.Codes.{square_small, shaped_small, rooms_small}
@@ -19,7 +18,7 @@ tested_small n costs lent =
     then_small _ _
     (then_small _ _ (shaped_small n costs (length lent.cols) (length lent.rows) (length lent.prices_of_rows) (length lent.prices_of_columns))
     (λ e. rooms_small n (length lent.indices) (length lent.numbers)))
-    (λ e. fails_at_small _ _ _ _ (lit< tt) (λ k l.
+    (λ e. fails_at_small _ _ _ _ (λ k l.
     let s = (shaped_iff n costs (length lent.cols) (length lent.rows) (length lent.prices_of_rows) (length lent.prices_of_columns)).0 (passed_first _ _ e) in
     omega (arith, square_small n (length costs) s.small s.squared)))
 
@@ -28,5 +27,5 @@ unfolding solve outcome
 solve_places n costs lent = by (tested n costs lent) (tested_small n costs lent)
   where
     by : (verdict : Verdict) → Small verdict → TellableSolved (outcome n costs lent verdict).answer
-    by Passed h = tt
-    by (Fails refusal) h = h
+    by (Ok _) h = tt
+    by (Err refusal) h = h

@@ -7,18 +7,17 @@ use Prim.Native.Nat.{ℕ}
 use lib.IntN.{ℤ}
 use Rattle.matrix.proofs.Determined.{refusal_determined}
 use Rattle.rules.specs.declared.Counts.{Counts}
-use Rattle.lapjv.specs.declared.Solved.{Solved}
-use Rattle.lapjv.specs.declared.Solved.TheVariants.{Paired, Refused}
-use Rattle.lapjv.specs.Solve.{Lent, Outcome, outcome_of, solve}
+use Rattle.std.specs.Prelude.{Ok, Err}
+use Rattle.lapjv.specs.Solve.{Solved, Lent, Outcome, outcome_of, solve}
 use Rattle.lapjv.specs.Values.{SolvedValues, solved_values, Told, told_of}
 
 pub solved_values_determine : (a b : Solved) → solved_values a ≡ solved_values b → a ≡ b
-solved_values_determine (Paired s) (Paired t) e =
-    ap₂ (λ (z : ℤ) (c : Counts). Paired (record { total = z; counts = c })) (ap (λ (v : SolvedValues). v.total) e) (ap (λ (v : SolvedValues). v.counts) e)
-solved_values_determine (Paired s) (Refused r) e = absurd (true≢false (ap (λ (v : SolvedValues). v.accepted) e))
-solved_values_determine (Refused q) (Paired t) e = absurd (true≢false (sym (ap (λ (v : SolvedValues). v.accepted) e)))
-solved_values_determine (Refused q) (Refused r) e =
-    ap Refused (refusal_determined q r (ap (λ (v : SolvedValues). v.number) e) (ap (λ (v : SolvedValues). v.place) e) (ap (λ (v : SolvedValues). v.slack) e))
+solved_values_determine (Ok s) (Ok t) e =
+    ap₂ (λ (z : ℤ) (c : Counts). Ok (record { total = z; counts = c })) (ap (λ (v : SolvedValues). v.total) e) (ap (λ (v : SolvedValues). v.counts) e)
+solved_values_determine (Ok s) (Err r) e = absurd (true≢false (ap (λ (v : SolvedValues). v.accepted) e))
+solved_values_determine (Err q) (Ok t) e = absurd (true≢false (sym (ap (λ (v : SolvedValues). v.accepted) e)))
+solved_values_determine (Err q) (Err r) e =
+    ap Err (refusal_determined q r (ap (λ (v : SolvedValues). v.number) e) (ap (λ (v : SolvedValues). v.place) e) (ap (λ (v : SolvedValues). v.slack) e))
 
 pub told_determines : (outcome other : Outcome) → told_of outcome ≡ told_of other → outcome ≡ other
 told_determines outcome other e =

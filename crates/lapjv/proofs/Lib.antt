@@ -3,7 +3,6 @@ pub mod Ready
 pub mod Owed
 pub mod Reducing
 pub mod Pairing
-pub mod Solving
 pub mod Codes
 pub mod Bare
 pub mod Determined

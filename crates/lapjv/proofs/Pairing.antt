@@ -21,13 +21,13 @@ use Rattle.rules.proofs.Stages.{search_ready}
 use Rattle.rules.specs.Right.{Right}
 use Rattle.rules.proofs.Run.{run_right}
 use Rattle.augmentation.specs.Augmentation.{CanAugment, CanTurn, Augmented, state_of}
-use Rattle.lapjv.specs.declared.Reduced.{Reduced}
+use Rattle.rules.specs.declared.Counts.{Counts}
 use Rattle.lapjv.specs.Asked.{CanPrice}
 use Rattle.lapjv.specs.Stages.{Pairable, pass_one, pass_two, ReducedBy, answer_in, PairedBy}
 use Rattle.lapjv.proofs.Ready.{cost, costs_within_lem, side-free, near_five}
 use Rattle.lapjv.proofs.Reducing.{two_good}
 
-module _ (n : ℕ) (costs : List ℤ) (p : Pairable n costs) (cols rows : List ℕ) (v : List ℤ) (room : List ℕ) (r : Reduced)
+module _ (n : ℕ) (costs : List ℤ) (p : Pairable n costs) (cols rows : List ℕ) (v : List ℤ) (room : List ℕ) (r : Counts)
     (R : ReducedBy n costs cols rows v room r) where
   abbrev c : ℕ → ℕ → ℤ
   c = cost n costs p

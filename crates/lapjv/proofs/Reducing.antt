@@ -89,7 +89,7 @@ module _ (n : ℕ) (costs : List ℤ) (p : Pairable n costs) where
         -- Both passes over all rows that were left: the stage and the counts of the rules.
         pub reduced_by : count ≡ m₁ → pass₁.left ≡ m₂ → length room₂ ≡ n + n + n + n
             → ReducedBy n costs cols₂ rows₂ v₂ room₂
-            (record { free_rows = count; looks_one = pass₁.looks; left_one = pass₁.left; looks_two = pass₂.looks; rows_left = pass₂.left })
+            (record { free_rows = count; looks_one = pass₁.looks; left_one = pass₁.left; looks_two = pass₂.looks; rows_left = pass₂.left; columns_scanned = 0 })
         reduced_by all_one all_two size =
             let two : passing_at cols₂ rows₂ v₂ (part 0 n room₂) pass₂ ≡ pass_two n costs = e₂
             ∙ ap (λ (k : ℕ). row_reduction n cost (stage_at cols₁ rows₁ v₁ (part 0 n room₁) k)) (sym all_two)

@@ -1,13 +1,14 @@
 -- The solver's tests are passed exactly by the inputs that `WithinLimits` names, and such an input is paired. Assumes nothing.
-use mathlib.Core.Path.{◌≡◌}
+use mathlib.Core.Path.{◌≡◌, sym}
 use mathlib.Core.Logic.{◌↔◌}
 use mathlib.Core.List.{List}
 use Prim.Native.Nat.{ℕ}
 use lib.IntN.{ℤ}
 use lib.ListN.{length}
 use Rattle.matrix.specs.Verdicts as verdicts
-use Rattle.matrix.specs.declared.Refusal.{Refusal}
-use Rattle.matrix.specs.declared.Verdict.TheVariants.{Fails}
+use Rattle.matrix.specs.Verdicts.{Verdict}
+use Rattle.matrix.specs.declared.refusals.Refusal.{Refusal}
+use Rattle.std.specs.Prelude.{Ok, Err, OnOk}
 use Rattle.matrix.proofs.Verdicts.{then_iff}
 use Rattle.matrix.proofs.Passed.{shaped_iff, rooms_long_lem, costs_within_lem}
 use Rattle.rules.specs.Run.{run}
@@ -45,12 +46,17 @@ module _ (n : ℕ) (costs : List ℤ) (lent : Lent) where
             t5.1 (t4.1 (s, rooms.1 (p.indices_enough, p.numbers_enough)), (costs_within_lem costs).1 p.costs_within),
       )
 
+  -- What the code tells of it.
+  pub tested_limits : (verdict : Verdict) → verdict ≡ tested n costs lent → OnOk verdict (WithinLimits n costs lent)
+  tested_limits (Ok _) e = tested_iff.0 (sym e)
+  tested_limits (Err refusal) e = tt
+
   -- Such an input is never refused.
   pub passes_paired : WithinLimits n costs lent → solve n costs lent ≡ paired n lent (run n costs)
   unfolding solve outcome
   passes_paired p = rw (tested_iff.1 p)
 
   -- Any other is, and nothing is written.
-  pub fails_refused : (refusal : Refusal) → tested n costs lent ≡ Fails refusal → solve n costs lent ≡ refused lent refusal
+  pub fails_refused : (refusal : Refusal) → tested n costs lent ≡ Err refusal → solve n costs lent ≡ refused lent refusal
   unfolding solve outcome
   fails_refused refusal e = rw e

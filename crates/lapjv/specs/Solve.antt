@@ -2,13 +2,17 @@
 use Rattle.std.specs.Prelude.{List, [], ◌∷◌, ◌++◌, ℕ, ◌*◌, ℤ, pos, length, drop, replicate}
 use Rattle.matrix.specs.Verdicts.{◌then◌}
 use Rattle.matrix.specs.Tests.{shaped, rooms_long, costs_within}
-use Rattle.matrix.specs.declared.Refusal.{Refusal}
-use Rattle.matrix.specs.declared.Verdict.{Verdict}
-use Rattle.matrix.specs.declared.Verdict.TheVariants.{Passed, Fails}
+use Rattle.matrix.specs.declared.refusals.Refusal.{Refusal}
+use Rattle.matrix.specs.Verdicts.{Verdict}
+use Rattle.std.specs.Prelude.{Ok, Err}
+use Rattle.std.specs.Prelude as std
 use Rattle.rules.specs.Run.{Result}
 use Rattle.lapjv.specs.Answers.{answer}
-use Rattle.lapjv.specs.declared.Solved.{Solved}
-use Rattle.lapjv.specs.declared.Solved.TheVariants.{Paired, Refused}
+use Rattle.lapjv.specs.declared.Sums.{Sums}
+
+-- What the solver answers: what a paired night comes to, or why the input is refused.
+abbrev pub Solved : Type 0
+Solved = std.Result Sums Refusal
 
 -- The six lent lists: columns, rows, row prices, column prices, and the two work rooms.
 pub record Lent : Type 0 where
@@ -39,13 +43,13 @@ outcome_of answer lent = record { answer = answer; lent = lent }
 
 -- "A refusal [..] changes no lent entry."
 abbrev pub refused : Lent → Refusal → Outcome
-refused lent refusal = outcome_of (Refused refusal) lent
+refused lent refusal = outcome_of (Err refusal) lent
 
 -- "After acceptance the first n entries of each output hold the answer, the first 4n and n work entries are 0, and later entries are
 -- untouched. [..] The answer carries the total and" six "counts."
 abbrev pub paired : ℕ → Lent → Result → Outcome
 paired n lent a = record {
-  answer = Paired (record { total = a.total; counts = a.counts });
+  answer = Ok (record { total = a.total; counts = a.counts });
   lent = record {
     cols = a.cols ++ drop n lent.cols;
     rows = a.rows ++ drop n lent.rows;
@@ -58,8 +62,8 @@ paired n lent a = record {
 
 -- What a caller gets and finds, from the verdict on the input.
 unfoldable pub outcome : ℕ → List ℤ → Lent → Verdict → Outcome
-outcome n costs lent Passed = paired n lent (answer n costs)
-outcome n costs lent (Fails refusal) = refused lent refusal
+outcome n costs lent (Ok _) = paired n lent (answer n costs)
+outcome n costs lent (Err refusal) = refused lent refusal
 
 -- The solver.
 unfoldable pub solve : ℕ → List ℤ → Lent → Outcome

@@ -8,7 +8,7 @@ use Rattle.rules.specs.Columns.{column_reduction}
 use Rattle.rules.specs.Rows.{Passing, row_reduction, pass_end}
 use Rattle.rules.specs.Run.{Result, run}
 use Rattle.reduction.specs.Columns.{stage_at}
-use Rattle.lapjv.specs.declared.Reduced.{Reduced}
+use Rattle.rules.specs.declared.Counts.{Counts}
 use Rattle.lapjv.specs.declared.Sums.{Sums}
 
 -- A night of side 1 or more that can be paired.
@@ -33,7 +33,7 @@ abbrev pub pass_two : ℕ → List ℤ → Passing
 pass_two n costs = row_reduction n (square n costs).cost (pass_end (pass_one n costs))
 
 -- Rules 3 and 4 have run: the stage that the second pass leaves, with the counts on the way.
-pub record ReducedBy (n : ℕ) (costs : List ℤ) (cols rows : List ℕ) (v : List ℤ) (room : List ℕ) (r : Reduced) : Type 0 where
+pub record ReducedBy (n : ℕ) (costs : List ℤ) (cols rows : List ℕ) (v : List ℤ) (room : List ℕ) (r : Counts) : Type 0 where
   pub stage : stage_at cols rows v (part 0 n room) r.rows_left ≡ pass_end (pass_two n costs)
   pub free_rows : r.free_rows ≡ (column_reduction n (square n costs).cost).count
   pub looks_one : r.looks_one ≡ (pass_one n costs).pass.looks

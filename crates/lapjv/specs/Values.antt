@@ -1,11 +1,9 @@
 -- What the scope says of each case of the solver's answer, and what a caller is told and finds.
-use Rattle.std.specs.Prelude.{Bool, true, false, ℕ, ℤ, pos}
+use Rattle.std.specs.Prelude.{Ok, Err, Bool, true, false, ℕ, ℤ, pos}
 use Rattle.matrix.specs.Refusals.{number_of, place_of, slack_of}
 use Rattle.rules.specs.declared.Counts.{Counts}
 use Rattle.rules.specs.Nights.{six}
-use Rattle.lapjv.specs.declared.Solved.{Solved}
-use Rattle.lapjv.specs.declared.Solved.TheVariants.{Paired, Refused}
-use Rattle.lapjv.specs.Solve.{Lent, Outcome}
+use Rattle.lapjv.specs.Solve.{Solved, Lent, Outcome}
 
 -- "counts 0".
 abbrev pub no_counts : Counts
@@ -22,8 +20,8 @@ pub record SolvedValues : Type 0 where
 
 -- "A refusal has total 0, counts 0, a place".
 abbrev pub solved_values : Solved → SolvedValues
-solved_values (Paired night) = record { accepted = true; number = 0; place = 0; slack = pos 0; total = night.total; counts = night.counts }
-solved_values (Refused refusal) = record { accepted = false; number = number_of refusal; place = place_of refusal; slack = slack_of refusal; total = pos 0; counts = no_counts }
+solved_values (Ok night) = record { accepted = true; number = 0; place = 0; slack = pos 0; total = night.total; counts = night.counts }
+solved_values (Err refusal) = record { accepted = false; number = number_of refusal; place = place_of refusal; slack = slack_of refusal; total = pos 0; counts = no_counts }
 
 -- The values of the answer, and the lent lists.
 pub record Told : Type 0 where

@@ -1,4 +1,5 @@
 pub mod Values
+pub mod LittleEndian
 pub mod Fields
 pub mod Stores
 pub mod Trailers

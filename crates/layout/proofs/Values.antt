@@ -1,13 +1,12 @@
 -- Numbers as bytes, there and back, for any width. Assumes nothing.
 use mathlib.Core.Path.{◌≡◌, refl, ap, ◌∙◌}
-use mathlib.Core.List.{List, [], ◌∷◌}
+use mathlib.Core.List.{List, [], ◌∷◌, ◌++◌}
 use Prim.Native.Nat.{ℕ, zero, suc, ◌+◌, ◌*◌, ◌-◌, ◌/◌, ◌^◌, ◌≤◌, ◌<◌}
 use native.Mathlib.Nat.{zero-lt-suc, pow-le-pow_right, pow-succ', div-lt_iff_lt-mul, mul_comm, mod-add-div, div-mul-le_self, mul-le-mul_left}
 use native.Mathlib.Omega.{arith}
 use borrow.Author.Tests.{lt-ltb, le-ltb}
 use lib.IntN.{ℤ, pos, negsuc}
-use lib.ListN.{length, get_or, drop}
-use lib.Seq.{drop-cons}
+use lib.ListN.{length, get_or}
 use lib.Signed.{mag}
 use Rattle.layout.specs.Values.{bytes_of, value_of, wrapped, unwrapped, signed_bytes, signed_value}
 
@@ -27,12 +26,15 @@ value_bytes_of (suc k) x h =
     let below : x / 256 < 256 ^ k = (div-lt_iff_lt-mul {k = 256} {x = x} {y = 256 ^ k} (omega arith)).1 (omega (arith, pow-succ' 256 k, mul_comm 256 (256 ^ k))) in
     omega (arith, value_bytes_of k (x / 256) below, mod-add-div x 256)
 
--- One byte more, the lowest: the value of what stands from k on, and how large it is.
-pub value_more : (l : List ℕ) (k v b : ℕ) → k < length l → v ≡ value_of (drop (suc k) l) → b ≡ get_or l k 0 → v * 256 + b ≡ value_of (drop k l)
+-- Zeros behind bytes change nothing.
+pub padded : (p l : List ℕ) → ((i : ℕ) → get_or l i 0 ≡ 0) → value_of (p ++ l) ≡ value_of p
 unfolding value_of
-value_more l k v b h e f = rw (drop-cons l k 0 h) (omega arith)
+padded [] [] z = refl
+padded [] (b ∷ l) z = omega (arith, z 0, padded [] l (λ i. z (suc i)))
+padded (a ∷ p) l z = ap (λ (n : ℕ). a + 256 * n) (padded p l z)
 
-pub more_below : (m v b : ℕ) → v < 256 ^ m → b < 256 → v * 256 + b < 256 ^ suc m
+-- One byte more, the lowest: how large the value is.
+more_below : (m v b : ℕ) → v < 256 ^ m → b < 256 → v * 256 + b < 256 ^ suc m
 more_below m v b h l = omega (arith, pow-succ' 256 m, mul-le-mul_left 256 h)
 
 -- What bytes stand for is below what so many bytes can say.

@@ -4,3 +4,4 @@ pub mod Trailers
 pub mod Sheets
 pub mod Slips
 pub mod Asked
+pub mod Editions

@@ -1,41 +1,13 @@
 // A slip, written part by part.
-ghost use Rattle.std.specs.Prelude.{◌≡◌, ◌+◌, ◌*◌, ◌≤◌, length, drop};
-ghost use mathlib.Core.List.{◌++◌, flat_map};
+ghost use Rattle.std.specs.Prelude.{◌≡◌, ◌+◌, ◌≤◌, length, drop};
+ghost use mathlib.Core.List.{◌++◌};
 ghost use lib.Seq.{sets};
-ghost use Rattle.layout.specs.Values.{bytes_of, signed_bytes};
 ghost use Rattle.layout.specs.Slips.{slip_body, row_count, row_count_length, slip_of, slip_length};
 ghost use Rattle.layout.specs.Asked.{Listed, Slipped};
 
+use crate::field::{Field, write_fields};
 use crate::trailer::write_trailer;
-use crate::value::{wrapped, write_value};
-
-// Writes columns from `at` on, two bytes each.
-fn write_columns(room: &mut [u8], at: usize, cols: &[u32])
-    requires { at + length cols.now * 2 ≤ length room.old }
-    ensures { room.new ≡ sets room.old at (flat_map (bytes_of 2) cols.now) }
-{
-    let mut place = at;
-    let mut i = 0;
-    while i < cols.len() {
-        write_value(room, place, 2, cols[i] as usize);
-        place += 2;
-        i += 1;
-    }
-}
-
-// Writes prices from `at` on, eight bytes each.
-fn write_prices(room: &mut [u8], at: usize, prices: &[i64])
-    requires { at + length prices.now * 8 ≤ length room.old }
-    ensures { room.new ≡ sets room.old at (flat_map (signed_bytes 8) prices.now) }
-{
-    let mut place = at;
-    let mut i = 0;
-    while i < prices.len() {
-        write_value(room, place, 8, wrapped(prices[i]));
-        place += 8;
-        i += 1;
-    }
-}
+use crate::value::write_value;
 
 // Writes what stands before a slip's trailer over the front of its room: m columns and row prices, n column prices, the total.
 fn write_body(slip: &mut [u8], cols: &[u32], row_prices: &[i64], col_prices: &[i64], total: i64)
@@ -44,20 +16,20 @@ fn write_body(slip: &mut [u8], cols: &[u32], row_prices: &[i64], col_prices: &[i
 {
     let m = cols.len();
     let n = col_prices.len();
-    write_columns(slip, 0, cols);
-    write_prices(slip, 2 * m, row_prices);
-    write_prices(slip, 10 * m, col_prices);
-    write_value(slip, 10 * m + 8 * n, 8, wrapped(total));
+    write_fields(slip, 0, cols);
+    write_fields(slip, 2 * m, row_prices);
+    write_fields(slip, 10 * m, col_prices);
+    total.write(slip, 10 * m + 8 * n);
 }
 
 // How many bytes an edition's row count takes.
 pub fn row_count_length(edition: usize) -> usize
     ensures { result ≡ row_count_length edition }
 {
-    if edition == 3 {
-        return 2;
+    match edition {
+        3 => 2,
+        _ => 0,
     }
-    0
 }
 
 // Writes a row count at `at`, where the edition has one.

@@ -1,4 +1,4 @@
-// The trailer, its parts read and the whole written.
+// The trailer, its parts read and the whole written. Each part keeps its name: a place and a width in its stead would be no plainer.
 ghost use Rattle.std.specs.Prelude.{◌≡◌, ◌+◌, ◌^◌, ◌<◌, ◌≤◌, length};
 ghost use lib.Seq.{sets};
 ghost use Rattle.layout.specs.Values.{bytes_of};

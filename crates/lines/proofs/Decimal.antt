@@ -6,10 +6,8 @@ use native.Mathlib.Decide.{dec_lt}
 use native.Mathlib.Nat.{div-le_self, div-lt_iff_lt-mul, pow-succ', mul_comm}
 use native.Mathlib.Omega.{arith}
 use borrow.Author.Tests.{lt-ltb, le-ltb}
-use lib.IntN.{ℤ, pos, negsuc}
 use lib.ListN.{length, length-append}
-use lib.Signed.{mag}
-use Rattle.lines.specs.Decimal.{digits, decimal, signed_decimal}
+use Rattle.lines.specs.Decimal.{digits, decimal}
 
 -- Without its last digit, a number has one digit less.
 less-below : (k x : ℕ) → x < 10 ^ suc k → x / 10 < 10 ^ k
@@ -42,6 +40,9 @@ enough (suc k) (suc m) x h l = by (dec_lt x 10) (enough k m (x / 10) (less-below
 pub decimal_small : (x : ℕ) → x < 10 → decimal x ≡ (48 + x % 10) ∷ []
 decimal_small = digits_small 19
 
+pub length_digit : (x : ℕ) → x < 10 → length (decimal x) ≡ 1
+length_digit x h = ap length (decimal_small x h)
+
 pub decimal_more : (x : ℕ) → x < 2 ^ 64 → 10 ≤ x → decimal x ≡ decimal (x / 10) ++ ((48 + x % 10) ∷ [])
 decimal_more x l h =
     digits_more 19 x h
@@ -60,10 +61,6 @@ length_digits k (suc m) x h = by (dec_lt x 10) k h (λ j l. length_digits j m (x
     by (no s) (suc k) h ih =
         omega (arith, ap length (digits_more m x (omega arith)), length-append (digits m (x / 10)) ((48 + x % 10) ∷ []), ih k (less-below (suc k) x h))
 
--- A number of 64 bits has at most 20 digits, a signed one 19 and a sign.
-pub length-decimal : (x : ℕ) → x < 2 ^ 64 → length (decimal x) ≤ 20
-length-decimal x h = length_digits 19 20 x (omega arith)
-
-pub length-signed_decimal : (z : ℤ) → mag z < 2 ^ 63 → length (signed_decimal z) ≤ 20
-length-signed_decimal (pos n) h = length-decimal n (omega arith)
-length-signed_decimal (negsuc n) h = omega (arith, length_digits 18 20 (suc n) (omega arith))
+-- A number of 64 bits has at most 20 digits.
+pub decimal_short : (x : ℕ) → x < 2 ^ 64 → length (decimal x) ≤ 20
+decimal_short x h = length_digits 19 20 x (omega arith)

@@ -10,6 +10,7 @@ use borrow.Author.Tests.{not-true}
 use lib.IntN.{ℤ, pos}
 use lib.ListN.{length, take, drop}
 use lib.Seq.{take_at, take-take, get_or-take}
+use Rattle.layout.specs.Editions.{named}
 use Rattle.lists.specs.Permutations.{at}
 use Rattle.lists.specs.Counts.{bit_of}
 use Rattle.lists.proofs.Runs.{first_before}
@@ -25,11 +26,12 @@ use Rattle.rules.specs.Run.{Result}
 use Rattle.rules.proofs.Run.{right_within_ten}
 use Rattle.swaps.specs.Second.{Answer, second}
 use Rattle.swaps.proofs.Costs.{second_same, shown_same}
+use Rattle.sheet.specs.declared.Settled.{Settled}
 use Rattle.sheet.specs.Reading.{Laid, night, read}
 use Rattle.sheet.specs.Settle.{fresh, solved_costs, found, barred_row, ended}
 use Rattle.sheet.proofs.Nights as nights
 use Rattle.lines.specs.Lines.{accepted_line, row_line, row_lines, spare_lines, second_line, second_of, night_lines}
-use Rattle.lines.specs.Asked.{Searchable, state_lines, Ready}
+use Rattle.lines.specs.Asked.{Searchable, settled_lines, Ready}
 
 -- At a place that is not barred the solved cost is the sheet's.
 cost-same : (laid : Laid) (i j : ℕ) → i < laid.side → j < laid.side → bit_of (at laid.bars i) j ≡ false
@@ -132,15 +134,18 @@ module _ (sheet : List ℕ) (room : ℕ) (laid : Laid) (e : read room sheet ≡ 
   column_prices_are : take n (ended laid).col_prices ≡ a.prices_of_columns
   column_prices_are = take_at a.prices_of_columns (drop n fresh.col_prices) n (nights.owed sheet room laid e).column_prices_size
 
-  -- What `put_night` is asked with, and what it then writes.
-  pub ended_ready : (out : List ℕ) → 160 + 110 * 64 ≤ length out → Ready m n (ended laid) out
-  ended_ready out long = record {
+  -- What is settled, what `put_night` is asked with, and what it then writes.
+  abbrev pub done : Settled
+  done = record { edition = named laid.edition; row_count = m; side = n; total = a.total; state = ended laid }
+
+  pub ended_ready : Ready done
+  ended_ready = record {
     rows = rw (costs_are, cols_are)
-        (record { fewer = fewer; squared = filled_size; listed = omega (arith, (nights.owed sheet room laid e).cols_size, fewer); inside = λ i l. inside i (omega (arith, fewer)); roomy = omega (arith, fewer, few) });
+        (record { fewer = fewer; squared = filled_size; listed = omega (arith, (nights.owed sheet room laid e).cols_size, fewer); inside = λ i l. inside i (omega (arith, fewer)) });
     searchable = rw (kept_are, bars_are, cols_are, row_prices_are, column_prices_are) searchable;
   }
 
-  pub ended_lines : state_lines m n a.total (ended laid) ≡ night_lines laid
+  pub ended_lines : settled_lines done ≡ night_lines laid
   ended_lines =
       rw (costs_are, kept_are, bars_are, cols_are, row_prices_are, column_prices_are)
       (ap₂ (λ (l : List ℕ) (t : Answer). accepted_line n a.total ++ (l ++ (spare_lines m a.cols n ++ second_line t))) (rows_same m fewer) second_kept)

@@ -12,7 +12,7 @@ use Rattle.layout.specs.Sheets.{sheet_of, sheet_oblong}
 use Rattle.bars.specs.Barred.{filled_costs}
 use Rattle.bars.specs.Masks.{columns_mask, paired_mask, reached_mask}
 use Rattle.matrix.specs.Limits.{sheet_side, K}
-use Rattle.matrix.specs.Verdicts.{◌then◌, fails_by, fails_at_by}
+use Rattle.matrix.specs.Verdicts.{fails_by, fails_at_by}
 use Rattle.rules.specs.Lowest.{two_lowest, lowest, least_but}
 use Rattle.rules.specs.Block.{block}
 use Rattle.rules.specs.Columns.{free, claims, transfers, column_reduction}
@@ -51,7 +51,7 @@ n8 : output (sheet_of [] 3 (map pos (3 ∷ 1 ∷ 0 ∷ 0 ∷ 0 ∷ 2 ∷ 4 ∷ 1
     ∷ 50 ∷ 32 ∷ 49 ∷ 32 ∷ 49 ∷ 10
     ∷ 97 ∷ 108 ∷ 115 ∷ 111 ∷ 32 ∷ 49 ∷ 32 ∷ 48 ∷ 32 ∷ 50 ∷ 10
     ∷ []
-unfolding digits turns upward downward until first table sum flat_map bytes_of value_of fields ◌then◌ fails_by fails_at_by K sheet_side sheet_most note_most barred_most sheet_tests read filled_costs reached_mask columns_mask paired_mask accepted_line row_line row_lines spare_line spare_lines columns_text refused_line output two_lowest lowest least_but block free claims transfers column_reduction looks row_reduction scan last_free search_blocks search new_prices flips augments augmentation stages run dearest walk second
+unfolding digits turns upward downward until first table sum flat_map bytes_of value_of fields fails_by fails_at_by K sheet_side sheet_most note_most barred_most sheet_tests read filled_costs reached_mask columns_mask paired_mask accepted_line row_line row_lines spare_line spare_lines columns_text refused_line output two_lowest lowest least_but block free claims transfers column_reduction looks row_reduction scan last_free search_blocks search new_prices flips augments augmentation stages run dearest walk second
 n8 = refl
 
 -- A row with costs 1 0: `accepted 2 total 0`, `0 1 0`, `spare 0`, `only`.
@@ -61,7 +61,7 @@ one_row : output (sheet_oblong [] 1 2 (map pos (1 ∷ 0 ∷ [])))
     ∷ 115 ∷ 112 ∷ 97 ∷ 114 ∷ 101 ∷ 32 ∷ 48 ∷ 10
     ∷ 111 ∷ 110 ∷ 108 ∷ 121 ∷ 10
     ∷ []
-unfolding digits turns upward downward until first table sum flat_map bytes_of value_of fields ◌then◌ fails_by fails_at_by K sheet_side sheet_most note_most barred_most sheet_tests read filled_costs reached_mask columns_mask paired_mask accepted_line row_line row_lines spare_line spare_lines columns_text refused_line output two_lowest lowest least_but block free claims transfers column_reduction looks row_reduction scan last_free search_blocks search new_prices flips augments augmentation stages run dearest walk second
+unfolding digits turns upward downward until first table sum flat_map bytes_of value_of fields fails_by fails_at_by K sheet_side sheet_most note_most barred_most sheet_tests read filled_costs reached_mask columns_mask paired_mask accepted_line row_line row_lines spare_line spare_lines columns_text refused_line output two_lowest lowest least_but block free claims transfers column_reduction looks row_reduction scan last_free search_blocks search new_prices flips augments augmentation stages run dearest walk second
 one_row = refl
 
 -- "for side 0 `only`": `accepted 0 total 0`, `only`.
@@ -69,10 +69,10 @@ nobody : output (sheet_of [] 0 [])
     ≡ 97 ∷ 99 ∷ 99 ∷ 101 ∷ 112 ∷ 116 ∷ 101 ∷ 100 ∷ 32 ∷ 48 ∷ 32 ∷ 116 ∷ 111 ∷ 116 ∷ 97 ∷ 108 ∷ 32 ∷ 48 ∷ 10
     ∷ 111 ∷ 110 ∷ 108 ∷ 121 ∷ 10
     ∷ []
-unfolding digits turns upward downward until first table sum flat_map bytes_of value_of fields ◌then◌ fails_by fails_at_by K sheet_side sheet_most note_most barred_most sheet_tests read filled_costs reached_mask columns_mask paired_mask accepted_line row_line row_lines spare_line spare_lines columns_text refused_line output two_lowest lowest least_but block free claims transfers column_reduction looks row_reduction scan last_free search_blocks search new_prices flips augments augmentation stages run dearest walk second
+unfolding digits turns upward downward until first table sum flat_map bytes_of value_of fields fails_by fails_at_by K sheet_side sheet_most note_most barred_most sheet_tests read filled_costs reached_mask columns_mask paired_mask accepted_line row_line row_lines spare_line spare_lines columns_text refused_line output two_lowest lowest least_but block free claims transfers column_reduction looks row_reduction scan last_free search_blocks search new_prices flips augments augmentation stages run dearest walk second
 nobody = refl
 
 -- No bytes at all: `refused 11 place 0`.
 empty : output [] ≡ 114 ∷ 101 ∷ 102 ∷ 117 ∷ 115 ∷ 101 ∷ 100 ∷ 32 ∷ 49 ∷ 49 ∷ 32 ∷ 112 ∷ 108 ∷ 97 ∷ 99 ∷ 101 ∷ 32 ∷ 48 ∷ 10 ∷ []
-unfolding digits ◌then◌ fails_by fails_at_by sheet_most sheet_tests read refused_line output
+unfolding digits fails_by fails_at_by sheet_most sheet_tests read refused_line output
 empty = refl

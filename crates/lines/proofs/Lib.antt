@@ -1,7 +1,6 @@
 pub mod Decimal
-pub mod Put
+pub mod Pieces
 pub mod Spares
-pub mod Columns
 pub mod Ended
 pub mod Seconds
 pub mod Night

@@ -6,8 +6,9 @@ use Rattle.layout.specs.Slips.{slip_length}
 use Rattle.assignment.specs.Pairings.{signed_at}
 use Rattle.bars.specs.Barred.{night_of}
 use Rattle.matrix.specs.Limits.{sheet_side}
-use Rattle.matrix.specs.Refusals.{number_of, place_of, NoPairing}
-use Rattle.matrix.specs.declared.Refusal.{Refusal}
+use Rattle.matrix.specs.Refusals.{number_of, place_of}
+use Rattle.matrix.specs.declared.refusals.Reason.TheVariants.{NoPairing}
+use Rattle.matrix.specs.declared.refusals.Refusal.{Refusal}
 use Rattle.swaps.specs.Second.{Answer, only, also, second}
 use Rattle.sheet.specs.Reading.{Laid, Read, refused, night, read}
 use Rattle.sheet.specs.Settle.{found, barred_row}
@@ -95,7 +96,7 @@ refused_line refusal = refused_text ++ (decimal (number_of refusal) ++ (place_te
 
 -- 20 is a refusal like any other.
 abbrev pub no_pairing : Refusal
-no_pairing = record { number = NoPairing; place = 0; slack = pos 0 }
+no_pairing = record { reason = NoPairing; place = 0; slack = pos 0 }
 
 -- Whether another pairing of the night has the total of the one found. Columns and row prices behind those of its rows do not count.
 abbrev pub second_of : Laid → Answer

@@ -8,7 +8,7 @@ use Rattle.matrix.specs.Verdicts.{bare}
 use Rattle.matrix.specs.Tests.{shaped, rooms_long}
 use Rattle.matrix.specs.Answers.{bare_answer, totalled}
 use Rattle.matrix.specs.Cost.{total_of, cost_tests, cost}
-use Rattle.matrix.specs.declared.Verdict.{Verdict}
+use Rattle.matrix.specs.Verdicts.{Verdict}
 use Rattle.matrix.proofs.Verdicts.{bare_then, bare_if, bare-at, bare-totalled}
 
 pub shaped-bare : (n : ℕ) (costs : List ℤ) (lengths : List ℕ) → bare (shaped n costs lengths) ≡ shaped n costs lengths

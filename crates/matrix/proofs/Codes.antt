@@ -14,12 +14,12 @@ use Rattle.matrix.specs.Answers.{totalled}
 use Rattle.matrix.specs.Tests.{shaped, rooms_long}
 use Rattle.matrix.specs.Asked.{Tellable, TellableIn}
 use Rattle.matrix.specs.Refusals.{place_of, code_of, capped_code_of}
-use Rattle.matrix.specs.declared.Refusal.{Refusal}
+use Rattle.matrix.specs.declared.refusals.Refusal.{Refusal}
 use Rattle.matrix.proofs.SmallLimits.{side_small}
 use Rattle.matrix.proofs.Verdicts.{then_iff, Small, then_small, fails_if_small, fails_at_small}
 use Rattle.matrix.proofs.Passed.{side_within_lem, costs_fill_lem, list_short_lem}
-use Rattle.matrix.specs.declared.Verdict.{Verdict}
-use Rattle.matrix.specs.declared.Verdict.TheVariants.{Passed, Fails}
+use Rattle.matrix.specs.Verdicts.{Verdict}
+use Rattle.std.specs.Prelude.{Ok, Err}
 
 -- Costs within the limit have at most 2^32 places.
 pub filled_small : (m n k : ℕ) → m ≤ side → n ≤ side → k ≡ m * n → k ≤ 2 ^ 32
@@ -30,20 +30,20 @@ square_small n m h e = filled_small n n m h h e
 
 -- A place that is far below 2^48 is told as it is.
 pub capped_same : (refusal : Refusal) → Tellable refusal → capped_code_of refusal ≡ code_of refusal
-capped_same refusal h = rw (lt-ltb (place_of refusal) (2 ^ 56) (omega (arith, h.1)))
+capped_same refusal h = rw (lt-ltb (place_of refusal) (2 ^ 56) (omega (arith, h)))
 
 pub totalled_small : (verdict : Verdict) (total : ℤ) → Small verdict → TellableIn (totalled verdict total)
 unfolding totalled
-totalled_small Passed total h = tt
-totalled_small (Fails refusal) total h = h
+totalled_small (Ok _) total h = tt
+totalled_small (Err refusal) total h = h
 
 pub shaped_small : (n : ℕ) (costs : List ℤ) (a b c d : ℕ) → Small (shaped n costs (a ∷ b ∷ c ∷ d ∷ []))
 shaped_small n costs a b c d =
-    then_small _ _ (then_small _ _ (fails_if_small _ _ _ (lit< tt) (λ e. lit< tt)) (λ e. fails_if_small _ _ _ (lit< tt) (λ e. lit< tt)))
-    (λ e. fails_at_small _ _ _ _ (lit< tt) (λ k l. omega arith))
+    then_small _ _ (then_small _ _ (fails_if_small _ _ _ (λ e. lit< tt)) (λ e. fails_if_small _ _ _ (λ e. lit< tt)))
+    (λ e. fails_at_small _ _ _ _ (λ k l. omega arith))
 
 pub rooms_small : (n indices numbers : ℕ) → Small (rooms_long n indices numbers)
-rooms_small n indices numbers = then_small _ _ (fails_if_small _ _ _ (lit< tt) (λ e. lit< tt)) (λ e. fails_if_small _ _ _ (lit< tt) (λ e. lit< tt))
+rooms_small n indices numbers = then_small _ _ (fails_if_small _ _ _ (λ e. lit< tt)) (λ e. fails_if_small _ _ _ (λ e. lit< tt))
 
 pub cost_places : (n : ℕ) (costs : List ℤ) (listed : List ℕ) → TellableIn (cost n costs listed)
 unfolding cost cost_tests
@@ -52,7 +52,7 @@ cost_places n costs listed =
     (then_small _ _
     (then_small _ _
     (then_small _ _
-    (then_small _ _ (fails_if_small _ _ _ (lit< tt) (λ e. lit< tt)) (λ a. fails_if_small _ _ _ (lit< tt) (λ e. lit< tt)))
-    (λ b. fails_if_small _ _ _ (lit< tt) (λ e. lit< tt)))
-    (λ c. fails_at_small _ _ _ _ (lit< tt) (λ k l. let b = ((then_iff _ _).0 c).0 in omega (arith, square_small n (length costs) ((side_within_lem side n).0 ((then_iff _ _).0 b).0) ((costs_fill_lem n n costs).0 ((then_iff _ _).0 b).1)))))
-    (λ d. fails_at_small _ _ _ _ (lit< tt) (λ i l. let c = ((then_iff _ _).0 d).0 in omega (arith, side_small, (side_within_lem side n).0 ((then_iff _ _).0 ((then_iff _ _).0 c).0).0, (list_short_lem n (length listed)).0 ((then_iff _ _).0 c).1))))
+    (then_small _ _ (fails_if_small _ _ _ (λ e. lit< tt)) (λ a. fails_if_small _ _ _ (λ e. lit< tt)))
+    (λ b. fails_if_small _ _ _ (λ e. lit< tt)))
+    (λ c. fails_at_small _ _ _ _ (λ k l. let b = ((then_iff _ _).0 c).0 in omega (arith, square_small n (length costs) ((side_within_lem side n).0 ((then_iff _ _).0 b).0) ((costs_fill_lem n n costs).0 ((then_iff _ _).0 b).1)))))
+    (λ d. fails_at_small _ _ _ _ (λ i l. let c = ((then_iff _ _).0 d).0 in omega (arith, side_small, (side_within_lem side n).0 ((then_iff _ _).0 ((then_iff _ _).0 c).0).0, (list_short_lem n (length listed)).0 ((then_iff _ _).0 c).1))))

@@ -10,4 +10,5 @@ pub mod Lengths
 pub mod Passed
 pub mod Multiples
 pub mod Listing
+pub mod Reasons
 pub mod Determined

@@ -12,6 +12,7 @@ use Rattle.lists.specs.Permutations.{at}
 use Rattle.assignment.specs.Pairings.{signed_at}
 use Rattle.matrix.specs.Limits.{side, K}
 use Rattle.matrix.specs.Refusals.{PriceOutside}
+use Rattle.matrix.specs.declared.refusals.Reason.{Reason}
 use Rattle.matrix.specs.Tests.{short}
 use Rattle.matrix.specs.Verdicts.{Passes, ◌then◌}
 use Rattle.matrix.specs.Tests.{side_within, costs_fill, lists_long, list_long, shaped, list_short, rooms_long, costs_in, costs_within, columns_inside, prices_in, prices_within}
@@ -73,9 +74,9 @@ columns_inside_lem count n cols =
     let t = fails_at_iff _ _ _ _ in
     (λ e i l. leb-false n (at cols i) (t.0 e i l), λ h. t.1 (λ i l. lt-leb n (at cols i) (h i l)))
 
-pub prices_in_lem : (number limit m n : ℕ) (us vs : List ℤ) → Passes (prices_in number (pos limit) m n us vs)
+pub prices_in_lem : (reason : Reason) (limit m n : ℕ) (us vs : List ℤ) → Passes (prices_in reason (pos limit) m n us vs)
     ↔ (((i : ℕ) → i < m → Within limit (signed_at us i)) × ((j : ℕ) → j < n → Within limit (signed_at vs j)))
-prices_in_lem number limit m n us vs =
+prices_in_lem reason limit m n us vs =
     let b = then_iff _ _ in
     let s = fails_at_iff _ _ _ _ in
     let t = fails_at_iff _ _ _ _ in (

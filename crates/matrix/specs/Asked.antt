@@ -2,19 +2,19 @@
 use Rattle.std.specs.Prelude.{◌≡◌, List, ℕ, ◌*◌, ◌^◌, ◌≤◌, ◌<◌, ℤ, length}
 use Rattle.lists.specs.Permutations.{at}
 use Rattle.matrix.specs.Limits.{side}
-use Rattle.matrix.specs.Refusals.{number_of, place_of}
-use Rattle.matrix.specs.declared.Refusal.{Refusal}
-use Rattle.matrix.specs.declared.Answer.{Answer}
-use Rattle.matrix.specs.declared.Answer.TheVariants.{Total, Refused}
+use Rattle.matrix.specs.Refusals.{place_of}
+use Rattle.matrix.specs.declared.refusals.Refusal.{Refusal}
+use Rattle.matrix.specs.Answers.{Answer}
+use Rattle.std.specs.Prelude.{Ok, Err}
 
 -- A refusal that fits 64 bits as one number: the numbers lie below 256, and places far below 2 ^ 48.
 abbrev pub Tellable : Refusal → Type 0
-Tellable refusal = (number_of refusal < 256) × (place_of refusal < 2 ^ 48)
+Tellable refusal = place_of refusal < 2 ^ 48
 
 -- An answer that is a total or such a refusal.
 abbrev pub TellableIn : Answer → Type 0
-TellableIn (Total total) = Unit {0}
-TellableIn (Refused refusal) = Tellable refusal
+TellableIn (Ok total) = Unit {0}
+TellableIn (Err refusal) = Tellable refusal
 
 -- For each of m rows a column below n.
 pub record ColumnsListed (m n : ℕ) (cols : List ℕ) : Type 0 where

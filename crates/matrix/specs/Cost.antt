@@ -7,8 +7,8 @@ use Rattle.matrix.specs.Limits.{side}
 use Rattle.matrix.specs.Verdicts.{◌then◌}
 use Rattle.matrix.specs.Answers.{totalled}
 use Rattle.matrix.specs.Tests.{side_within, costs_fill, list_short, costs_within, columns_inside}
-use Rattle.matrix.specs.declared.Verdict.{Verdict}
-use Rattle.matrix.specs.declared.Answer.{Answer}
+use Rattle.matrix.specs.Verdicts.{Verdict}
+use Rattle.matrix.specs.Answers.{Answer}
 
 -- What the first m rows cost, each at the column that the list has for it. At m = n it is `total (square n costs) cols`.
 abbrev pub total_of : ℕ → List ℤ → ℕ → List ℕ → ℤ

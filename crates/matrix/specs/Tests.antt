@@ -6,7 +6,8 @@ use Rattle.assignment.specs.Pairings.{signed_at}
 use Rattle.matrix.specs.Limits.{side, K}
 use Rattle.matrix.specs.Verdicts.{◌then◌, fails_if, fails_at}
 use Rattle.matrix.specs.Refusals.{SideOver, CostsLength, ListLength, RoomShort, CostOutside, ColumnOutside, PriceOutside}
-use Rattle.matrix.specs.declared.Verdict.{Verdict}
+use Rattle.matrix.specs.Verdicts.{Verdict}
+use Rattle.matrix.specs.declared.refusals.Reason.{Reason}
 
 -- "output or list shorter than n": of some lists with these lengths, whether list k is, counted from 0.
 abbrev pub short : ℕ → List ℕ → ℕ → Bool
@@ -57,10 +58,10 @@ abbrev pub columns_inside : ℕ → ℕ → List ℕ → Verdict
 columns_inside count n cols = fails_at ColumnOutside (λ i. i) count (λ i. leb n (at cols i))
 
 -- A price outside -limit..limit, "first: row i, then n+j": m row prices, then n column prices.
-abbrev pub prices_in : ℕ → ℤ → ℕ → ℕ → List ℤ → List ℤ → Verdict
-prices_in number limit m n us vs =
-    fails_at number (λ i. i) m (λ i. outside limit (signed_at us i))
-    then fails_at number (λ j. m + j) n (λ j. outside limit (signed_at vs j))
+abbrev pub prices_in : Reason → ℤ → ℕ → ℕ → List ℤ → List ℤ → Verdict
+prices_in reason limit m n us vs =
+    fails_at reason (λ i. i) m (λ i. outside limit (signed_at us i))
+    then fails_at reason (λ j. m + j) n (λ j. outside limit (signed_at vs j))
 
 -- 8, "a price outside -10K..10K".
 abbrev pub prices_within : ℕ → ℕ → List ℤ → List ℤ → Verdict

@@ -14,34 +14,14 @@ pub mod refusals;
 pub mod rows;
 pub mod tests;
 
-// A refusal: the scope's number; its place, 0 where it names none; and the slack of that place, 0 where none was tested.
-#[derive(Clone, Copy)]
-pub struct Refusal {
-    pub number: u64,
-    pub place: usize,
-    pub slack: i64,
-}
-
-// What a test says of an input.
-#[derive(Clone, Copy)]
-pub enum Verdict {
-    Passed,
-    Fails(Refusal),
-}
-
-// What `cost` and the checker answer.
-#[derive(Clone, Copy)]
-pub enum Answer {
-    Total(i64),
-    Refused(Refusal),
-}
+pub use refusals::{Reason, Refusal};
 
 // A total with one cost more.
 fn plus(total: i64, cost: i32) -> i64
     requires { Within (2 ^ 62) total }
     ensures { result ≡ total +ℤ cost }
 {
-    total + cost as i64
+    total + i64::from(cost)
 }
 
 // What m rows of costs in n columns cost at their listed columns.
@@ -50,13 +30,8 @@ pub fn total_of(m: usize, n: usize, costs: &[i32], cols: &[u32]) -> i64
     ensures { result ≡ total_of n costs.now m cols.now }
 {
     let mut total: i64 = 0;
-    let mut start = 0;
-    let mut i = 0;
-    while i < m {
-        let at = start + cols[i] as usize;
-        total = plus(total, costs[at]);
-        start += n;
-        i += 1;
+    for i in 0..m {
+        total = plus(total, costs[i * n + cols[i] as usize]);
     }
     total
 }
@@ -70,25 +45,22 @@ pub fn total(n: usize, costs: &[i32], count: usize, cols: &[u32]) -> i64
 }
 
 // Tests 1, 2, 3, 5, 6 of `cost`.
-fn cost_tested(n: usize, costs: &[i32], listed: &[u32]) -> Verdict
+#[tactic(auto, unfolding(crate::specs::Cost::cost_tests))]
+fn cost_tested(n: usize, costs: &[i32], listed: &[u32]) -> Result<(), Refusal>
     ensures { result ≡ cost_tests n costs.now listed.now }
 {
-    let sized = tests::side_within(limits::side(), n);
-    let filled = tests::costs_fill(sized, n, n, costs);
-    let short = tests::list_short(filled, n, listed.len());
-    let within = tests::costs_within(short, costs);
-    tests::columns_inside(within, listed.len(), n, listed)
+    tests::side_within(limits::side(), n)?;
+    tests::costs_fill(n, n, costs)?;
+    tests::list_short(n, listed.len())?;
+    tests::costs_within(costs)?;
+    tests::columns_inside(listed.len(), n, listed)
 }
 
 // The crate's `cost`.
-pub fn cost(n: usize, costs: &[i32], listed: &[u32]) -> Answer
+#[tactic(auto, unfolding(crate::specs::Cost::cost, crate::specs::Answers::totalled))]
+pub fn cost(n: usize, costs: &[i32], listed: &[u32]) -> Result<i64, Refusal>
     ensures { values_of result ≡ values_of (cost n costs.now listed.now) }
 {
-    match cost_tested(n, costs, listed) {
-        Verdict::Fails(refusal) => {
-            return Answer::Refused(refusal);
-        }
-        Verdict::Passed => {}
-    }
-    Answer::Total(total(n, costs, listed.len(), listed))
+    cost_tested(n, costs, listed)?;
+    Ok(total(n, costs, listed.len(), listed))
 }

@@ -1,102 +1,90 @@
-// The refusals' numbers, and a refusal as one number.
-ghost use Rattle.std.specs.Prelude.{◌≡◌, ◌<◌};
-ghost use Rattle.matrix.specs.Refusals.{number_of, place_of, slack_of, code_of, capped_code_of};
+// Why an input is refused, and a refusal as one number.
+ghost use Rattle.std.specs.Prelude.{◌≡◌, pos};
+ghost use Rattle.matrix.specs.Refusals.{number, number_of, code_of, capped_code_of};
 ghost use Rattle.matrix.specs.Asked.{Tellable};
 
-use crate::Refusal;
-
-// The scope's numbers, by name: code cannot read the definitions of specs/Refusals.antt. The promises hold the two together.
-pub const SIDE_OVER: u64 = 1;
-
-pub const COSTS_LENGTH: u64 = 2;
-
-pub const LIST_LENGTH: u64 = 3;
-
-pub const ROOM_SHORT: u64 = 4;
-
-pub const COST_OUTSIDE: u64 = 5;
-
-pub const COLUMN_OUTSIDE: u64 = 6;
-
-pub const ROW_NOT_NAMED: u64 = 7;
-
-pub const PRICE_OUTSIDE: u64 = 8;
-
-pub const PRICES_OVER_COST: u64 = 9;
-
-pub const PRICES_NOT_COST: u64 = 10;
-
-pub const NO_MARK: u64 = 11;
-
-pub const EDITION_UNKNOWN: u64 = 12;
-
-pub const SHEET_SIDE_OVER: u64 = 13;
-
-pub const DISTANCE_WRONG: u64 = 14;
-
-pub const DISTANCE_PAST_BYTES: u64 = 15;
-
-pub const SLIP_ROOM_SHORT: u64 = 16;
-
-pub const SHEET_OVER: u64 = 17;
-
-pub const REFERENCE_LENGTH: u64 = 18;
-
-pub const CHARACTER_UNKNOWN: u64 = 19;
-
-pub const NO_PAIRING: u64 = 20;
-
-pub const NOTE_UNFIT: u64 = 21;
-
-pub const BARS_PAST_SIDE: u64 = 22;
-
-pub const ROWS_OVER: u64 = 23;
-
-pub const PRICE_FAR: u64 = 24;
-
-pub const BARRED_PAIR: u64 = 26;
-
-pub const SPARE_BELOW: u64 = 27;
-
-pub const SHEET_ENDED: u64 = 28;
-
-// The scope's number of a refusal.
-pub fn number(refusal: Refusal) -> u64
-    ensures { result ≡ number_of refusal }
-{
-    refusal.number
+// Why an input is refused: the scope's reasons, each with its number there.
+#[derive(Clone, Copy, Debug, PartialEq, Eq)]
+pub enum Reason {
+    SideOver = 1,
+    CostsLength = 2,
+    ListLength = 3,
+    RoomShort = 4,
+    CostOutside = 5,
+    ColumnOutside = 6,
+    RowNotNamed = 7,
+    PriceOutside = 8,
+    PricesOverCost = 9,
+    PricesNotCost = 10,
+    NoMark = 11,
+    EditionUnknown = 12,
+    SheetSideOver = 13,
+    DistanceWrong = 14,
+    DistancePastBytes = 15,
+    SlipRoomShort = 16,
+    SheetOver = 17,
+    ReferenceLength = 18,
+    CharacterUnknown = 19,
+    NoPairing = 20,
+    NoteUnfit = 21,
+    BarsPastSide = 22,
+    RowsOver = 23,
+    PriceFar = 24,
+    SlipWrong = 25,
+    BarredPair = 26,
+    SpareBelow = 27,
+    SheetEnded = 28,
 }
 
-// The scope's place of a refusal.
-pub fn place(refusal: Refusal) -> usize
-    ensures { result ≡ place_of refusal }
-{
-    refusal.place
-}
-
-// The slack that a refusal carries.
-pub fn slack(refusal: Refusal) -> i64
-    ensures { result ≡ slack_of refusal }
-{
-    refusal.slack
-}
-
-// A refusal as one number. Places are far below 2^48.
-pub fn code(refusal: Refusal) -> u64
-    requires { Tellable refusal }
-    ensures { result ≡ code_of refusal }
-{
-    refusal.number + 256 * (refusal.place as u64)
-}
-
-// A refusal as one number, whatever its place.
-pub fn capped_code(refusal: Refusal) -> u64
-    requires { number_of refusal < 256 }
-    ensures { result ≡ capped_code_of refusal }
-{
-    let place = refusal.place as u64;
-    if place < 0x100_0000_0000_0000 {
-        return refusal.number + 256 * place;
+impl Reason {
+    // The scope's number.
+    pub fn number(self) -> u64
+        ensures { result ≡ number self }
+    {
+        self as u64
     }
-    refusal.number + 256 * 0xff_ffff_ffff_ffff
+}
+
+// A refusal: its reason; its place, 0 where it names none; and the slack of that place, 0 where none was tested.
+#[derive(Clone, Copy, Debug, PartialEq, Eq)]
+pub struct Refusal {
+    pub reason: Reason,
+    pub place: usize,
+    pub slack: i64,
+}
+
+impl Refusal {
+    // A refusal with slack 0.
+    pub fn new(reason: Reason, place: usize) -> Self
+        ensures { result ≡ record { reason = reason; place = place; slack = pos 0 } }
+    {
+        Refusal {
+            reason,
+            place,
+            slack: 0,
+        }
+    }
+
+    // The scope's number of a refusal.
+    pub fn number(self) -> u64
+        ensures { result ≡ number_of self }
+    {
+        self.reason.number()
+    }
+
+    // A refusal as one number. Places are far below 2^48.
+    pub fn code(self) -> u64
+        requires { Tellable self }
+        ensures { result ≡ code_of self }
+    {
+        self.number() + 256 * (self.place as u64)
+    }
+
+    // A refusal as one number, whatever its place.
+    pub fn capped_code(self) -> u64
+        ensures { result ≡ capped_code_of self }
+    {
+        let place = (self.place as u64).min(0xff_ffff_ffff_ffff);
+        self.number() + 256 * place
+    }
 }

@@ -8,9 +8,7 @@ pub fn row_of(costs: &[i32], n: usize, i: usize) -> &[i32]
     requires { i * n + n ≤ length costs.now }
     ensures { result.now ≡ take n (drop (i * n) costs.now) }
 {
-    let at = i * n;
-    let end = at + n;
-    &costs[at..end]
+    &costs[i * n..i * n + n]
 }
 
 // Row i of a square of costs.
@@ -26,5 +24,5 @@ pub fn reduced_cost(cost: i32, price: i64) -> i64
     requires { Within near price }
     ensures { result ≡ cost -ℤ price }
 {
-    cost as i64 - price
+    i64::from(cost) - price
 }

@@ -10,7 +10,8 @@ use lib.Dec.{eqb}
 use lib.ListN.{length, take, replicate, length-replicate}
 use lib.Seq.{get_or-set_same, get_or-set_other}
 use Rattle.lists.specs.Permutations.{at}
-use Rattle.matrix.specs.Refusals.{SheetOver, SheetEnded}
+use Rattle.matrix.specs.Refusals.{number}
+use Rattle.matrix.specs.declared.refusals.Reason.TheVariants.{SheetOver, SheetEnded}
 use Rattle.sheet.specs.Reading.{sheet_most}
 use Rattle.sheet.specs.Settle.{pair}
 use Rattle.pieces.specs.declared.Held.{Held}
@@ -40,15 +41,15 @@ taking_few k n e = subst (λ (h : Held). many h ≤ sheet_most) e (few_by (came 
 -- ---- a piece
 
 module _ (sent : List ℕ) (k : Kept) where
-  pub piece-over : held k ≡ Over → piece sent k ≡ taken SheetOver k
+  pub piece-over : held k ≡ Over → piece sent k ≡ taken (number SheetOver) k
   unfolding piece
   piece-over e = ap (piece_by sent k) e
 
-  pub piece-ended : held k ≡ Ended → piece sent k ≡ taken SheetEnded k
+  pub piece-ended : held k ≡ Ended → piece sent k ≡ taken (number SheetEnded) k
   unfolding piece
   piece-ended e = ap (piece_by sent k) e
 
-  pub piece_long : (n : ℕ) → held k ≡ Taking n → sheet_most < n + length sent → piece sent k ≡ taken SheetOver (marked over_mark k)
+  pub piece_long : (n : ℕ) → held k ≡ Taking n → sheet_most < n + length sent → piece sent k ≡ taken (number SheetOver) (marked over_mark k)
   unfolding piece
   piece_long n e h = ap (piece_by sent k) e ∙ rw (lt-ltb sheet_most (n + length sent) h) refl
 
@@ -59,11 +60,11 @@ module _ (sent : List ℕ) (k : Kept) where
 -- ---- the end
 
 module _ (slip : List ℕ) (k : Kept) where
-  pub end-over : held k ≡ Over → end slip k ≡ ending (delivered SheetOver slip) k
+  pub end-over : held k ≡ Over → end slip k ≡ ending (delivered (number SheetOver) slip) k
   unfolding end
   end-over e = ap (end_by slip k) e
 
-  pub end-ended : held k ≡ Ended → end slip k ≡ ending (delivered SheetEnded slip) k
+  pub end-ended : held k ≡ Ended → end slip k ≡ ending (delivered (number SheetEnded) slip) k
   unfolding end
   end-ended e = ap (end_by slip k) e
 

@@ -11,7 +11,8 @@ use lib.ListN.{length, get_or, take, length-append, length-set}
 use lib.Seq.{get_or-set_same, get_or-set_other}
 use Rattle.lists.specs.Parts.{replaced, joined}
 use Rattle.lists.proofs.Parts.{replaced-length, replaced_front}
-use Rattle.matrix.specs.Refusals.{SheetOver}
+use Rattle.matrix.specs.Refusals.{number}
+use Rattle.matrix.specs.declared.refusals.Reason.TheVariants.{SheetOver}
 use Rattle.sheet.specs.Reading.{sheet_most}
 use Rattle.sheet.specs.Settle.{pair}
 use Rattle.pieces.specs.declared.Held.TheVariants.{Taking, Over}
@@ -97,12 +98,12 @@ end_after k sheet (passed past e) slip = rw (lt-ltb sheet_most (length sheet) pa
 end_after k sheet (within h) slip = rw (le-ltb sheet_most (length sheet) h.few) (end_holding k sheet h slip)
 
 number_after : (k : Kept) (sheet : List ℕ) → After k sheet → (sent : List ℕ)
-    → (piece sent k).number ≡ cond (ltb sheet_most (length sheet + length sent)) SheetOver 0
+    → (piece sent k).number ≡ cond (ltb sheet_most (length sheet + length sent)) (number SheetOver) 0
 number_after k sheet (passed past e) sent =
     rw (lt-ltb sheet_most (length sheet + length sent) (omega arith)) (ap (λ (t : Taken). t.number) (piece-over sent k e))
 number_after k sheet (within h) sent = by (dec_lt sheet_most (length sheet + length sent))
   where
-    by : Dec (sheet_most < length sheet + length sent) → (piece sent k).number ≡ cond (ltb sheet_most (length sheet + length sent)) SheetOver 0
+    by : Dec (sheet_most < length sheet + length sent) → (piece sent k).number ≡ cond (ltb sheet_most (length sheet + length sent)) (number SheetOver) 0
     by (yes past) =
         rw (lt-ltb sheet_most (length sheet + length sent) past) (ap (λ (t : Taken). t.number) (piece_long sent k (length sheet) (holding_held k sheet h) past))
     by (no past) =
@@ -114,7 +115,7 @@ number_after k sheet (within h) sent = by (dec_lt sheet_most (length sheet + len
 module _ (k : Kept) (f : Fresh k) where
   -- Each piece answers 0, until one, with all before it, is over 65,536 bytes: it and all that follow answer 17.
   pub piece_number : (before : List (List ℕ)) (sent : List ℕ)
-      → (piece sent (pieces before k)).number ≡ cond (ltb sheet_most (length (joined before) + length sent)) SheetOver 0
+      → (piece sent (pieces before k)).number ≡ cond (ltb sheet_most (length (joined before) + length sent)) (number SheetOver) 0
   piece_number before sent = number_after (pieces before k) (joined before) (after_pieces before k [] (fresh_holding k f)) sent
 
   -- For any pieces, taken in order and ended: number and slip's room are those of their whole.

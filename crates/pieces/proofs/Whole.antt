@@ -7,16 +7,17 @@ use native.Mathlib.Omega.{arith}
 use borrow.Author.Tests.{lt-ltb, le-ltb}
 use lib.ListN.{length}
 use Rattle.lists.specs.Parts.{joined}
-use Rattle.matrix.specs.Verdicts.{◌then◌, fails_by}
-use Rattle.matrix.specs.Refusals.{SheetOver}
+use Rattle.matrix.specs.Verdicts.{fails_by}
+use Rattle.matrix.specs.Refusals.{number}
+use Rattle.matrix.specs.declared.refusals.Reason.TheVariants.{SheetOver}
 use Rattle.sheet.specs.Reading.{sheet_most, sheet_tests, read}
 use Rattle.sheet.specs.Settle.{pair}
 use Rattle.pieces.specs.Kept.{Kept, Fresh}
 use Rattle.pieces.specs.Calls.{delivered, end, pieces, whole}
 use Rattle.pieces.proofs.Cuts.{however_cut}
 
-pair-over : (sheet slip : List ℕ) → sheet_most < length sheet → pair sheet slip ≡ delivered SheetOver slip
-unfolding pair read sheet_tests ◌then◌ fails_by
+pair-over : (sheet slip : List ℕ) → sheet_most < length sheet → pair sheet slip ≡ delivered (number SheetOver) slip
+unfolding pair read sheet_tests fails_by
 pair-over sheet slip h = rw (lt-ltb sheet_most (length sheet) h) refl
 
 whole_pair : (sheet slip : List ℕ) → whole sheet slip ≡ pair sheet slip

@@ -4,9 +4,9 @@ use mathlib.Core.Path.{◌≡◌, refl, sym, ap, ap₂, ◌∙◌}
 use mathlib.Core.Bool.{Bool, true, not, cond}
 use mathlib.Core.Logic.{◌↔◌}
 use mathlib.Core.List.{List, [], ◌++◌}
-use Prim.Native.Nat.{ℕ, ◌-◌, ◌*◌, ◌≤◌, ◌<◌}
+use Prim.Native.Nat.{ℕ, ◌*◌, ◌≤◌, ◌<◌}
 use native.Mathlib.Omega.{arith}
-use lib.IntN.{ℤ}
+use lib.IntN.{ℤ, pos}
 use lib.ListN.{length, take, drop}
 use lib.Seq.{length-take-le}
 use Rattle.ints.specs.Parts.{Within}
@@ -19,18 +19,16 @@ use Rattle.bars.specs.Barred.{night_of}
 use Rattle.matrix.specs.Limits.{K}
 use Rattle.matrix.specs.Tests.{side_within, costs_fill, list_long, costs_within}
 use Rattle.matrix.specs.Verdicts.{Passes, ◌then◌}
-use Rattle.matrix.specs.declared.Answer.TheVariants.{Total, Refused}
-use Rattle.matrix.specs.declared.Refusal.{Refusal}
-use Rattle.matrix.specs.declared.Verdict.TheVariants.{Fails}
+use Rattle.std.specs.Prelude.{Ok, Err}
+use Rattle.matrix.specs.declared.refusals.Refusal.{Refusal}
 use Rattle.matrix.proofs.First.{first_cong}
 use Rattle.matrix.proofs.Passed.{side_within_lem, costs_fill_lem, list_long_lem, costs_within_lem}
 use Rattle.matrix.proofs.Verdicts.{then_iff}
 use Rattle.plain.specs.Engine.{list_count, list_of, cost_of, less, is_least, chosen, written, plain_tests, answered, plain}
-use Rattle.plain.specs.declared.Found.{Found}
-use Rattle.plain.specs.declared.Found.TheVariants.{Nothing, Costs}
+use Rattle.std.proofs.Common.{Option, Some, None, unwrap_or}
 use Rattle.plain.proofs.Numbers.{Before}
-use Rattle.plain.proofs.Pairings.{passes_cong}
-use Rattle.plain.proofs.Answers.{costs_nothing, same-costs, pairing_found, chosen-least, chosen-same, chosen-first}
+use Rattle.plain.proofs.Pairings.{passes_cong, eight_within}
+use Rattle.plain.proofs.Answers.{pairing_found, chosen-least, chosen-same, chosen-first}
 
 -- Two nights of the same rows, columns and costs in which the same places are allowed: every list costs the same, and the same one is chosen.
 module _ (one : Night) (other : ℕ → ℕ → Bool) (same : (i j : ℕ) → one.allowed i j ≡ other i j) where
@@ -39,7 +37,7 @@ module _ (one : Night) (other : ℕ → ℕ → Bool) (same : (i j : ℕ) → on
 
   pub cost-same : (cols : List ℕ) → cost_of one cols ≡ cost_of two cols
   unfolding cost_of
-  cost-same cols = ap (λ (b : Bool). cond b (Costs (total one cols)) Nothing) (passes_cong one other cols same)
+  cost-same cols = ap (λ (b : Bool). cond b (Some (total one cols)) None) (passes_cong one other cols same)
 
   least-same : (k : ℕ) → is_least one k ≡ is_least two k
   unfolding is_least
@@ -60,7 +58,7 @@ module _ (n : ℕ) (costs : List ℤ) where
     permitted = λ i l. refl;
   }
 
-  square-found : cost_of (square n costs) (chosen (square n costs)) ≡ Costs (total (square n costs) (chosen (square n costs)))
+  square-found : cost_of (square n costs) (chosen (square n costs)) ≡ Some (total (square n costs) (chosen (square n costs)))
   square-found = pairing_found (square n costs) (omega arith) (table n (λ i. i)) straight
 
   pub square-least : Least (square n costs) (chosen (square n costs))
@@ -77,14 +75,10 @@ module _ (n : ℕ) (costs : List ℤ) where
   call_chosen m e =
       ap (λ (k : ℕ). chosen (night_of k n costs [])) e ∙ chosen_unchanged (night_of n n costs []) (λ i j. true) (λ i j. ap not (bit_none j))
 
-  call_found : (m : ℕ) → m ≡ n → cost_of (night_of m n costs []) (chosen (night_of m n costs [])) ≡ Costs (total (square n costs) (chosen (square n costs)))
+  call_found : (m : ℕ) → m ≡ n → cost_of (night_of m n costs []) (chosen (night_of m n costs [])) ≡ Some (total (square n costs) (chosen (square n costs)))
   call_found m e =
       ap₂ (λ (k : ℕ) (l : List ℕ). cost_of (night_of k n costs []) l) e (call_chosen m e)
       ∙ cost-same (night_of n n costs []) (λ i j. true) (λ i j. ap not (bit_none j)) (chosen (square n costs)) ∙ square-found
-
--- The part that is lent to the engine.
-pub front_size : (n : ℕ) (cols : List ℕ) → n ≤ length cols → length (take (n - 0) cols) ≡ n
-front_size n cols h = let z : n - 0 ≡ n = omega arith in ap (λ (m : ℕ). length (take m cols)) z ∙ length-take-le n cols h
 
 -- What an input that passes the tests is like.
 pub record Fit (n : ℕ) (costs : List ℤ) (cols : List ℕ) : Type 0 where
@@ -118,31 +112,30 @@ module _ (n : ℕ) (costs : List ℤ) (cols : List ℕ) where
       )
 
   -- Where they pass, the total of the first least pairing is answered, which the first n entries then hold.
-  pub fit_plain : Fit n costs cols → plain n costs cols ≡ (Total (total (square n costs) (chosen (square n costs))), chosen (square n costs) ++ drop n cols)
+  pub fit_plain : Fit n costs cols → plain n costs cols ≡ (Ok (total (square n costs) (chosen (square n costs))), chosen (square n costs) ++ drop n cols)
   unfolding answered
   fit_plain h = rw (tests_fit.1 h) refl
 
   -- A refusal leaves the list as it was.
-  pub refused-plain : {refusal : Refusal} → plain_tests n costs cols ≡ Fails refusal → (Refused refusal, cols) ≡ plain n costs cols
+  pub refused-plain : {refusal : Refusal} → plain_tests n costs cols ≡ Err refusal → (Err refusal, cols) ≡ plain n costs cols
   unfolding answered
   refused-plain e = rw e refl
 
-  -- What the code makes of what the engine leaves.
-  module _ (found : Found) (left : List ℕ)
-      (found_is : found ≡ cost_of (night_of (length (take (n - 0) cols)) n costs []) (chosen (night_of (length (take (n - 0) cols)) n costs [])))
-      (left_is : left ≡ written found (chosen (night_of (length (take (n - 0) cols)) n costs [])) (take (n - 0) cols)) (h : Fit n costs cols) where
-    found-total : found ≡ Costs (total (square n costs) (chosen (square n costs)))
-    found-total = found_is ∙ call_found n costs (length (take (n - 0) cols)) (front_size n cols h.listed)
+  -- What the code makes of what the engine leaves in the front of the list.
+  pub called : (found : Option ℤ) (left : List ℕ) (t : ℤ) → Passes (plain_tests n costs cols)
+      → found ≡ cost_of (night_of (length (take n cols)) n costs []) (chosen (night_of (length (take n cols)) n costs []))
+      → left ≡ written found (chosen (night_of (length (take n cols)) n costs [])) (take n cols) → t ≡ unwrap_or found (pos 0)
+      → (Ok t, left ++ drop n cols) ≡ plain n costs cols
+  called found left t e found-is left-is t-is =
+      let h = tests_fit.0 e in
+      let size : length (take n cols) ≡ n = length-take-le n cols h.listed in
+      let r : found ≡ Some (total (square n costs) (chosen (square n costs))) = found-is ∙ call_found n costs (length (take n cols)) size in
+      let l : left ≡ chosen (square n costs) =
+      left-is ∙ ap (λ (f : Option ℤ). written f (chosen (night_of (length (take n cols)) n costs [])) (take n cols)) r
+      ∙ call_chosen n costs (length (take n cols)) size in
+      ap₂ (λ (x : ℤ) (c : List ℕ). (Ok x, c ++ drop n cols)) (t-is ∙ ap (λ (f : Option ℤ). unwrap_or f (pos 0)) r) l ∙ sym (fit_plain h)
 
-    pub called_total : (t : ℤ) → found ≡ Costs t → (Total t, left ++ drop (n - 0) cols) ≡ plain n costs cols
-    called_total t e =
-        let same = same-costs t (total (square n costs) (chosen (square n costs))) (sym e ∙ found-total) in
-        let z : n - 0 ≡ n = omega arith in
-        let l : left ≡ chosen (square n costs) =
-        left_is ∙ ap (λ (f : Found). written f (chosen (night_of (length (take (n - 0) cols)) n costs [])) (take (n - 0) cols)) e
-        ∙ call_chosen n costs (length (take (n - 0) cols)) (front_size n cols h.listed) in
-        ap₂ (λ (x : ℤ) (c : List ℕ). (Total x, c ++ drop (n - 0) cols)) same l
-        ∙ ap (λ (k : ℕ). (Total (total (square n costs) (chosen (square n costs))), chosen (square n costs) ++ drop k cols)) z ∙ sym (fit_plain h)
+-- What the entry's tests and the engine's answer are proved by.
+pub ruleset entry_tests = (eight_within, side_within_lem, costs_fill_lem, list_long_lem)
 
-    pub called_nothing : found ≡ Nothing → ⊥
-    called_nothing e = costs_nothing (total (square n costs) (chosen (square n costs))) (sym found-total ∙ e)
+pub ruleset entry_answers = (refused-plain, called)

@@ -3,7 +3,7 @@ use mathlib.Core.Path.{◌≡◌, sym, ap, ◌∙◌, subst}
 use mathlib.Core.Bool.{Bool, cond}
 use Prim.Native.Nat.{ℕ, suc, ◌≤◌, ◌<◌}
 use native.Mathlib.Omega.{arith}
-use borrow.Author.Tests.{eq-eqb, ne_eqb}
+use borrow.Author.Tests.{ne_eqb}
 use lib.Dec.{eqb}
 use lib.ListN.{set, length-set}
 use lib.Seq.{get_or-set_same, get_or-set_other}
@@ -20,10 +20,6 @@ wins j s = let i = at s.rows j in record { cols = set s.cols i j; rows = s.rows;
 
 abbrev loses : ℕ → Claims → Claims
 loses j s = let i = at s.rows j in record { cols = s.cols; rows = set s.rows j free; marks = set s.marks i 2 }
-
-pub claim_wins : (j : ℕ) (s : Claims) → at s.marks (at s.rows j) ≡ 0
-    → record { cols = set s.cols (at s.rows j) j; rows = s.rows; marks = set s.marks (at s.rows j) 1 } ≡ claim j s
-claim_wins j s e = ap (λ (t : Bool). cond t (wins j s) (loses j s)) (sym (eq-eqb (at s.marks (at s.rows j)) 0 e))
 
 pub claim_loses : (j : ℕ) (s : Claims) → (at s.marks (at s.rows j) ≡ 0 → ⊥)
     → record { cols = s.cols; rows = set s.rows j 4294967295; marks = set s.marks (at s.rows j) 2 } ≡ claim j s

@@ -10,6 +10,8 @@ use lib.Signed.{lt_z, ◌≤ℤ◌, ◌<ℤ◌, ≤ℤ_refl}
 use mir.Syntax.{w64}
 use mir.Val.{SFits}
 use Rattle.ints.proofs.Ranges.{zarith}
+use Rattle.std.specs.Prelude.{Option, Some, None}
+use Rattle.lists.specs.Runs.{FindsFrom}
 use Rattle.lists.proofs.Cases.{cond_cases, below_suc, lt_or_le}
 use Rattle.rules.specs.declared.Low.{Low}
 use Rattle.rules.specs.declared.TwoLowest.TheVariants.{Two}
@@ -273,3 +275,15 @@ started f t x y a b c p q r fits-a fits-b fits-c e s =
         | no i ↦ let j : 2 ≡ k = omega arith in subst (λ (m : ℕ). f m ≤ℤ far) j (subst (λ (z : Low). z.value ≤ℤ far) r (far_most c.value fits-c))
       ]
     ]
+
+-- ---- the next column that counts, as code finds it
+
+-- The first three of the columns before it; of all where there is none.
+abbrev pub NextThree : (ℕ → ℤ) → ℕ → Three → Option ℕ → Type 0
+NextThree f n t None = FoundThree f n t
+NextThree f n t (Some j) = (3 ≤ j) × (j < n) × FoundThree f j t × (lt_z (f j) t.limit ≡ true)
+
+pub next_three : (f : ℕ → ℤ) (n : ℕ) (t : Three) (j : ℕ) → 3 ≤ j → j ≤ n → FoundThree f j t → (r : Option ℕ)
+    → FindsFrom j n (λ k b. b ≡ lt_z (f k) t.limit) r → NextThree f n t r
+next_three f n t j h l e None q = pass_found f j t e n l (λ k m i. sym (q k i m))
+next_three f n t j h l e (Some r) q = (omega (arith, q.0), q.1, pass_found f j t e r q.0 (λ k m i. sym (q.3 k i m)), sym q.2)

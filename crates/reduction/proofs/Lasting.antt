@@ -3,12 +3,13 @@
 use mathlib.Core.Path.{◌≡◌, sym, ap, subst, ◌∙◌}
 use mathlib.Core.Logic.{◌≢◌}
 use mathlib.Core.Bool.{true≢false}
-use mathlib.Core.List.{List}
-use Prim.Native.Nat.{ℕ, ◌+◌, ◌-◌, ◌*◌, ◌<◌}
+use mathlib.Core.List.{List, ◌++◌}
+use Prim.Native.Nat.{ℕ, ◌+◌, ◌*◌, ◌<◌}
 use native.Mathlib.Decide.{ℕ_discrete}
 use native.Mathlib.Omega.{arith}
 use lib.IntN.{ℤ, ◌-ℤ◌, pos}
-use lib.ListN.{length, take, drop}
+use lib.ListN.{length, take, drop, length-append, length-drop}
+use lib.Seq.{drop_at, take-length}
 use lib.Signed.{lt_z, ◌≤ℤ◌, ≤ℤ_refl}
 use Rattle.lists.specs.Parts.{part}
 use Rattle.lists.specs.Permutations.{at, table}
@@ -17,9 +18,8 @@ use Rattle.assignment.specs.Pairings.{square, signed_at}
 use Rattle.rules.specs.declared.TwoLowest.{TwoLowest}
 use Rattle.rules.specs.Lowest.{reduced, two_lowest}
 use Rattle.rules.specs.Rows.{Passing, look}
-use Rattle.reduction.specs.Candidates.{Candidates, seen, unseen, Roomy, Keeps, Told, AllKept, Fell}
+use Rattle.reduction.specs.Candidates.{Candidates, seen, unseen, Keeps, Told, AllKept, Fell}
 use Rattle.reduction.specs.Rows.{Keeping}
-use Rattle.reduction.proofs.RoomParts.{back_lent, back_length, front_returned, front_size, back_left}
 use Rattle.reduction.proofs.RowParts.{row_length, row_at, row_two_lowest}
 use Rattle.reduction.proofs.Recalled.{candidates_rise}
 use Rattle.reduction.proofs.Falling.{look_falls, candidates_last}
@@ -52,27 +52,12 @@ module _ (n i : ℕ) (costs row v : List ℤ) (inside : i < n) (size : length co
   long : length row ≡ n
   long = row_length n i costs row inside size is
 
-  -- A room whose back is lent.
-  module _ (room : List ℕ) (limits : List ℤ) (keeping : Keeping n costs v room limits) where
-    abbrev lent : List ℕ
-    lent = take (4 * n - n) (drop n room)
-
-    lent_is : lent ≡ part n (n + n + n) room
-    lent_is = back_lent n room keeping.room_size
-
-    pub lent_roomy : Roomy (length row) lent limits
-    lent_roomy = record {
-      kept_size = omega (arith, long, ap length lent_is, back_length n room keeping.room_size);
-      limits_size = keeping.limits_size ∙ sym long;
-    }
-
+  -- A room whose back was lent.
+  module _ (room lent : List ℕ) (limits : List ℤ) (keeping : Keeping n costs v room limits) (back : lent ≡ drop n room) where
     lent-kept : AllKept n cost v lent limits
-    lent-kept = subst (λ (kept : List ℕ). AllKept n cost v kept limits) (sym lent_is) keeping.kept
-
-    pub lent_keeps : Keeps here (length row) i lent limits
-    lent_keeps h =
-        subst (λ (m : ℕ). Candidates here m (at lent (3 * i)) (at lent (3 * i + 1)) (at lent (3 * i + 2)) (signed_at limits i)) (sym long)
-        (candidates_rise (lent-kept.rows i inside h) (λ k l. subst (λ (z : ℤ). z ≤ℤ here k) (here_is k l) (≤ℤ_refl (here k))))
+    lent-kept =
+        let all : n + n + n ≡ length lent = omega (arith, ap length back, length-drop n room, keeping.room_size) in
+        subst (λ (kept : List ℕ). AllKept n cost v kept limits) (ap (take (n + n + n)) (sym back) ∙ ap (λ (k : ℕ). take k lent) all ∙ take-length lent) keeping.kept
 
     module _ {kept : List ℕ} {limits' : List ℤ} {two : TwoLowest} (told : Told here (length row) i lent limits kept limits' two) where
       pub two_told : two ≡ two_lowest n (reduced cost (signed_at v) i)
@@ -98,12 +83,13 @@ module _ (n i : ℕ) (costs row v : List ℤ) (inside : i < n) (size : length co
         ];
       }
 
-      -- After the look: the room in which the back came back as `kept`, then the front as `frees`.
-      pub keeping_look : (x y : Passing) → x.prices ≡ v → y ≡ look n cost x → (kept_size : length kept ≡ n + n + n) (frees : List ℕ) (frees_size : length frees ≡ n)
-          → length limits' ≡ n → Keeping n costs y.prices (front_returned n room keeping.room_size kept kept_size frees frees_size) limits'
-      keeping_look x y at-v e kept_size frees frees_size limits_size = record {
-        room_size = front_size n room keeping.room_size kept kept_size frees frees_size;
+      -- After the look: the front came back as `frees`, the back as `kept`.
+      pub keeping_look : (x y : Passing) → x.prices ≡ v → y ≡ look n cost x → (frees : List ℕ) → length frees ≡ n → length kept ≡ n + n + n → length limits' ≡ n
+          → Keeping n costs y.prices (frees ++ kept) limits'
+      keeping_look x y at-v e frees frees_size kept_size limits_size = record {
+        room_size = omega (arith, length-append frees kept, frees_size, kept_size);
         limits_size = limits_size;
-        kept = subst (λ (k : List ℕ). AllKept n cost y.prices k limits') (sym (back_left n room keeping.room_size kept kept_size frees frees_size))
+        kept = subst (λ (k : List ℕ). AllKept n cost y.prices k limits')
+            (sym (ap (take (n + n + n)) (drop_at frees kept n frees_size) ∙ ap (λ (k : ℕ). take k kept) (sym kept_size) ∙ take-length kept))
             (kept-look n cost x y kept limits' e (subst (λ (u : List ℤ). AllKept n cost u kept limits') (sym at-v) kept_told));
       }

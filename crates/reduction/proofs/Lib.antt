@@ -1,12 +1,10 @@
 pub mod Turns
-pub mod Bits
 pub mod RowParts
 pub mod Minima
 pub mod Claims
 pub mod Nearness
 pub mod Transfers
 pub mod Stages
-pub mod Choices
 pub mod Looks
 pub mod Order
 pub mod Recalled
@@ -14,4 +12,3 @@ pub mod FirstThree
 pub mod Rooms
 pub mod Falling
 pub mod Lasting
-pub mod RoomParts

@@ -3,16 +3,23 @@ use mathlib.Core.Path.{◌≡◌, sym, ap, ◌∙◌}
 use mathlib.Core.List.{List}
 use Prim.Native.Nat.{ℕ, ◌+◌, ◌*◌, ◌≤◌, ◌<◌}
 use lib.IntN.{ℤ, pos}
-use lib.ListN.{length}
+use native.Mathlib.Omega.{arith}
+use lib.ListN.{length, get_or}
+use lib.Seq.{ext_get_or}
 use Rattle.lists.specs.Parts.{part}
 use Rattle.lists.specs.Permutations.{at, table}
-use Rattle.lists.proofs.Tables.{get_d_table, table_get_d, table_cong}
+use Rattle.lists.proofs.Tables.{length-table, get_d_table, table_get_d, table_cong}
 use Rattle.assignment.specs.Pairings.{square, signed_at}
 use Rattle.rules.specs.declared.Low.{Low}
 use Rattle.rules.specs.Lowest.{lowest}
 use Rattle.reduction.specs.Columns.{low_at}
 use Rattle.reduction.proofs.Turns.{lower_cong, lowest_one, lowest_more}
 use Rattle.reduction.proofs.RowParts.{row_length, row_at}
+
+-- A list is the table of what stands in it.
+pub is_table : {A : Type 0} (n : ℕ) (f : ℕ → A) (d : A) (l : List A) → length l ≡ n → ((k : ℕ) → k < n → get_or l k d ≡ f k) → l ≡ table n f
+is_table n f d l e same =
+    ext_get_or d l (table n f) (e ∙ sym (length-table n f)) (λ k h. let m : k < n = omega arith in same k m ∙ sym (get_d_table n f d k m))
 
 module _ (n : ℕ) (costs : List ℤ) where
   -- The lowest of the first i rows in column j.

@@ -124,6 +124,3 @@ module _ (n : ℕ) (f : ℕ → ℤ) (limit : ℤ) where
       cond_cases (comes_before y x) Settles (beside_two y x z) (beside_two x y z)
       (λ t. beside_settles q p r (candidates_qpr c) (comes_before_lem f q p t))
       (λ t. beside_settles p q r c (comes_after f q p (λ e. c.p_q (sym e)) t))
-
-pub first_two_cong : {x y z a b c : Low} → x ≡ a → y ≡ b → z ≡ c → first_two x y z ≡ first_two a b c
-first_two_cong p q r = cc

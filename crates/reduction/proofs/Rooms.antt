@@ -1,7 +1,7 @@
 -- What the room keeps of the rows: after a row was read, after it was seen for the first time, after a look. Assumes nothing.
-use mathlib.Core.Path.{◌≡◌, refl, sym, ap, ◌∙◌}
+use mathlib.Core.Path.{◌≡◌, sym, ap, ◌∙◌}
 use mathlib.Core.Logic.{◌≢◌}
-use mathlib.Core.Bool.{true, true≢false}
+use mathlib.Core.Bool.{true}
 use mathlib.Core.List.{List}
 use Prim.Native.Nat.{ℕ, ◌+◌, ◌*◌, ◌<◌}
 use native.Mathlib.Omega.{arith}
@@ -15,7 +15,7 @@ use Rattle.rules.specs.declared.TwoLowest.{TwoLowest}
 use Rattle.rules.specs.declared.TwoLowest.TheVariants.{Two}
 use Rattle.rules.specs.Lowest.{two_lowest}
 use Rattle.reduction.specs.declared.candidates.Three.{Three}
-use Rattle.reduction.specs.Candidates.{FoundThree, seen, settled, recalled, Recallable, Roomy, Keeps, Told}
+use Rattle.reduction.specs.Candidates.{FoundThree, seen, settled, recalled, Roomy, Keeps, Told}
 use Rattle.reduction.proofs.FirstThree.{three_two}
 use Rattle.reduction.proofs.Recalled.{first_two_settles}
 
@@ -38,20 +38,6 @@ module _ {f : ℕ → ℤ} {n i : ℕ} {kept : List ℕ} {limits : List ℤ} {tw
       (e ∙ first_two_settles n f (signed_at limits i) (at kept (3 * i)) (at kept (3 * i + 1)) (at kept (3 * i + 2)) (keeps is-limit)
       (ap (λ (t : TwoLowest). settled t (signed_at limits i)) (sym e) ∙ below))
       keeps
-
-  -- A first look leaves a mark.
-  pub told_seen : two ≡ two_lowest n f → i < length limits → Told f n i kept limits kept (set limits i seen) two
-  told_seen e l = record {
-    two_are = e;
-    own = λ h. absurd (true≢false (sym h ∙ ap (λ (w : ℤ). lt_z w seen) (get_or-set_same limits i seen (pos 0) l)));
-    others = λ g k d h. keeps_same g n k kept kept limits (set limits i seen) refl refl refl (get_or-set_other limits i k seen (pos 0) d) h;
-  }
-
-pub recallable : {f : ℕ → ℤ} {n i : ℕ} {kept : List ℕ} {limits : List ℤ} → Roomy n kept limits → i < n → Keeps f n i kept limits → lt_z (signed_at limits i) seen ≡ true
-    → Recallable n i kept
-recallable r l keeps is-limit =
-    let c = keeps is-limit in
-    record { fits = omega (arith, r.kept_size); p_inside = c.p_inside; q_inside = c.q_inside; r_inside = c.r_inside }
 
 -- ---- a row is read
 

@@ -4,13 +4,13 @@
 // reduced costs never fall, and every other column stays at the limit or above it. As long as the second of the three, at today's prices, is
 // below the limit, it is below every other column: the two lowest of the three are the two lowest of the row, and no tie with another column
 // can arise. Otherwise the row is read again. What is kept of one row does not depend on what is kept of another.
-ghost use Rattle.std.specs.Prelude.{◌≡◌, ◌^◌, ◌≤◌, ◌<◌, ◌-ℤ◌, length};
+ghost use Rattle.std.specs.Prelude.{◌≡◌, ◌^◌, ◌≤◌, ◌<◌, length};
 ghost use Rattle.lists.specs.Permutations.{table};
-ghost use Rattle.assignment.specs.Pairings.{signed_at};
-ghost use Rattle.rules.specs.Lowest.{low};
-ghost use Rattle.reduction.specs.Ranges.{Near, Priced};
-ghost use Rattle.reduction.specs.Candidates.{FoundThree, start_three, insert, comes_before, beside_two, first_two, settled, Recallable, recalled, unseen, Roomy, Keeps, Told};
+ghost use Rattle.reduction.specs.Reduced.{width, reduced_at};
+ghost use Rattle.reduction.specs.Candidates.{FoundThree, start_three, insert, beside_two, first_two, settled, Recallable, recalled, unseen, Roomy, Keeps, Told};
 
+use crate::lowest;
+use crate::reduced::Reduced;
 use rules::{Low, TwoLowest};
 
 // The three lowest of a row, in order, and a limit that no other column is below.
@@ -22,53 +22,29 @@ struct Three {
     limit: i64,
 }
 
-// The limit while there is no other column: no number is above it.
-const FAR: i64 = 9223372036854775807;
-
-// A mark in place of a limit: the row was looked at once in this pass, and nothing is kept of it.
+// A mark in place of a limit: the row was looked at once in this pass, and nothing is kept of it. A number and no enum, since limits and marks lie
+// in one list of numbers that the caller lends.
 const SEEN: i64 = 4611686018427387904;
 
 // The row was not looked at in this pass.
 const UNSEEN: i64 = 4611686018427387905;
 
-// The reduced cost of column j at its place.
-fn low_at(row: &[i32], v: &[i64], j: usize) -> Low
-    requires { (length v.now ≡ length row.now) × Near (length row.now) v.now × (j < length row.now) }
-    ensures { result ≡ low (signed_at row.now j -ℤ signed_at v.now j) j }
-{
-    Low {
-        value: matrix::rows::reduced_cost(row[j], v[j]),
-        place: j,
-    }
-}
-
-// Column 2, z, beside columns 0 and 1, of which x comes first.
+// Column 2, z, beside columns 0 and 1, of which x comes before y.
 fn start(x: Low, y: Low, z: Low) -> Three
     ensures { result ≡ start_three x y z }
 {
-    if z.value < y.value {
-        if z.value < x.value {
-            Three {
-                first: z,
-                second: x,
-                third: y,
-                limit: FAR,
-            }
-        } else {
-            Three {
-                first: x,
-                second: z,
-                third: y,
-                limit: FAR,
-            }
-        }
+    let (first, second, third) = if y.value <= z.value {
+        (x, y, z)
+    } else if x.value <= z.value {
+        (x, z, y)
     } else {
-        Three {
-            first: x,
-            second: y,
-            third: z,
-            limit: FAR,
-        }
+        (z, x, y)
+    };
+    Three {
+        first,
+        second,
+        third,
+        limit: i64::MAX,
     }
 }
 
@@ -76,94 +52,58 @@ fn start(x: Low, y: Low, z: Low) -> Three
 fn insert(three: Three, h: Low) -> Three
     ensures { result ≡ insert three h }
 {
-    let first = three.first;
-    let second = three.second;
-    let third = three.third;
-    if h.value < third.value {
-        let limit = third.value;
-        if h.value < second.value {
-            if h.value < first.value {
-                Three {
-                    first: h,
-                    second: first,
-                    third: second,
-                    limit: limit,
-                }
-            } else {
-                Three {
-                    first: first,
-                    second: h,
-                    third: second,
-                    limit: limit,
-                }
-            }
-        } else {
-            Three {
-                first: first,
-                second: second,
-                third: h,
-                limit: limit,
-            }
-        }
-    } else {
-        Three {
-            first: first,
-            second: second,
-            third: third,
+    let Three {
+        first,
+        second,
+        third,
+        ..
+    } = three;
+    if third.value <= h.value {
+        return Three {
             limit: h.value,
-        }
+            ..three
+        };
     }
-}
-
-// What a column has to be below to count.
-fn limit(three: Three) -> i64
-    ensures { result ≡ three.limit }
-{
-    three.limit
+    let (first, second, third) = if second.value <= h.value {
+        (first, second, h)
+    } else if first.value <= h.value {
+        (first, h, second)
+    } else {
+        (h, first, second)
+    };
+    Three {
+        first,
+        second,
+        third,
+        limit: three.third.value,
+    }
 }
 
 // The three lowest of a row that has three, and their limit. The columns that are not below the limit are passed over.
-fn find_three(row: &[i32], v: &[i64]) -> Three
-    requires { Priced row.now v.now × (3 ≤ length row.now) }
-    ensures { FoundThree (λ j. signed_at row.now j -ℤ signed_at v.now j) (length row.now) result }
+fn find_three(row: Reduced) -> Three
+    requires { 3 ≤ width row }
+    ensures { FoundThree (reduced_at row.entry) (width row.entry) result }
 {
-    let two = super::lowest::beside(low_at(row, v, 0), low_at(row, v, 1));
-    let lowest = two.lowest;
-    let second = two.second;
-    let mut three = start(lowest, second, low_at(row, v, 2));
-    let mut j = super::lowest::next_below(row, v, 3, limit(three));
-    while j < row.len() {
-        three = insert(three, low_at(row, v, j));
-        j = super::lowest::next_below(row, v, j + 1, limit(three));
+    let (lowest, second) = lowest::beside(row.low_at(0), row.low_at(1));
+    let mut three = start(lowest, second, row.low_at(2));
+    let mut next = row.next_below(3, three.limit);
+    while let Some(j) = next {
+        three = insert(three, row.low_at(j));
+        next = row.next_below(j + 1, three.limit);
     }
     three
-}
-
-// Whether x comes before y: by value, then place.
-fn comes_before(x: Low, y: Low) -> bool
-    ensures { result ≡ comes_before x y }
-{
-    if x.value < y.value {
-        true
-    } else if y.value < x.value {
-        false
-    } else {
-        x.place < y.place
-    }
 }
 
 // The first two of x, y and z, where x comes before y.
 fn beside_two(x: Low, y: Low, z: Low) -> TwoLowest
     ensures { result ≡ beside_two x y z }
 {
-    if comes_before(z, y) {
-        if comes_before(z, x) {
-            TwoLowest::Two(z, x)
-        } else {
-            TwoLowest::Two(x, z)
-        }
-    } else {
+    if y <= z {
         TwoLowest::Two(x, y)
+    } else if x <= z {
+        TwoLowest::Two(x, z)
+    } else {
+        TwoLowest::Two(z, x)
     }
 }
 
@@ -171,7 +111,7 @@ fn beside_two(x: Low, y: Low, z: Low) -> TwoLowest
 fn first_two(x: Low, y: Low, z: Low) -> TwoLowest
     ensures { result ≡ first_two x y z }
 {
-    if comes_before(y, x) {
+    if y < x {
         beside_two(y, x, z)
     } else {
         beside_two(x, y, z)
@@ -183,35 +123,37 @@ fn settled(two: TwoLowest, limit: i64) -> bool
     ensures { result ≡ settled two limit }
 {
     match two {
-        TwoLowest::One(a) => false,
-        TwoLowest::Two(a, b) => b.value < limit,
+        TwoLowest::One(_) => false,
+        TwoLowest::Two(_, b) => b.value < limit,
     }
 }
 
 // The first two, at these prices, of the columns kept of row i.
-fn recall(row: &[i32], v: &[i64], i: usize, kept: &[u32]) -> TwoLowest
-    requires { Priced row.now v.now × Recallable (length row.now) i kept.now }
-    ensures { result ≡ recalled (λ j. signed_at row.now j -ℤ signed_at v.now j) i kept.now }
+fn recall(row: Reduced, i: usize, kept: &[u32]) -> TwoLowest
+    requires { Recallable (width row) i kept.now }
+    ensures { result ≡ recalled (reduced_at row.entry) i kept.now }
 {
     let p = kept[3 * i] as usize;
     let q = kept[3 * i + 1] as usize;
     let r = kept[3 * i + 2] as usize;
-    first_two(low_at(row, v, p), low_at(row, v, q), low_at(row, v, r))
+    first_two(row.low_at(p), row.low_at(q), row.low_at(r))
 }
 
 // Row i is read, and what is found is kept.
-fn read(row: &[i32], v: &[i64], i: usize, kept: &mut [u32], limits: &mut [i64]) -> TwoLowest
-    requires { Priced row.now v.now × (3 ≤ length row.now) × Roomy (length row.now) kept.old limits.old × (i < length row.now) × (length row.now ≤ 2 ^ 32) }
-    ensures { Told (λ j. signed_at row.now j -ℤ signed_at v.now j) (length row.now) i kept.old limits.old kept.new limits.new result }
+fn read(row: Reduced, i: usize, kept: &mut [u32], limits: &mut [i64]) -> TwoLowest
+    requires { (3 ≤ width row) × Roomy (width row) kept.old limits.old × (i < width row) × (width row ≤ 2 ^ 32) }
+    ensures { Told (reduced_at row.entry) (width row.entry) i kept.old limits.old kept.new limits.new result }
 {
-    let three = find_three(row, v);
-    let first = three.first;
-    let second = three.second;
-    let third = three.third;
+    let Three {
+        first,
+        second,
+        third,
+        limit,
+    } = find_three(row);
     kept[3 * i] = first.place as u32;
     kept[3 * i + 1] = second.place as u32;
     kept[3 * i + 2] = third.place as u32;
-    limits[i] = limit(three);
+    limits[i] = limit;
     TwoLowest::Two(first, second)
 }
 
@@ -219,37 +161,27 @@ fn read(row: &[i32], v: &[i64], i: usize, kept: &mut [u32], limits: &mut [i64]) 
 pub fn forget(limits: &mut [i64])
     ensures { limits.new ≡ table (length limits.old) (λ k. unseen) }
 {
-    let mut k = 0;
-    while k < limits.len() {
-        limits[k] = UNSEEN;
-        k += 1;
-    }
+    limits.fill(UNSEEN);
 }
 
 // The two lowest of row i. Its first look keeps nothing, since many rows are looked at once; a row under four columns has no fourth.
-pub fn two_lowest(
-    row: &[i32],
-    v: &[i64],
-    i: usize,
-    kept: &mut [u32],
-    limits: &mut [i64],
-) -> TwoLowest
-    requires { Priced row.now v.now × Roomy (length row.now) kept.old limits.old × (i < length row.now) × (length row.now ≤ 2 ^ 32) × Keeps (λ j. signed_at row.now j -ℤ signed_at v.now j) (length row.now) i kept.old limits.old }
-    ensures { Told (λ j. signed_at row.now j -ℤ signed_at v.now j) (length row.now) i kept.old limits.old kept.new limits.new result }
+pub fn two_lowest(row: Reduced, i: usize, kept: &mut [u32], limits: &mut [i64]) -> TwoLowest
+    requires { Roomy (width row) kept.old limits.old × (i < width row) × (width row ≤ 2 ^ 32) × Keeps (reduced_at row) (width row) i kept.old limits.old }
+    ensures { Told (reduced_at row.entry) (width row.entry) i kept.old limits.old kept.new limits.new result }
 {
-    if row.len() < 4 {
-        return super::lowest::find_umins_plain(row, v);
+    if row.width() < 4 {
+        return lowest::find_umins_plain(row);
     }
     let limit = limits[i];
     if limit == UNSEEN {
         limits[i] = SEEN;
-        return super::lowest::find_umins_plain(row, v);
+        return lowest::find_umins_plain(row);
     }
     if limit < SEEN {
-        let two = recall(row, v, i, kept);
+        let two = recall(row, i, kept);
         if settled(two, limit) {
             return two;
         }
     }
-    read(row, v, i, kept, limits)
+    read(row, i, kept, limits)
 }

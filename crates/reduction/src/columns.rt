@@ -9,19 +9,18 @@ ghost use Rattle.rules.specs.Columns.{Claims, minimum, claim, claims, less_least
 ghost use Rattle.ints.specs.Parts.{Within};
 ghost use Rattle.matrix.specs.Limits.{side, near};
 ghost use Rattle.reduction.specs.Ranges.{Near, Square};
-ghost use Rattle.reduction.specs.Columns.{low_at, claims_of, Claimable, NextLeast, NearLeast, transfer_of, Transferable, Transferred, transferring, stage_at, Reducible};
+ghost use Rattle.reduction.specs.Reduced.{width, reduced_at};
+ghost use Rattle.reduction.specs.Columns.{low_at, claims_of, Claimable, NextLeast, transfer_of, Transferable, transferring, stage_at, Reducible};
 
-use rules::LeastSoFar;
+use crate::reduced::Reduced;
 
 // A row's costs, each as a price.
 fn widen(row: &[i32], v: &mut [i64])
     requires { length v.old ≡ length row.now }
     ensures { v.new ≡ row.now }
 {
-    let mut j = 0;
-    while j < row.len() {
-        v[j] = row[j] as i64;
-        j += 1;
+    for j in 0..row.len() {
+        v[j] = i64::from(row[j]);
     }
 }
 
@@ -30,14 +29,12 @@ fn lower_minima(i: usize, row: &[i32], rows: &mut [u32], v: &mut [i64])
     requires { (i < side) × (length rows.old ≡ length row.now) × (length v.old ≡ length row.now) }
     ensures { (rows.new ≡ table (length row.now) (λ j. (low_at i row.now v.old rows.old j).place)) × (v.new ≡ table (length row.now) (λ j. (low_at i row.now v.old rows.old j).value)) }
 {
-    let mut j = 0;
-    while j < row.len() {
-        let cost = row[j] as i64;
+    for j in 0..row.len() {
+        let cost = i64::from(row[j]);
         if cost < v[j] {
             v[j] = cost;
             rows[j] = i as u32;
         }
-        j += 1;
     }
 }
 
@@ -46,17 +43,22 @@ fn minima(n: usize, costs: &[i32], rows: &mut [u32], v: &mut [i64])
     requires { Square n costs.now × (length rows.old ≡ n) × (length v.old ≡ n) × (1 ≤ n) }
     ensures { (rows.new ≡ table n (λ j. (minimum n (square n costs.now).cost j).place)) × (v.new ≡ table n (λ j. (minimum n (square n costs.now).cost j).value)) }
 {
-    lists::fill(rows, 0);
+    rows.fill(0);
     widen(matrix::rows::row(costs, n, 0), v);
-    let mut i = 1;
-    while i < n {
+    for i in 1..n {
         lower_minima(i, matrix::rows::row(costs, n, i), rows, v);
-        i += 1;
     }
 }
 
 // The free mark, which is no row.
-const FREE: u32 = 4294967295;
+const FREE: u32 = u32::MAX;
+
+// What a row's mark says. Numbers and no enum, since the marks lie in the room of numbers that the caller lends.
+const UNCLAIMED: u32 = 0;
+
+const UNIQUE: u32 = 1;
+
+const NOT_UNIQUE: u32 = 2;
 
 // Column j claims its row; a loser is free and marks that row not unique.
 fn claim(n: usize, j: usize, cols: &mut [u32], rows: &mut [u32], marks: &mut [u32])
@@ -64,12 +66,12 @@ fn claim(n: usize, j: usize, cols: &mut [u32], rows: &mut [u32], marks: &mut [u3
     ensures { claims_of cols.new rows.new marks.new ≡ claim j (claims_of cols.old rows.old marks.old) }
 {
     let i = rows[j] as usize;
-    if marks[i] == 0 {
+    if marks[i] == UNCLAIMED {
         cols[i] = j as u32;
-        marks[i] = 1;
+        marks[i] = UNIQUE;
     } else {
         rows[j] = FREE;
-        marks[i] = 2;
+        marks[i] = NOT_UNIQUE;
     }
 }
 
@@ -78,59 +80,42 @@ fn claim_all(n: usize, cols: &mut [u32], rows: &mut [u32], marks: &mut [u32])
     requires { (n ≤ side) × Claimable n n (claims_of cols.old rows.old marks.old) }
     ensures { claims_of cols.new rows.new marks.new ≡ downward n claim (claims_of cols.old rows.old marks.old) }
 {
-    let mut turn = 0;
-    while turn < n {
-        turn += 1;
-        claim(n, n - turn, cols, rows, marks);
+    for j in (0..n).rev() {
+        claim(n, j, cols, rows, marks);
     }
 }
 
 // A value beside the least so far.
-fn least(found: LeastSoFar, h: i64) -> LeastSoFar
+fn least(found: Option<i64>, h: i64) -> Option<i64>
     ensures { result ≡ least found h }
 {
-    match found {
-        LeastSoFar::NoneYet => LeastSoFar::Of(h),
-        LeastSoFar::Of(a) => { if h < a { LeastSoFar::Of(h) } else { found } }
-    }
+    Some(found.map_or(h, |a| a.min(h)))
 }
 
 // The first column from `from` on whose reduced cost may change the least so far.
-fn next_least(row: &[i32], v: &[i64], from: usize, found: LeastSoFar) -> usize
-    requires { (length v.now ≡ length row.now) × Near (length row.now) v.now × (from ≤ length row.now) }
-    ensures { NextLeast (λ k. signed_at row.now k -ℤ signed_at v.now k) found from (length row.now) result }
+fn next_least(row: Reduced, from: usize, found: Option<i64>) -> Option<usize>
+    ensures { NextLeast (reduced_at row.entry) found from (width row.entry) result }
 {
     match found {
-        LeastSoFar::NoneYet => from,
-        LeastSoFar::Of(a) => super::lowest::next_below(row, v, from, a),
+        Some(a) => row.next_below(from, a),
+        None if from < row.width() => Some(from),
+        None => None,
     }
 }
 
 // The least reduced cost of a row over the columns but j.
-fn least_other(row: &[i32], v: &[i64], j: usize) -> LeastSoFar
-    requires { (length v.now ≡ length row.now) × Near (length row.now) v.now }
-    ensures { result ≡ least_but (length row.now) (λ k. signed_at row.now k -ℤ signed_at v.now k) j }
+fn least_other(row: Reduced, j: usize) -> Option<i64>
+    ensures { result ≡ least_but (width row.entry) (reduced_at row.entry) j }
 {
-    let mut found = LeastSoFar::NoneYet;
-    let mut k = 0;
-    while k < row.len() {
+    let mut found = None;
+    let mut next = next_least(row, 0, found);
+    while let Some(k) = next {
         if k != j {
-            found = least(found, matrix::rows::reduced_cost(row[k], v[k]));
+            found = least(found, row.at(k));
         }
-        k = next_least(row, v, k + 1, found);
+        next = next_least(row, k + 1, found);
     }
     found
-}
-
-// A price, lowered by a least value where there is one.
-fn less_least(price: i64, least: LeastSoFar) -> i64
-    requires { Within near price × NearLeast least }
-    ensures { result ≡ less_least price least }
-{
-    match least {
-        LeastSoFar::NoneYet => price,
-        LeastSoFar::Of(h) => price - h,
-    }
 }
 
 // A unique row i lowers the price of its column j.
@@ -138,47 +123,37 @@ fn lower_column(n: usize, costs: &[i32], i: usize, j: usize, v: &mut [i64])
     requires { Square n costs.now × (i < n) × (j < n) × (length v.old ≡ n) × Near n v.old }
     ensures { v.new ≡ lower_column n (square n costs.now).cost i j v.old }
 {
-    let found = least_other(matrix::rows::row(costs, n, i), v, j);
-    v[j] = less_least(v[j], found);
+    let row = Reduced {
+        costs: matrix::rows::row(costs, n, i),
+        prices: v,
+    };
+    if let Some(h) = least_other(row, j) {
+        v[j] -= h;
+    }
 }
 
-// Row i, with its mark and its column j, joins the free list, lowers its column's price, or does nothing: how many rows are free then.
-fn transfer(
+// Rows upward: an unclaimed row joins the free list, a unique one lowers its column's price. How many rows are free at the end.
+fn transfers(
     n: usize,
     costs: &[i32],
-    i: usize,
-    mark: u32,
-    j: usize,
+    cols: &[u32],
+    marks: &[u32],
     v: &mut [i64],
     frees: &mut [u32],
-    count: usize,
 ) -> usize
-    requires { Square n costs.now × (i < n) × (j < n) × (length v.old ≡ n) × Near n v.old × (length frees.old ≡ n) × (count < n) }
-    ensures { (s : Claims) → at s.marks i ≡ mark → at s.cols i ≡ j → transfer_of v.new frees.new result ≡ transfer n (square n costs.now).cost s i (transfer_of v.old frees.old count) }
+    requires { Transferable n costs.now cols.now marks.now v.old frees.old }
+    ensures { transfer_of v.new frees.new result ≡ transferring n costs.now cols.now marks.now v.old frees.old n }
 {
-    if mark == 0 {
-        frees[count] = i as u32;
-        return count + 1;
-    }
-    if mark == 1 {
-        lower_column(n, costs, i, j, v);
-    }
-    count
-}
-
-// Rows upward: how many rows are free at the end. The free list stands at 0 in the room, the marks at 3n.
-fn transfers(n: usize, costs: &[i32], cols: &[u32], v: &mut [i64], room: &mut [u32]) -> usize
-    requires { Transferable n costs.now cols.now v.old room.old }
-    ensures { Transferred room.old (transferring n costs.now cols.now v.old room.old n) v.new room.new result }
-{
-    let n3 = n + n + n;
     let mut count = 0;
-    let mut i = 0;
-    while i < n {
-        let mark = room[n3 + i];
-        let j = cols[i] as usize;
-        count = transfer(n, costs, i, mark, j, v, &mut room[0..n], count);
-        i += 1;
+    for i in 0..n {
+        match marks[i] {
+            UNCLAIMED => {
+                frees[count] = i as u32;
+                count += 1;
+            }
+            UNIQUE => lower_column(n, costs, i, cols[i] as usize, v),
+            _ => {}
+        }
     }
     count
 }
@@ -195,12 +170,12 @@ pub fn ccrrt_dense(
     requires { Reducible n costs.now cols.old rows.old v.old room.old }
     ensures { (stage_at cols.new rows.new v.new (part 0 n room.new) result ≡ column_reduction n (square n costs.now).cost) × (room.new ≡ replaced 0 (column_reduction n (square n costs.now).cost).frees (replaced (n + n + n) (claims n (square n costs.now).cost).marks room.old)) }
 {
-    let n3 = n + n + n;
-    let n4 = n3 + n;
+    let (front, marks) = room.split_at_mut(3 * n);
+    let frees = &mut front[..n];
     minima(n, costs, rows, v);
-    lists::fill(cols, 0);
-    lists::fill(&mut room[n3..n4], 0);
-    claim_all(n, cols, rows, &mut room[n3..n4]);
-    lists::fill(&mut room[0..n], 0);
-    transfers(n, costs, cols, v, room)
+    cols.fill(0);
+    marks.fill(UNCLAIMED);
+    claim_all(n, cols, rows, marks);
+    frees.fill(0);
+    transfers(n, costs, cols, marks, v, frees)
 }

@@ -5,4 +5,5 @@
 pub mod candidates;
 pub mod columns;
 pub mod lowest;
+pub mod reduced;
 pub mod rows;

@@ -9,7 +9,9 @@ ghost use Rattle.reduction.specs.Ranges.{Near};
 ghost use Rattle.reduction.specs.Columns.{stage_at};
 ghost use Rattle.reduction.specs.Rows.{Inside, looks_most, placed_at, passing_at, Ready, Keeping, Passable};
 
-use rules::{Choice, Pass, TwoLowest};
+use crate::candidates;
+use crate::reduced::Reduced;
+use rules::{Choice, Low, Pass, TwoLowest};
 
 // Column j at the price that it has.
 fn keep_price(v: &[i64], j: usize) -> Choice
@@ -23,15 +25,14 @@ fn keep_price(v: &[i64], j: usize) -> Choice
     }
 }
 
-// Column j1 at a price lowered by second minus lowest, v2 minus v1.
-fn lower_price(v: &[i64], j1: usize, v1: i64, v2: i64) -> Choice
-    requires { (j1 < length v.now) × Within near (signed_at v.now j1) × Within (near + near) v1 × Within (near + near) v2 }
-    ensures { result ≡ lower_price v.now j1 v1 v2 }
+// The column of the lowest, at a price lowered by second minus lowest.
+fn lower_price(v: &[i64], lowest: Low, second: Low) -> Choice
+    requires { (lowest.place < length v.now) × Within near (signed_at v.now lowest.place) × Within (near + near) lowest.value × Within (near + near) second.value }
+    ensures { result ≡ lower_price v.now lowest.place lowest.value second.value }
 {
-    let v1_new = v[j1] - (v2 - v1);
     Choice {
-        column: j1,
-        price: v1_new,
+        column: lowest.place,
+        price: v[lowest.place] - (second.value - lowest.value),
         back: true,
     }
 }
@@ -39,33 +40,12 @@ fn lower_price(v: &[i64], j1: usize, v1: i64, v2: i64) -> Choice
 // What a row takes, from its two lowest.
 fn choose(n: usize, early: bool, v: &[i64], rows: &[u32], two: TwoLowest) -> Choice
     requires { (n ≤ side) × (length v.now ≡ n) × (length rows.now ≡ n) × Near n v.now × Inside n two }
-    ensures { result ≡ choose n early v.now rows.now two }
+    ensures { (result ≡ choose n early v.now rows.now two) × (result.column < n) }
 {
     match two {
-        TwoLowest::One(a) => {
-            let j1 = a.place;
-            keep_price(v, j1)
-        }
-        TwoLowest::Two(a, b) => {
-            let j1 = a.place;
-            let j2 = b.place;
-            let v1 = a.value;
-            let v2 = b.value;
-            if early {
-                if v1 < v2 {
-                    lower_price(v, j1, v1, v2)
-                } else {
-                    let i0 = rows[j1] as usize;
-                    if i0 < n {
-                        keep_price(v, j2)
-                    } else {
-                        keep_price(v, j1)
-                    }
-                }
-            } else {
-                keep_price(v, j1)
-            }
-        }
+        TwoLowest::Two(a, b) if early && a.value < b.value => lower_price(v, a, b),
+        TwoLowest::Two(a, b) if early && (rows[a.place] as usize) < n => keep_price(v, b.place),
+        TwoLowest::One(a) | TwoLowest::Two(a, _) => keep_price(v, a.place),
     }
 }
 
@@ -74,31 +54,22 @@ fn displace(n: usize, frees: &mut [u32], pass: Pass, back: bool, i0: u32) -> Pas
     requires { (n ≤ side) × (length frees.old ≡ n) × (pass.current < n) × (pass.left ≤ pass.current) × (pass.looks < looks_most) }
     ensures { placed_at frees.new result ≡ displace n frees.old pass back i0 }
 {
-    let current = pass.current;
-    let left = pass.left;
     let looks = pass.looks + 1;
-    let held = i0 as usize;
-    if held < n {
-        if back {
-            frees[current] = i0;
-            Pass {
-                current: current,
-                left: left,
-                looks: looks,
-            }
-        } else {
-            frees[left] = i0;
-            Pass {
-                current: current + 1,
-                left: left + 1,
-                looks: looks,
-            }
-        }
-    } else {
+    if n <= i0 as usize {
         Pass {
-            current: current + 1,
-            left: left,
-            looks: looks,
+            current: pass.current + 1,
+            looks,
+            ..pass
+        }
+    } else if back {
+        frees[pass.current] = i0;
+        Pass { looks, ..pass }
+    } else {
+        frees[pass.left] = i0;
+        Pass {
+            current: pass.current + 1,
+            left: pass.left + 1,
+            looks,
         }
     }
 }
@@ -108,9 +79,7 @@ fn is_early(n: usize, pass: Pass) -> bool
     requires { (n ≤ side) × (pass.current < n) × (pass.looks < looks_most) }
     ensures { result ≡ is_early n pass }
 {
-    let looks = pass.looks + 1;
-    let current = pass.current + 1;
-    looks < current * n
+    pass.looks + 1 < (pass.current + 1) * n
 }
 
 // One look, at the free row at `current`. The free list stands at 0 in the room, what is kept of the rows at n.
@@ -127,21 +96,23 @@ fn look(
     requires { Ready n costs.now (passing_at cols.old rows.old v.old (part 0 n room.old) pass) × Keeping n costs.now v.old room.old limits.old }
     ensures { (passing_at cols.new rows.new v.new (part 0 n room.new) result ≡ look n (square n costs.now).cost (passing_at cols.old rows.old v.old (part 0 n room.old) pass)) × Keeping n costs.now v.new room.new limits.new }
 {
-    let n4 = 4 * n;
-    let current = pass.current;
-    let free_i = room[current] as usize;
-    let row = matrix::rows::row(costs, n, free_i);
-    let two = super::candidates::two_lowest(row, v, free_i, &mut room[n..n4], limits);
-    let early = is_early(n, pass);
-    let choice = choose(n, early, v, rows, two);
-    let j1 = choice.column;
-    let price = choice.price;
-    let back = choice.back;
+    let (frees, kept) = room.split_at_mut(n);
+    let free_i = frees[pass.current] as usize;
+    let row = Reduced {
+        costs: matrix::rows::row(costs, n, free_i),
+        prices: v,
+    };
+    let two = candidates::two_lowest(row, free_i, kept, limits);
+    let Choice {
+        column: j1,
+        price,
+        back,
+    } = choose(n, is_early(n, pass), v, rows, two);
     let i0 = rows[j1];
     v[j1] = price;
     cols[free_i] = j1 as u32;
     rows[j1] = free_i as u32;
-    displace(n, &mut room[0..n], pass, back, i0)
+    displace(n, frees, pass, back, i0)
 }
 
 // Rule 4: a pass over the first `count` rows of the free list. The rows that are still free are the first `left` of it then. The rest of the
@@ -159,7 +130,7 @@ pub fn carr_dense(
     requires { Passable n costs.now cols.old rows.old v.old (part 0 n room.old) count × (length room.old ≡ n + n + n + n) × (length limits.old ≡ n) }
     ensures { passing_at cols.new rows.new v.new (part 0 n room.new) result ≡ row_reduction n (square n costs.now).cost (stage_at cols.old rows.old v.old (part 0 n room.old) count) }
 {
-    super::candidates::forget(limits);
+    candidates::forget(limits);
     let mut pass = Pass {
         current: 0,
         left: 0,

@@ -16,13 +16,13 @@ use Rattle.lists.proofs.Runs.{first_le}
 use Rattle.assignment.specs.Pairings.{square}
 use Rattle.matrix.specs.Asked.{Tellable, TellableIn}
 use Rattle.matrix.specs.Limits.{K}
-use Rattle.matrix.specs.Refusals.{PriceOutside, PriceFar}
+use Rattle.matrix.specs.declared.refusals.Reason.{Reason}
+use Rattle.matrix.specs.declared.refusals.Reason.TheVariants.{PriceOutside, PriceFar}
 use Rattle.matrix.specs.Tests.{columns_inside, prices_in, prices_within}
 use Rattle.matrix.specs.Verdicts.{Passes, ◌then◌, fails_at}
-use Rattle.matrix.specs.declared.Refusal.{Refusal}
-use Rattle.matrix.specs.declared.Verdict.{Verdict}
-use Rattle.matrix.specs.declared.Verdict.TheVariants.{Passed, Fails}
-use Rattle.matrix.specs.declared.Answer.TheVariants.{Refused}
+use Rattle.matrix.specs.declared.refusals.Refusal.{Refusal}
+use Rattle.matrix.specs.Verdicts.{Verdict}
+use Rattle.std.specs.Prelude.{Ok, Err}
 use Rattle.matrix.proofs.SmallLimits.{side_small}
 use Rattle.matrix.proofs.Codes.{square_small}
 use Rattle.matrix.proofs.Places.{place-below}
@@ -79,29 +79,29 @@ module _ (n : ℕ) (costs : List ℤ) (row : ℕ) (lent : Lent) where
       let h = (tested_iff n costs lent).0 e in
       (omega (arith, side_small, h.small), omega (arith, square_small n (length costs) h.small h.squared, h.squared))
 
-  -- Row prices and column prices, by any number below 256.
-  prices_small : (number : ℕ) (limit : ℤ) → number < 256 → Passes (tested n costs lent) → Small (prices_in number limit n n us vs)
-  prices_small number limit s e =
-      then_small _ _ (fails_at_small _ _ _ _ s (λ i l. omega (arith, few e))) (λ t. fails_at_small _ _ _ _ s (λ j l. omega (arith, few e)))
+  -- Row prices and column prices, under any reason.
+  prices_small : (reason : Reason) (limit : ℤ) → Passes (tested n costs lent) → Small (prices_in reason limit n n us vs)
+  prices_small reason limit e =
+      then_small _ _ (fails_at_small _ _ _ _ (λ i l. omega (arith, few e))) (λ t. fails_at_small _ _ _ _ (λ j l. omega (arith, few e)))
 
   tests_small : Small (repair_tests n costs row lent)
   tests_small =
       every Tellable (tested_small n costs lent)
-      (λ e. fails_if_small _ _ _ (lit< tt) (λ t. omega (arith, few e)))
-      (λ e. fails_at_small _ _ _ _ (lit< tt) (λ i l. omega (arith, few e)))
-      (λ e. fails_at_small _ _ _ _ (lit< tt) (λ i l. omega (arith, few e)))
-      (prices_small PriceOutside (pos (10 * K)) (lit< tt))
-      (prices_small PriceFar (pos (7 * K)) (lit< tt))
-      (λ e f. fails_at_by_small _ _ _ _ _ (lit< tt) (λ i l. omega (arith, few e, mul-le-mul_right n (le_of_lt l), first_le (over (square n costs) us vs i) n)))
-      (λ e f g h. fails_at_by_small _ _ _ _ _ (lit< tt) (λ i l. omega (arith, few e)))
+      (λ e. fails_if_small _ _ _ (λ t. omega (arith, few e)))
+      (λ e. fails_at_small _ _ _ _ (λ i l. omega (arith, few e)))
+      (λ e. fails_at_small _ _ _ _ (λ i l. omega (arith, few e)))
+      (prices_small PriceOutside (pos (10 * K)))
+      (prices_small PriceFar (pos (7 * K)))
+      (λ e f. fails_at_by_small _ _ _ _ _ (λ i l. omega (arith, few e, mul-le-mul_right n (le_of_lt l), first_le (over (square n costs) us vs i) n)))
+      (λ e f g h. fails_at_by_small _ _ _ _ _ (λ i l. omega (arith, few e)))
 
   pub repair_places : TellableIn (repair n costs row lent).answer
   unfolding repair outcome
   repair_places = by (repair_tests n costs row lent) tests_small
     where
       by : (verdict : Verdict) → Small verdict → TellableIn (outcome n costs row lent verdict).answer
-      by Passed h = tt
-      by (Fails refusal) h = h
+      by (Ok _) h = tt
+      by (Err refusal) h = h
 
   -- A row that a test of the rows but one names is another.
   named_other : (test : ℕ → Bool) (i : ℕ) → but row test i ≡ true → i ≢ row
@@ -134,10 +134,10 @@ module _ (n : ℕ) (costs : List ℤ) (row : ℕ) (lent : Lent) where
           fails_at_by_every SlackRight PriceFar place (λ k. pos 0) count test (λ k l t clear. neither_right PriceFar (place k) (λ e. omega arith) (λ e. omega arith))
 
   -- A refusal of a repair carries the right slack.
-  pub repair_slacks : {refusal : Refusal} → (repair n costs row lent).answer ≡ Refused refusal → SlackRight refusal
+  pub repair_slacks : {refusal : Refusal} → (repair n costs row lent).answer ≡ Err refusal → SlackRight refusal
   unfolding repair outcome
   repair_slacks {refusal} = by (repair_tests n costs row lent) tests_slacks
     where
-      by : (verdict : Verdict) → Every SlackRight verdict → (outcome n costs row lent verdict).answer ≡ Refused refusal → SlackRight refusal
-      by Passed h e = let z : ◌≡◌ {A = ℕ} 0 1 = cc in absurd (omega arith)
-      by (Fails given) h e = let same : given ≡ refusal = cc e in subst SlackRight same h
+      by : (verdict : Verdict) → Every SlackRight verdict → (outcome n costs row lent verdict).answer ≡ Err refusal → SlackRight refusal
+      by (Ok _) h e = let z : ◌≡◌ {A = ℕ} 0 1 = cc in absurd (omega arith)
+      by (Err given) h e = let same : given ≡ refusal = cc e in subst SlackRight same h

@@ -1,6 +1,6 @@
 -- The tests of a repair are passed exactly by the inputs that `Repairable` names; such an input is repaired, and any other changes nothing. Assumes
 -- nothing.
-use mathlib.Core.Path.{◌≡◌}
+use mathlib.Core.Path.{◌≡◌, sym}
 use mathlib.Core.Logic.{◌↔◌}
 use mathlib.Core.List.{List}
 use Prim.Native.Nat.{ℕ, ◌*◌, ◌<◌}
@@ -10,10 +10,10 @@ use lib.IntN.{ℤ}
 use Rattle.ints.proofs.Ranges.{within_mono}
 use Rattle.assignment.specs.Pairings.{square}
 use Rattle.matrix.specs.Limits.{K}
-use Rattle.matrix.specs.Refusals.{PriceFar}
-use Rattle.matrix.specs.Verdicts.{Passes}
-use Rattle.matrix.specs.declared.Refusal.{Refusal}
-use Rattle.matrix.specs.declared.Verdict.TheVariants.{Fails}
+use Rattle.matrix.specs.declared.refusals.Reason.TheVariants.{PriceFar}
+use Rattle.matrix.specs.Verdicts.{Verdict, Passes}
+use Rattle.matrix.specs.declared.refusals.Refusal.{Refusal}
+use Rattle.std.specs.Prelude.{Ok, Err, OnOk}
 use Rattle.matrix.proofs.Verdicts.{then_iff, fails_if_iff}
 use Rattle.matrix.proofs.Passed.{columns_inside_lem, prices_in_lem, prices_within_lem}
 use Rattle.checker.proofs.Tests.{rows_named_lem, under_costs_but_lem, tight_on_but_lem}
@@ -61,12 +61,17 @@ module _ (n : ℕ) (costs : List ℤ) (row : ℕ) (lent : Lent) where
             (then_iff _ _).1 (t9, (tight_on_but_lem night us vs row lent.cols).1 r.tight),
       )
 
+  -- What the code tells of it.
+  pub tests_limits : (verdict : Verdict) → verdict ≡ repair_tests n costs row lent → OnOk verdict (Repairable n costs row lent)
+  tests_limits (Ok _) e = repair_tests_iff.0 (sym e)
+  tests_limits (Err refusal) e = tt
+
   -- Such an input is never refused.
   pub passes_repaired : Repairable n costs row lent → repair n costs row lent ≡ settled n lent (repaired_by n costs (mended_in n costs row lent))
   unfolding repair outcome
   passes_repaired r = rw (repair_tests_iff.1 r)
 
   -- Any other is, and nothing is written.
-  pub fails_refused : (refusal : Refusal) → repair_tests n costs row lent ≡ Fails refusal → repair n costs row lent ≡ refused lent refusal
+  pub fails_refused : (refusal : Refusal) → repair_tests n costs row lent ≡ Err refusal → repair n costs row lent ≡ refused lent refusal
   unfolding repair outcome
   fails_refused refusal e = rw e

@@ -1,8 +1,9 @@
 -- Repairs on paper.
 use Rattle.std.specs.Prelude.{List, [], ◌∷◌, ℕ, ◌*◌, ℤ, pos, neg_ℤ, replicate}
 use Rattle.matrix.specs.Limits.{K}
-use Rattle.matrix.specs.Refusals.{ColumnOutside, PriceOutside, PricesOverCost, PricesNotCost, PriceFar}
-use Rattle.matrix.specs.declared.Answer.TheVariants.{Total, Refused}
+use Rattle.matrix.specs.declared.refusals.Reason.{Reason}
+use Rattle.matrix.specs.declared.refusals.Reason.TheVariants.{ColumnOutside, PriceOutside, PricesOverCost, PricesNotCost, PriceFar}
+use Rattle.std.specs.Prelude.{Ok, Err}
 use Rattle.lapjv.specs.Solve.{Lent, lent_of}
 use Rattle.repair.specs.Repair.{outcome_of, Outcome, repair}
 
@@ -29,15 +30,15 @@ abbrev pub pairs : List ℕ → List ℕ → List ℤ → List ℤ → ℕ → �
 pairs cols rows us vs index number = lent_of cols rows us vs (replicate 8 index) (replicate 2 number)
 
 abbrev pub mending : List ℤ → ℕ → Lent → ℤ → Lent → Line
-mending costs row before total after = record { costs = costs; row = row; before = before; after = outcome_of (Total total) after }
+mending costs row before total after = record { costs = costs; row = row; before = before; after = outcome_of (Ok total) after }
 
 -- A refused repair changes nothing.
-abbrev pub refusing : List ℤ → ℕ → Lent → ℕ → ℕ → ℤ → Line
-refusing costs row before number place slack = record {
+abbrev pub refusing : List ℤ → ℕ → Lent → Reason → ℕ → ℤ → Line
+refusing costs row before reason place slack = record {
   costs = costs;
   row = row;
   before = before;
-  after = outcome_of (Refused (record { number = number; place = place; slack = slack })) before;
+  after = outcome_of (Err (record { reason = reason; place = place; slack = slack })) before;
 }
 
 -- [K -K / -K -K], whose row 1 becomes K -K.

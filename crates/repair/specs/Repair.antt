@@ -3,11 +3,10 @@
 use Rattle.std.specs.Prelude.{List, ◌++◌, ℕ, ◌*◌, ℤ, pos, set, take, drop, replicate}
 use Rattle.lists.specs.Permutations.{at}
 use Rattle.assignment.specs.Pairings.{square, total}
-use Rattle.matrix.specs.declared.Refusal.{Refusal}
-use Rattle.matrix.specs.declared.Verdict.{Verdict}
-use Rattle.matrix.specs.declared.Verdict.TheVariants.{Passed, Fails}
-use Rattle.matrix.specs.declared.Answer.{Answer}
-use Rattle.matrix.specs.declared.Answer.TheVariants.{Total, Refused}
+use Rattle.matrix.specs.declared.refusals.Refusal.{Refusal}
+use Rattle.matrix.specs.Verdicts.{Verdict}
+use Rattle.std.specs.Prelude.{Ok, Err}
+use Rattle.matrix.specs.Answers.{Answer}
 use Rattle.rules.specs.Columns.{free, Pairs}
 use Rattle.rules.specs.Augmentation.{Progress, augment}
 use Rattle.rules.specs.Run.{prices_of_rows}
@@ -59,12 +58,12 @@ outcome_of answer lent = record { answer = answer; lent = lent }
 
 -- "A refused repair changes nothing."
 abbrev pub refused : Lent → Refusal → Outcome
-refused lent refusal = outcome_of (Refused refusal) lent
+refused lent refusal = outcome_of (Err refusal) lent
 
 -- The first n entries of each output hold the repaired pairing, the rooms are left "as the solver's", and later entries are untouched.
 abbrev pub settled : ℕ → Lent → Repaired → Outcome
 settled n lent r = record {
-  answer = Total r.total;
+  answer = Ok r.total;
   lent = record {
     cols = r.cols ++ drop n lent.cols;
     rows = r.rows ++ drop n lent.rows;
@@ -77,8 +76,8 @@ settled n lent r = record {
 
 -- What a caller gets and finds, from the verdict on the input.
 unfoldable pub outcome : ℕ → List ℤ → ℕ → Lent → Verdict → Outcome
-outcome n costs row lent Passed = settled n lent (repaired_by n costs (mended_in n costs row lent))
-outcome n costs row lent (Fails refusal) = refused lent refusal
+outcome n costs row lent (Ok _) = settled n lent (repaired_by n costs (mended_in n costs row lent))
+outcome n costs row lent (Err refusal) = refused lent refusal
 
 -- The repair.
 unfoldable pub repair : ℕ → List ℤ → ℕ → Lent → Outcome

@@ -3,9 +3,9 @@ use Rattle.std.specs.Prelude.{List, ℕ, ◌*◌, leb, ℤ, pos}
 use Rattle.assignment.specs.Pairings.{square}
 use Rattle.matrix.specs.Limits.{K}
 use Rattle.matrix.specs.Verdicts.{◌then◌, fails_if}
-use Rattle.matrix.specs.Refusals.{ColumnOutside, PriceFar}
+use Rattle.matrix.specs.declared.refusals.Reason.TheVariants.{ColumnOutside, PriceFar}
 use Rattle.matrix.specs.Tests.{columns_inside, prices_in, prices_within}
-use Rattle.matrix.specs.declared.Verdict.{Verdict}
+use Rattle.matrix.specs.Verdicts.{Verdict}
 use Rattle.checker.specs.Tests.{rows_named, under_costs_but, tight_on_but}
 use Rattle.lapjv.specs.Solve.{Lent, tested}
 

@@ -2,34 +2,29 @@
 // is said in specs/.
 #![tactic(auto)]
 
-ghost use Rattle.std.specs.Prelude.{◌≡◌, ◌*◌, ◌≤◌, pos, length};
+ghost use Rattle.std.specs.Prelude.{◌≡◌, ◌*◌, ◌≤◌, pos, length, OnOk};
 ghost use Rattle.assignment.specs.Pairings.{square};
 ghost use Rattle.matrix.specs.Limits.{side, K};
-ghost use Rattle.matrix.specs.Verdicts.{Passes, ◌then◌};
 ghost use Rattle.augmentation.specs.Augmentation.{pairs_of, state_of};
 ghost use Rattle.lapjv.specs.Solve.{lent_of};
 ghost use Rattle.repair.specs.Tests.{row_inside, prices_near, repair_tests};
 ghost use Rattle.repair.specs.Repair.{mended, outcome_of, repair};
+ghost use Rattle.repair.specs.Repairable.{Repairable};
 ghost use Rattle.repair.specs.Values.{told_of};
 ghost use Rattle.repair.specs.Asked.{CanMend, RepairedBy};
 
 use checker::prices::{tight_on, under_costs};
-use matrix::{Answer, Verdict, refusals, tests};
+use matrix::{Reason, Refusal, tests};
 
 // Test 6 of the row number.
-fn row_inside(before: Verdict, n: usize, row: usize) -> Verdict
-    ensures { result ≡ (before then row_inside n row) }
+fn row_inside(n: usize, row: usize) -> Result<(), Refusal>
+    ensures { result ≡ row_inside n row }
 {
-    match before {
-        Verdict::Fails(refusal) => {
-            return Verdict::Fails(refusal);
-        }
-        Verdict::Passed => {}
-    }
-    tests::fails_if(n <= row, refusals::COLUMN_OUTSIDE, n)
+    tests::fails_if(n <= row, Reason::ColumnOutside, n)
 }
 
 // 7K.
+#[tactic(auto, using(matrix::proofs::SmallLimits::K_small))]
 fn near_bound() -> i64
     ensures { result ≡ pos (7 * K) }
 {
@@ -37,14 +32,15 @@ fn near_bound() -> i64
 }
 
 // Test 24.
-fn prices_near(before: Verdict, n: usize, us: &[i64], vs: &[i64]) -> Verdict
-    requires { Passes before → (n ≤ side) × (n ≤ length us.now) × (n ≤ length vs.now) }
-    ensures { result ≡ (before then prices_near n us.now vs.now) }
+fn prices_near(n: usize, us: &[i64], vs: &[i64]) -> Result<(), Refusal>
+    requires { (n ≤ side) × (n ≤ length us.now) × (n ≤ length vs.now) }
+    ensures { result ≡ prices_near n us.now vs.now }
 {
-    tests::prices_in(before, refusals::PRICE_FAR, near_bound(), n, n, us, vs)
+    tests::prices_in(Reason::PriceFar, near_bound(), n, n, us, vs)
 }
 
 // Tests 1 to 8, 24, 9 and 10.
+#[tactic(auto, unfolding(crate::specs::Tests::repair_tests))]
 fn tested(
     n: usize,
     costs: &[i32],
@@ -55,25 +51,27 @@ fn tested(
     col_prices: &[i64],
     indices: &[u32],
     numbers: &[i64],
-) -> Verdict
-    ensures { result ≡ repair_tests n costs.now row (lent_of cols.now rows.now row_prices.now col_prices.now indices.now numbers.now) }
+) -> Result<(), Refusal>
+    ensures tests { result ≡ repair_tests n costs.now row (lent_of cols.now rows.now row_prices.now col_prices.now indices.now numbers.now) }
+    ensures limits { OnOk result (Repairable n costs.now row (lent_of cols.now rows.now row_prices.now col_prices.now indices.now numbers.now)) }
 {
-    let limits = lapjv::tested(
+    lapjv::tested(
         n, costs, cols, rows, row_prices, col_prices, indices, numbers,
-    );
-    let placed = row_inside(limits, n, row);
-    let inside = tests::columns_inside(placed, n, n, cols);
-    let named = checker::rows_named(inside, n, cols, rows);
-    let within = tests::prices_within(named, n, n, row_prices, col_prices);
-    let near = prices_near(within, n, row_prices, col_prices);
-    let under = under_costs(near, n, n, row, costs, row_prices, col_prices, &[]);
-    tight_on(under, n, n, row, costs, cols, row_prices, col_prices)
+    )?;
+    row_inside(n, row)?;
+    tests::columns_inside(n, n, cols)?;
+    checker::rows_named(n, cols, rows)?;
+    tests::prices_within(n, n, row_prices, col_prices)?;
+    prices_near(n, row_prices, col_prices)?;
+    under_costs(n, n, row, costs, row_prices, col_prices, &[])?;
+    tight_on(n, n, row, costs, cols, row_prices, col_prices)
 }
 
 // The row of a free column: the number once more, beside rules/specs/Columns.antt. The promise of `mend` holds the two together.
-const FREE: u32 = 4294967295;
+const FREE: u32 = u32::MAX;
 
 // The row gives up its column and gets one by one search. Answers how many columns were scanned.
+#[tactic(auto, using(matrix::proofs::SmallLimits::side_small))]
 fn mend(
     n: usize,
     costs: &[i32],
@@ -111,13 +109,14 @@ fn pair_again(
     mend(n, costs, row, cols, rows, v, room, d);
     lapjv::write_row_prices(n, costs, cols, v, row_prices);
     let total = matrix::total(n, costs, n, cols);
-    lists::fill(room, 0);
-    lapjv::clear_numbers(d);
+    room.fill(0);
+    d.fill(0);
     total
 }
 
 // The repair. `costs` is the whole matrix with the new costs of `row`; the four lists are an accepted pairing and its prices, and the work room is the
 // solver's.
+#[tactic(auto, unfolding(crate::specs::Repair::repair, crate::specs::Repair::outcome))]
 pub fn repair(
     n: usize,
     costs: &[i32],
@@ -128,28 +127,21 @@ pub fn repair(
     col_prices: &mut [i64],
     indices: &mut [u32],
     numbers: &mut [i64],
-) -> Answer
+) -> Result<i64, Refusal>
     ensures { told_of (outcome_of result (lent_of cols.new rows.new row_prices.new col_prices.new indices.new numbers.new)) ≡ told_of (repair n costs.now row (lent_of cols.old rows.old row_prices.old col_prices.old indices.old numbers.old)) }
 {
-    match tested(
+    tested(
         n, costs, row, cols, rows, row_prices, col_prices, indices, numbers,
-    ) {
-        Verdict::Fails(refusal) => {
-            return Answer::Refused(refusal);
-        }
-        Verdict::Passed => {}
-    }
-    let n4 = 4 * n;
-    let total = pair_again(
+    )?;
+    Ok(pair_again(
         n,
         costs,
         row,
-        &mut cols[0..n],
-        &mut rows[0..n],
-        &mut row_prices[0..n],
-        &mut col_prices[0..n],
-        &mut indices[0..n4],
-        &mut numbers[0..n],
-    );
-    Answer::Total(total)
+        &mut cols[..n],
+        &mut rows[..n],
+        &mut row_prices[..n],
+        &mut col_prices[..n],
+        &mut indices[..4 * n],
+        &mut numbers[..n],
+    ))
 }

@@ -1,6 +1,6 @@
 // A night of the checker, or of `cost`, on the lists of the input.
 use crate::read::Input;
-use crate::{read, say};
+use crate::say;
 use std::io;
 use std::io::{Read, Write};
 
@@ -10,18 +10,15 @@ pub fn checked(
     n: usize,
     costs: &[i32],
 ) -> io::Result<()> {
-    let mut cols: [u32; 1024] = [0; 1024];
-    let mut rows: [u32; 1024] = [0; 1024];
-    let mut us: [i64; 1024] = [0; 1024];
-    let mut vs: [i64; 1024] = [0; 1024];
-    let columns = read::list(input, &mut cols);
-    let named_back = read::list(input, &mut rows);
-    let row_prices = read::prices(input, &mut us);
-    let column_prices = read::prices(input, &mut vs);
-    say::answer(
-        out,
-        checker::check(n, costs, columns, named_back, row_prices, column_prices),
-    )
+    let mut cols = [0u32; 1024];
+    let mut rows = [0u32; 1024];
+    let mut us = [0i64; 1024];
+    let mut vs = [0i64; 1024];
+    let cols = input.list(&mut cols);
+    let rows = input.list(&mut rows);
+    let us = input.list(&mut us);
+    let vs = input.list(&mut vs);
+    say::answer(out, checker::check(n, costs, cols, rows, us, vs))
 }
 
 pub fn totalled(
@@ -30,7 +27,7 @@ pub fn totalled(
     n: usize,
     costs: &[i32],
 ) -> io::Result<()> {
-    let mut cols: [u32; 1024] = [0; 1024];
-    let listed = read::list(input, &mut cols);
+    let mut cols = [0u32; 1024];
+    let listed = input.list(&mut cols);
     say::answer(out, matrix::cost(n, costs, listed))
 }

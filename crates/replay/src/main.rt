@@ -13,7 +13,6 @@
 #![tactic(auto)]
 
 mod checks;
-mod kept;
 mod read;
 mod say;
 mod solver;
@@ -22,36 +21,40 @@ use read::Input;
 use std::io;
 use std::io::{BufReader, BufWriter, Read, Write};
 
-// The night, by whom it is for.
-fn run(
-    input: &mut Input<impl Read>,
-    out: &mut impl Write,
-    kind: usize,
-    n: usize,
-    costs: &[i32],
-) -> io::Result<()> {
-    if kind == 0 {
-        solver::night(input, out, n, costs)
-    } else if kind == 1 {
-        checks::checked(input, out, n, costs)
-    } else {
-        checks::totalled(input, out, n, costs)
+// By whom a night is answered: 0 the solver, 1 the checker, any other number `cost`.
+#[derive(Clone, Copy, Debug, PartialEq, Eq)]
+enum Kind {
+    Solver,
+    Checker,
+    Cost,
+}
+
+impl From<usize> for Kind {
+    fn from(number: usize) -> Kind {
+        match number {
+            0 => Kind::Solver,
+            1 => Kind::Checker,
+            _ => Kind::Cost,
+        }
     }
 }
 
 // What every night begins with, and the night.
 fn night(input: &mut Input<impl Read>, out: &mut impl Write, costs: &mut [i32]) -> io::Result<()> {
-    let kind = read::number(input);
-    read::name(input, out)?;
-    let n = read::long(input);
-    let lent = read::part(input, costs);
-    read::costs(input, lent);
-    run(input, out, kind, n, lent)?;
+    let kind = Kind::from(input.number());
+    input.name(out)?;
+    let n = input.long();
+    let lent = input.costs(costs);
+    match kind {
+        Kind::Solver => solver::night(input, out, n, lent)?,
+        Kind::Checker => checks::checked(input, out, n, lent)?,
+        Kind::Cost => checks::totalled(input, out, n, lent)?,
+    }
     out.write_all(b"\n")
 }
 
 fn nights(input: &mut Input<impl Read>, out: &mut impl Write, costs: &mut [i32]) -> io::Result<()> {
-    for _ in 0..read::number(input) {
+    for _ in 0..input.number() {
         night(input, out, costs)?;
     }
     Ok(())

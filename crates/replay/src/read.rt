@@ -1,5 +1,5 @@
 // The numbers of the input. Past its end every byte is 0.
-ghost use Rattle.std.specs.Prelude.{◌^◌, ◌<◌, ◌≤◌, length};
+ghost use Rattle.std.specs.Prelude.{◌≤◌, length};
 
 use std::io;
 use std::io::{Read, Write};
@@ -9,6 +9,29 @@ use std::io::{Read, Write};
 pub struct Input<R> {
     reader: R,
     failed: Option<io::Error>,
+}
+
+// What an entry of a list is in the input: the lowest byte first, a signed one in two's complement.
+pub trait Entry: Copy {
+    fn read<R: Read>(input: &mut Input<R>) -> Self;
+}
+
+impl Entry for u32 {
+    fn read<R: Read>(input: &mut Input<R>) -> u32 {
+        u32::from_le_bytes(input.bytes())
+    }
+}
+
+impl Entry for i32 {
+    fn read<R: Read>(input: &mut Input<R>) -> i32 {
+        i32::from_le_bytes(input.bytes())
+    }
+}
+
+impl Entry for i64 {
+    fn read<R: Read>(input: &mut Input<R>) -> i64 {
+        i64::from_le_bytes(input.bytes())
+    }
 }
 
 impl<R: Read> Input<R> {
@@ -54,128 +77,65 @@ impl<R: Read> Input<R> {
             done += count;
         }
     }
-}
 
-// A number of 4 bytes.
-pub fn number(input: &mut Input<impl Read>) -> usize
-    ensures { result < 256 ^ 4 }
-{
-    let mut four: [u8; 4] = [0; 4];
-    input.fill(&mut four);
-    layout::value::value_at(&four, 0, 4)
-}
-
-// A number of 8 bytes.
-pub fn long(input: &mut Input<impl Read>) -> usize {
-    let mut eight: [u8; 8] = [0; 8];
-    input.fill(&mut eight);
-    layout::value::value_at(&eight, 0, 8)
-}
-
-pub fn least(a: usize, b: usize) -> usize
-    ensures { result ≤ b }
-{
-    if a < b { a } else { b }
-}
-
-// A length, at most what there is.
-fn length(input: &mut Input<impl Read>, most: usize) -> usize
-    ensures { result ≤ most }
-{
-    least(number(input), most)
-}
-
-// The part that is lent.
-pub fn part<'a>(input: &mut Input<impl Read>, costs: &'a mut [i32]) -> &'a mut [i32] {
-    let lent = length(input, costs.len());
-    &mut costs[0..lent]
-}
-
-pub fn indices<'a>(input: &mut Input<impl Read>, s: &'a mut [u32]) -> &'a mut [u32] {
-    let lent = length(input, s.len());
-    &mut s[0..lent]
-}
-
-pub fn numbers<'a>(input: &mut Input<impl Read>, s: &'a mut [i64]) -> &'a mut [i64] {
-    let lent = length(input, s.len());
-    &mut s[0..lent]
-}
-
-// A cost of 4 bytes, in two's complement.
-fn cost(input: &mut Input<impl Read>) -> i32 {
-    layout::value::unwrapped(number(input))
-}
-
-// A price of 8.
-fn price(input: &mut Input<impl Read>) -> i64 {
-    layout::value::unwrapped_eight(long(input))
-}
-
-// The entries given, and the same again behind them.
-fn fill_costs(input: &mut Input<impl Read>, s: &mut [i32], given: usize) {
-    for k in 0..s.len() {
-        s[k] = if k < given { cost(input) } else { s[k - given] };
+    // The next bytes, as many as an entry has.
+    fn bytes<const N: usize>(&mut self) -> [u8; N] {
+        let mut bytes = [0; N];
+        self.fill(&mut bytes);
+        bytes
     }
-}
 
-fn fill_indices(input: &mut Input<impl Read>, s: &mut [u32], given: usize) {
-    for k in 0..s.len() {
-        s[k] = if k < given {
-            number(input) as u32
-        } else {
-            s[k - given]
-        };
+    // A number of 4 bytes.
+    pub fn number(&mut self) -> usize {
+        u32::read(self) as usize
     }
-}
 
-fn fill_prices(input: &mut Input<impl Read>, s: &mut [i64], given: usize) {
-    for k in 0..s.len() {
-        s[k] = if k < given {
-            price(input)
-        } else {
-            s[k - given]
-        };
+    // A number of 8 bytes.
+    pub fn long(&mut self) -> usize {
+        u64::from_le_bytes(self.bytes()) as usize
     }
-}
 
-fn set(costs: &mut [i32], place: usize, cost: i32) {
-    if place < costs.len() {
-        costs[place] = cost;
+    // The part of a list that is lent: at most what there is.
+    pub fn lent<'a, T>(&mut self, list: &'a mut [T]) -> &'a mut [T] {
+        let count = self.number().min(list.len());
+        &mut list[..count]
     }
-}
 
-// The costs that are lent, with one that may stand alone.
-pub fn costs(input: &mut Input<impl Read>, costs: &mut [i32]) {
-    let given = number(input);
-    fill_costs(input, costs, given);
-    let place = number(input);
-    set(costs, place, cost(input));
-}
+    // The entries given, and the same again behind them.
+    fn entries<T: Entry>(&mut self, list: &mut [T]) {
+        let given = self.number();
+        for k in 0..list.len() {
+            list[k] = if k < given {
+                T::read(self)
+            } else {
+                list[k - given]
+            };
+        }
+    }
 
-// A list of columns or of rows.
-pub fn list<'a>(input: &mut Input<impl Read>, s: &'a mut [u32]) -> &'a mut [u32] {
-    let lent = indices(input, s);
-    let given = number(input);
-    fill_indices(input, lent, given);
-    lent
-}
+    // The part of a list that is lent, with the entries given.
+    pub fn list<'a, T: Entry>(&mut self, list: &'a mut [T]) -> &'a mut [T] {
+        let lent = self.lent(list);
+        self.entries(lent);
+        lent
+    }
 
-pub fn prices<'a>(input: &mut Input<impl Read>, s: &'a mut [i64]) -> &'a mut [i64] {
-    let lent = numbers(input, s);
-    let given = number(input);
-    fill_prices(input, lent, given);
-    lent
-}
+    // The costs that are lent, with one that may stand alone.
+    pub fn costs<'a>(&mut self, costs: &'a mut [i32]) -> &'a mut [i32] {
+        let lent = self.list(costs);
+        let place = self.number();
+        let cost = i32::read(self);
+        if place < lent.len() {
+            lent[place] = cost;
+        }
+        lent
+    }
 
-// Writes the part of a text that is lent.
-fn echo(input: &mut Input<impl Read>, out: &mut impl Write, text: &mut [u8]) -> io::Result<()> {
-    let lent = length(input, text.len());
-    input.fill(&mut text[0..lent]);
-    out.write_all(&text[0..lent])
-}
-
-// The night's name, written.
-pub fn name(input: &mut Input<impl Read>, out: &mut impl Write) -> io::Result<()> {
-    let mut text: [u8; 128] = [0; 128];
-    echo(input, out, &mut text)
+    // The night's name, written.
+    pub fn name(&mut self, out: &mut impl Write) -> io::Result<()> {
+        let mut text = [0u8; 128];
+        let name = self.lent(&mut text);
+        self.fill(name);
+        out.write_all(name)
+    }
 }

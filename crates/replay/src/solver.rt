@@ -1,86 +1,106 @@
 // A night of the solver, on the outputs and rooms of the input.
 use crate::read::Input;
-use crate::{kept, read, say};
-use lapjv::Solved;
+use crate::say;
+use lapjv::Sums;
+use matrix::Refusal;
 use std::io;
 use std::io::{Read, Write};
 
-// The night's line.
-fn line(
-    out: &mut impl Write,
-    n: usize,
-    costs: &[i32],
-    solved: Solved,
-    cols: &[u32],
-    rows: &[u32],
-    us: &[i64],
-    vs: &[i64],
-    indices: &[u32],
-    numbers: &[i64],
-) -> io::Result<()> {
-    match solved {
-        Solved::Paired(night) => {
-            say::lists(out, n, cols, rows, us, vs)?;
-            say::sums(out, night)?;
-            say::kept(out, kept::behind(n, cols, rows, us, vs, indices, numbers))?;
-            say::checked(out, checker::check(n, costs, cols, rows, us, vs))
+const MARK: u32 = 2779096485;
+
+const WIDE_MARK: i64 = -6510615555426900571;
+
+// The outputs and rooms. Whatever the solver has to leave holds the mark.
+#[derive(Drop)]
+struct Lists {
+    cols: [u32; 1028],
+    rows: [u32; 1028],
+    us: [i64; 1028],
+    vs: [i64; 1028],
+    indices: [u32; 4104],
+    numbers: [i64; 1028],
+}
+
+// Whether every entry is this one.
+fn all<T: PartialEq + Copy>(list: &[T], entry: T) -> bool {
+    list.iter().all(|x| *x == entry)
+}
+
+impl Lists {
+    // The mark in every entry.
+    fn new() -> Self {
+        Lists {
+            cols: [MARK; 1028],
+            rows: [MARK; 1028],
+            us: [WIDE_MARK; 1028],
+            vs: [WIDE_MARK; 1028],
+            indices: [MARK; 4104],
+            numbers: [WIDE_MARK; 1028],
         }
-        Solved::Refused(refusal) => {
-            say::refused(out, refusal)?;
-            say::kept(out, kept::behind(0, cols, rows, us, vs, indices, numbers))
-        }
+    }
+
+    // The solver on as much of each as the input says.
+    fn solve(
+        &mut self,
+        input: &mut Input<impl Read>,
+        n: usize,
+        costs: &[i32],
+    ) -> Result<Sums, Refusal> {
+        lapjv::solve(
+            n,
+            costs,
+            input.lent(&mut self.cols),
+            input.lent(&mut self.rows),
+            input.lent(&mut self.us),
+            input.lent(&mut self.vs),
+            input.lent(&mut self.indices),
+            input.lent(&mut self.numbers),
+        )
+    }
+
+    // Whether everything behind n entries of each output, 4n indices and n numbers holds the mark, and those indices and numbers are 0.
+    fn kept(&self, n: usize) -> bool {
+        n <= 1024
+            && all(&self.cols[n..], MARK)
+            && all(&self.rows[n..], MARK)
+            && all(&self.us[n..], WIDE_MARK)
+            && all(&self.vs[n..], WIDE_MARK)
+            && all(&self.indices[..4 * n], 0)
+            && all(&self.indices[4 * n..], MARK)
+            && all(&self.numbers[..n], 0)
+            && all(&self.numbers[n..], WIDE_MARK)
+    }
+
+    // The line of a night that is paired.
+    fn say(&self, out: &mut impl Write, n: usize) -> io::Result<()> {
+        say::list(out, &self.cols, n)?;
+        say::list(out, &self.rows, n)?;
+        say::list(out, &self.vs, n)?;
+        say::list(out, &self.us, n)
     }
 }
 
-// The night on these outputs and rooms, as much of each as the input says.
-fn lent(
-    input: &mut Input<impl Read>,
-    out: &mut impl Write,
-    n: usize,
-    costs: &[i32],
-    cols: &mut [u32],
-    rows: &mut [u32],
-    us: &mut [i64],
-    vs: &mut [i64],
-    indices: &mut [u32],
-    numbers: &mut [i64],
-) -> io::Result<()> {
-    let solved = lapjv::solve(
-        n,
-        costs,
-        read::indices(input, cols),
-        read::indices(input, rows),
-        read::numbers(input, us),
-        read::numbers(input, vs),
-        read::indices(input, indices),
-        read::numbers(input, numbers),
-    );
-    line(out, n, costs, solved, cols, rows, us, vs, indices, numbers)
-}
-
-// The outputs and rooms, which hold the mark in every entry.
+// The night's line.
 pub fn night(
     input: &mut Input<impl Read>,
     out: &mut impl Write,
     n: usize,
     costs: &[i32],
 ) -> io::Result<()> {
-    let mut cols: [u32; 1028] = [kept::MARK; 1028];
-    let mut rows: [u32; 1028] = [kept::MARK; 1028];
-    let mut us: [i64; 1028] = [kept::WIDE_MARK; 1028];
-    let mut vs: [i64; 1028] = [kept::WIDE_MARK; 1028];
-    let mut indices: [u32; 4104] = [kept::MARK; 4104];
-    let mut numbers: [i64; 1028] = [kept::WIDE_MARK; 1028];
-    lent(
-        input,
-        out,
-        n,
-        costs,
-        &mut cols,
-        &mut rows,
-        &mut us,
-        &mut vs,
-        &mut indices,
-        &mut numbers,
-    )
+    let mut lists = Lists::new();
+    match lists.solve(input, n, costs) {
+        Ok(sums) => {
+            lists.say(out, n)?;
+            say::sums(out, sums)?;
+            say::kept(out, lists.kept(n))?;
+            say::checked(
+                out,
+                checker::check(n, costs, &lists.cols, &lists.rows, &lists.us, &lists.vs),
+            )
+        }
+        Err(refusal) => {
+            say::refused(out, refusal)?;
+            say::kept(out, lists.kept(0))
+        }
+    }
 }

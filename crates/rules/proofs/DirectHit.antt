@@ -13,6 +13,7 @@ use lib.IntN.{ℤ, pos}
 use lib.Signed.{◌≤ℤ◌, ◌<ℤ◌, lt_z, le_z}
 use lib.ListN.{length}
 use lib.Dec.{ltb}
+use Rattle.std.specs.Prelude.{Option, Some, None}
 use Rattle.ints.proofs.Ranges.{zarith}
 use Rattle.lists.specs.Runs.{Turn, left, and_then, upward, until}
 use Rattle.lists.specs.Permutations.{at, table, exchange}
@@ -21,8 +22,6 @@ use Rattle.lists.proofs.Tables.{length-table, get_d_table}
 use Rattle.lists.proofs.Permutations.{length-exchange, exchange_second, exchange_other}
 use Rattle.lists.proofs.Cases.{cond_cases, below_suc, lt_or_le}
 use Rattle.assignment.specs.Pairings.{signed_at}
-use Rattle.rules.specs.declared.LastFree.{LastFree}
-use Rattle.rules.specs.declared.LastFree.TheVariants.{NoneYet, At}
 use Rattle.rules.specs.Lowest.{reduced}
 use Rattle.rules.specs.Block.{Block, block_with, block_step, block_start, block}
 use Rattle.rules.specs.Search.{Work, Found, last_free, fresh_block, found, after_block, search_block, search_blocks, search_start, found_at, search, new_prices, add_distance}
@@ -176,15 +175,15 @@ module _ (n : ℕ) (cost : ℕ → ℕ → ℤ) (v : ℕ → ℤ) (row : ℕ →
         later : j < k
         later = omega (arith, place.2, R.rises place.0 t a m)
 
-    last_free_is : last_free n row b.list 0 b.hi ≡ At j
+    last_free_is : last_free n row b.list 0 b.hi ≡ Some j
     unfolding last_free
     last_free_is =
         let t = place.0 in
-        let f : ℕ → LastFree → LastFree = λ k found. cond (ltb (row (at b.list k)) n) found (At (at b.list k)) in
-        let e : upward 0 (suc t) f NoneYet ≡ At j =
-        upward-last 0 t f NoneYet (omega arith)
-        ∙ ap (λ (y : ℕ). cond (ltb (row y) n) (upward 0 t f NoneYet) (At y)) place.2 ∙ rw (le-ltb (row j) n H.free) in
-        sym (upward_stays 0 (suc t) b.hi f NoneYet (At j) (omega arith) (omega (arith, place.1)) (sym e)
+        let f : ℕ → Option ℕ → Option ℕ = λ k found. cond (ltb (row (at b.list k)) n) found (Some (at b.list k)) in
+        let e : upward 0 (suc t) f None ≡ Some j =
+        upward-last 0 t f None (omega arith)
+        ∙ ap (λ (y : ℕ). cond (ltb (row y) n) (upward 0 t f None) (Some y)) place.2 ∙ rw (le-ltb (row j) n H.free) in
+        sym (upward_stays 0 (suc t) b.hi f None (Some j) (omega arith) (omega (arith, place.1)) (sym e)
         (λ k a m. rw (lt-ltb (row (at b.list k)) n (rest_taken k (omega arith) m))))
 
     -- THE SEARCH ends in its first block, at column j.

@@ -9,6 +9,7 @@ use borrow.Author.Tests.{eqb-true, eqb-false}
 use lib.Dec.{eqb}
 use lib.IntN.{ℤ}
 use lib.Signed.{le_z, lt_z, ◌≤ℤ◌, ≤ℤ_refl}
+use Rattle.std.specs.Prelude.{Option, Some, None}
 use Rattle.ints.proofs.Shapes.{zlin}
 use Rattle.lists.specs.Runs.{upward}
 use Rattle.lists.proofs.Runs.{upward_keeps, upward_cong}
@@ -16,8 +17,6 @@ use Rattle.lists.proofs.Cases.{cond_cases, below_suc}
 use Rattle.rules.specs.declared.Low.{Low}
 use Rattle.rules.specs.declared.TwoLowest.{TwoLowest}
 use Rattle.rules.specs.declared.TwoLowest.TheVariants.{One, Two}
-use Rattle.rules.specs.declared.LeastSoFar.{LeastSoFar}
-use Rattle.rules.specs.declared.LeastSoFar.TheVariants.{NoneYet, Of}
 use Rattle.rules.specs.Lowest.{low, beside, two_step, two_lowest, lower, lowest, least, least_but}
 
 -- ---- the lowest
@@ -57,16 +56,16 @@ pub record IsLeastBut (f : ℕ → ℤ) (j m : ℕ) (b : ℤ) : Type 0 where
   pub one : (k : ℕ) × (k < m) × (k ≢ j) × (b ≡ f k)
 
 -- None yet: there is no other place.
-abbrev pub RightBut : (ℕ → ℤ) → ℕ → ℕ → LeastSoFar → Type 0
-RightBut f j m NoneYet = (k : ℕ) → k < m → k ≡ j
-RightBut f j m (Of b) = IsLeastBut f j m b
+abbrev pub RightBut : (ℕ → ℤ) → ℕ → ℕ → Option ℤ → Type 0
+RightBut f j m None = (k : ℕ) → k < m → k ≡ j
+RightBut f j m (Some b) = IsLeastBut f j m b
 
-least_is : (f : ℕ → ℤ) (j m : ℕ) → m ≢ j → (o : LeastSoFar) → RightBut f j m o → RightBut f j (suc m) (least o (f m))
-least_is f j m d NoneYet r = record {
+least_is : (f : ℕ → ℤ) (j m : ℕ) → m ≢ j → (o : Option ℤ) → RightBut f j m o → RightBut f j (suc m) (least o (f m))
+least_is f j m d None r = record {
   no_lower = below_suc (λ k. k ≢ j → f m ≤ℤ f k) (λ k l e. absurd (e (r k l))) (λ e. ≤ℤ_refl (f m));
   one = (m, omega arith, d, refl);
 }
-least_is f j m d (Of a) r =
+least_is f j m d (Some a) r =
     cond_cases (lt_z (f m) a) (IsLeastBut f j (suc m)) (f m) a
     (λ t. record {
       no_lower = below_suc (λ k. k ≢ j → f m ≤ℤ f k) (λ k l e. omega (zlin, r.no_lower k l e)) (λ e. ≤ℤ_refl (f m));
@@ -77,9 +76,9 @@ least_is f j m d (Of a) r =
       one = (r.one.0, omega (arith, r.one.1), r.one.2, r.one.3);
     })
 
-same_is : (f : ℕ → ℤ) (j m : ℕ) → m ≡ j → (o : LeastSoFar) → RightBut f j m o → RightBut f j (suc m) o
-same_is f j m e NoneYet r = below_suc (λ k. k ≡ j) r e
-same_is f j m e (Of a) r = record {
+same_is : (f : ℕ → ℤ) (j m : ℕ) → m ≡ j → (o : Option ℤ) → RightBut f j m o → RightBut f j (suc m) o
+same_is f j m e None r = below_suc (λ k. k ≡ j) r e
+same_is f j m e (Some a) r = record {
   no_lower = below_suc (λ k. k ≢ j → a ≤ℤ f k) r.no_lower (λ d. absurd (d e));
   one = (r.one.0, omega (arith, r.one.1), r.one.2, r.one.3);
 }
@@ -87,7 +86,7 @@ same_is f j m e (Of a) r = record {
 pub least_but_is : (n : ℕ) (f : ℕ → ℤ) (j : ℕ) → RightBut f j n (least_but n f j)
 unfolding least_but
 least_but_is n f j =
-    upward_keeps (RightBut f j) 0 n (λ k found. cond (eqb k j) found (least found (f k))) NoneYet (omega arith)
+    upward_keeps (RightBut f j) 0 n (λ k found. cond (eqb k j) found (least found (f k))) None (omega arith)
     (λ k l. absurd (omega arith))
     (λ k o l m r. cond_cases (eqb k j) (RightBut f j (suc k)) o (least o (f k))
     (λ t. same_is f j k (eqb-true k j t) o r) (λ t. least_is f j k (eqb-false k j t) o r))
@@ -183,5 +182,5 @@ two_lowest_cong n f g one e =
 pub least_but_cong : (n : ℕ) (f g : ℕ → ℤ) (j : ℕ) → ((k : ℕ) → k < n → f k ≡ g k) → least_but n f j ≡ least_but n g j
 unfolding least_but
 least_but_cong n f g j e =
-    upward_cong 0 n (λ k found. cond (eqb k j) found (least found (f k))) (λ k found. cond (eqb k j) found (least found (g k))) NoneYet
+    upward_cong 0 n (λ k found. cond (eqb k j) found (least found (f k))) (λ k found. cond (eqb k j) found (least found (g k))) None
     (λ k t l m. ap (λ (x : ℤ). cond (eqb k j) t (least t x)) (e k m))

@@ -12,6 +12,7 @@ use lib.Dec.{ltb}
 use lib.IntN.{ℤ, ◌-ℤ◌}
 use lib.Signed.{lt_z}
 use lib.ListN.{length}
+use Rattle.std.specs.Prelude.{Option, Some, None}
 use Rattle.lists.specs.Runs.{Turn, on, left, until}
 use Rattle.lists.specs.Permutations.{at, table, Permutation}
 use Rattle.lists.proofs.Runs.{upward_none, until_none}
@@ -20,8 +21,6 @@ use Rattle.lists.proofs.InStep.{until-same}
 use Rattle.lists.proofs.Tables.{length-table, get_d_table, table_cong}
 use Rattle.lists.proofs.Permutations.{exchange_second, exchange_other, exchange_permutation}
 use Rattle.lists.proofs.Cases.{cond_cases, lt_or_le}
-use Rattle.rules.specs.declared.LastFree.{LastFree}
-use Rattle.rules.specs.declared.LastFree.TheVariants.{NoneYet, At}
 use Rattle.rules.specs.Lowest.{reduced}
 use Rattle.rules.specs.Block.{Block, block_step, block_start, block}
 use Rattle.rules.specs.Search.{Work, Hit, work_of, same, reach_by, join, count_one, after_lowering, scan_column, scan_row, scan, last_free, fresh_block, after_scan, after_block, search_block, search_blocks, search_start, found_at, search}
@@ -158,7 +157,7 @@ module _ (n : ℕ) (cost cost' : ℕ → ℕ → ℤ) (v v' : ℕ → ℤ) (row 
       q : Work
       q = fresh_block n w.hi w
 
-      Goal : LastFree → Type 0
+      Goal : Option ℕ → Type 0
       Goal o = Either Listed Any (after_block n cost v row w.hi q o) × (after_block n cost v row w.hi q o ≡ after_block n cost' v' row w.hi q o)
 
       within : w.hi < n → Goal (last_free n row q.list w.hi q.hi)
@@ -166,9 +165,9 @@ module _ (n : ℕ) (cost cost' : ℕ → ℕ → ℤ) (v v' : ℕ → ℤ) (row 
           let B = block_of_minima n w.distances w.hi w.list P l in
           by (last_free n row q.list w.hi q.hi) (last_free_sought n row q.list w.hi q.hi (omega (arith, B.order)))
         where
-          by : (o : LastFree) → Sought n row q.list w.hi q.hi o → Goal o
-          by (At j) S = (is_left_lem tt, refl)
-          by NoneYet S =
+          by : (o : Option ℕ) → Sought n row q.list w.hi q.hi o → Goal o
+          by (Some j) S = (is_left_lem tt, refl)
+          by None S =
               let B = block_of_minima n w.distances w.hi w.list P l in
               let r = scan_same w.hi q (record { permutation = B.permutation; few = omega (arith, B.order); paired = S }) (omega arith) in
               (after w.hi q.hi (scan n cost v row w.hi q) r.0, ap (after_scan w.hi q.hi) r.1)
@@ -177,9 +176,9 @@ module _ (n : ℕ) (cost cost' : ℕ → ℕ → ℤ) (v v' : ℕ → ℤ) (row 
       past : n ≤ w.hi → Goal (last_free n row q.list w.hi q.hi)
       past l = by (last_free n row q.list w.hi q.hi)
         where
-          by : (o : LastFree) → Goal o
-          by (At j) = (is_left_lem tt, refl)
-          by NoneYet = (
+          by : (o : Option ℕ) → Goal o
+          by (Some j) = (is_left_lem tt, refl)
+          by None = (
             subst (λ (t : Turn Work Hit). Either Listed Any (after_scan w.hi q.hi t)) (sym (scan_past n cost v row w.hi q l))
                 (goes_on (subst (Permutation n) (sym (block_past n w.distances w.hi w.list l)) P)),
             ap (after_scan w.hi q.hi) (scan_past n cost v row w.hi q l ∙ sym (scan_past n cost' v' row w.hi q l)),

@@ -6,14 +6,13 @@ use Prim.Native.Nat.{ℕ, ◌≤◌, ◌<◌}
 use native.Mathlib.Omega.{arith}
 use lib.IntN.{ℤ, pos}
 use lib.Signed.{◌≤ℤ◌}
+use Rattle.std.specs.Prelude.{Option, Some, None}
 use Rattle.ints.proofs.Ranges.{zarith}
 use Rattle.lists.specs.Runs.{Turn, on, left}
 use Rattle.lists.proofs.Injections.{reached}
 use Rattle.lists.proofs.Tables.{length-table, get_d_table}
 use Rattle.lists.proofs.Leaving.{Either, goes_on, is_left_lem, either_map, until_keeps, until-longer}
 use Rattle.lists.proofs.Cases.{lt_or_le}
-use Rattle.rules.specs.declared.LastFree.{LastFree}
-use Rattle.rules.specs.declared.LastFree.TheVariants.{NoneYet, At}
 use Rattle.rules.specs.Lowest.{reduced}
 use Rattle.rules.specs.Block.{Block, block}
 use Rattle.rules.specs.Search.{Work, Hit, Found, scan, last_free, fresh_block, found, after_scan, after_block, search_block, search_blocks, search_start, found_at, search}
@@ -209,13 +208,13 @@ module _ (n : ℕ) (cost : ℕ → ℕ → ℤ) (v : ℕ → ℤ) (row : ℕ →
         after (on x) (goes_on C) = goes_on (scanned_head w.hi (b w H l).minimum x C, C.scanning.order.1)
         after (left h) (is_left_lem X) = is_left_lem ((b w H l).minimum, hit_end w.hi (q w H l).hi (b w H l).minimum h X)
 
-        by : (o : LastFree) → Sought n row (q w H l).list w.hi (q w H l).hi o → Either (λ x. Head x × (w.hi < x.hi)) Good (after_block n cost v row w.hi (q w H l) o)
-        by (At j) S = is_left_lem (
+        by : (o : Option ℕ) → Sought n row (q w H l).list w.hi (q w H l).hi o → Either (λ x. Head x × (w.hi < x.hi)) Good (after_block n cost v row w.hi (q w H l) o)
+        by (Some j) S = is_left_lem (
           (b w H l).minimum,
           subst (λ (x : ℕ). Ended (found w.hi (record { lo = w.hi; hi = (q w H l).hi }) x (q w H l)) (b w H l).minimum) S.3
               (to_end w H l S.0 S.1 S.2 (subst (λ (x : ℕ). n ≤ row x) (sym S.3) S.4)),
         )
-        by NoneYet S = after (scan n cost v row w.hi (q w H l)) (scan_counted_or_left n cost v row s floor F w.hi (b w H l).minimum w.hi (q w H l) (omega (arith, l)) (to_scan w H l S))
+        by None S = after (scan n cost v row w.hi (q w H l)) (scan_counted_or_left n cost v row s floor F w.hi (b w H l).minimum w.hi (q w H l) (omega (arith, l)) (to_scan w H l S))
 
     -- Within m blocks: m columns are settled, or the search is left.
     blocks_grow_or_end : (m : ℕ) (w : Work) → Head w → Either (λ x. Head x × (m ≤ x.hi)) Good (search_blocks n cost v row m w)

@@ -10,6 +10,7 @@ use lib.Dec.{ltb, eqb}
 use lib.IntN.{ℤ, ◌+ℤ◌, ◌-ℤ◌}
 use lib.Signed.{lt_z}
 use lib.ListN.{length, set, length-set}
+use Rattle.std.specs.Prelude.{Option, Some, None}
 use Rattle.ints.proofs.Sums.{sum, dif}
 use Rattle.ints.proofs.Shapes.{zlin}
 use Rattle.lists.specs.Runs.{upward, downward}
@@ -24,8 +25,6 @@ use Rattle.assignment.proofs.Amounts.{price_risen}
 use Rattle.rules.specs.declared.Low.{Low}
 use Rattle.rules.specs.declared.TwoLowest.{TwoLowest}
 use Rattle.rules.specs.declared.TwoLowest.TheVariants.{One, Two}
-use Rattle.rules.specs.declared.LeastSoFar.{LeastSoFar}
-use Rattle.rules.specs.declared.LeastSoFar.TheVariants.{NoneYet, Of}
 use Rattle.rules.specs.declared.Choice.{Choice}
 use Rattle.rules.specs.Lowest.{reduced, two_lowest, least_but}
 use Rattle.rules.specs.Columns.{Stage, minimum, Claims, claim, claims, Transfer, less_least, lower_column, transfer, untransferred, transfers, stage_of, column_reduction}
@@ -85,13 +84,13 @@ module _ (n : ℕ) (one : 1 ≤ n) (amount : ℕ → ℤ) (cost cost' : ℕ → 
       ap (λ (v : List ℤ). record { prices = v; frees = table n (λ i. 0); count = 0 })
       (table-risen amount n (λ j. (minimum n cost j).value) (λ j. (minimum n cost' j).value) (λ j l. ap (λ (a : Low). a.value) (minimum_plus j l)))
 
-  less_least_plus : (x y d : ℤ) (h : LeastSoFar) → y ≡ x +ℤ d → less_least y h ≡ less_least x h +ℤ d
-  less_least_plus x y d NoneYet e = e
-  less_least_plus x y d (Of h) e = omega (zlin, dif x h)
+  less_least_plus : (x y d : ℤ) (h : Option ℤ) → y ≡ x +ℤ d → less_least y h ≡ less_least x h +ℤ d
+  less_least_plus x y d None e = e
+  less_least_plus x y d (Some h) e = omega (zlin, dif x h)
 
   lower_column-risen : (i j : ℕ) (v : List ℤ) → i < n → length v ≡ n → lower_column n cost' i j (risen amount v) ≡ risen amount (lower_column n cost i j v)
   lower_column-risen i j v l size =
-      ap (λ (h : LeastSoFar). set (risen amount v) j (less_least (signed_at (risen amount v) j) h))
+      ap (λ (h : Option ℤ). set (risen amount v) j (less_least (signed_at (risen amount v) j) h))
       (least_but_cong n (reduced cost' (signed_at (risen amount v)) i) (reduced cost (signed_at v) i) j (λ k m. reduced-same n amount cost cost' added v size i k l m))
       ∙ set-risen amount v j (less_least (signed_at v j) (least_but n (reduced cost (signed_at v) i) j))
       (less_least (signed_at (risen amount v) j) (least_but n (reduced cost (signed_at v) i) j))

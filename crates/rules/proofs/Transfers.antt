@@ -12,6 +12,7 @@ use lib.IntN.{ℤ, pos}
 use lib.Signed.{◌≤ℤ◌, ≤ℤ_refl}
 use lib.ListN.{length, set, length-set}
 use lib.Seq.{get_or-set_same, get_or-set_other}
+use Rattle.std.specs.Prelude.{Option, Some, None}
 use Rattle.ints.specs.Parts.{Within}
 use Rattle.ints.proofs.Sums.{dif}
 use Rattle.ints.proofs.Shapes.{zlin}
@@ -20,8 +21,6 @@ use Rattle.lists.proofs.Runs.{upward_keeps}
 use Rattle.lists.proofs.Tables.{length-table, get_d_table}
 use Rattle.lists.proofs.Cases.{cond_cases, here_or_elsewhere}
 use Rattle.assignment.specs.Pairings.{signed_at}
-use Rattle.rules.specs.declared.LeastSoFar.{LeastSoFar}
-use Rattle.rules.specs.declared.LeastSoFar.TheVariants.{NoneYet, Of}
 use Rattle.rules.specs.Lowest.{reduced, least_but}
 use Rattle.rules.specs.Columns.{free, Pairs, Stage, Claims, claims, Transfer, less_least, lower_column, transfer, untransferred, transfers, column_reduction}
 use Rattle.rules.specs.Asked.{Agree}
@@ -32,14 +31,14 @@ use Rattle.rules.proofs.Claims.{first, first-cost, first-least, first-low, first
 
 -- A price at its cost, less the least of the other reduced costs.
 less_lowers : (n : ℕ) (cost : ℕ → ℕ → ℤ) (v : ℕ → ℤ) (i j : ℕ) → j < n → v j ≡ cost i j → ((k : ℕ) → k < n → v k ≤ℤ cost i k)
-    → (o : LeastSoFar) → RightBut (reduced cost v i) j n o → Lowers n cost v i j (less_least (v j) o)
-less_lowers n cost v i j l e h NoneYet r = record {
+    → (o : Option ℤ) → RightBut (reduced cost v i) j n o → Lowers n cost v i j (less_least (v j) o)
+less_lowers n cost v i j l e h None r = record {
   column_below = l;
   not_raised = ≤ℤ_refl (v j);
   at_minimum = λ k m d. absurd (d (r k m));
   source = inl refl;
 }
-less_lowers n cost v i j l e h (Of b) r =
+less_lowers n cost v i j l e h (Some b) r =
     let k₀ = r.one.0 in
     record {
       column_below = l;

@@ -1,11 +1,9 @@
 -- Rule 3, column reduction and transfer.
-use Rattle.std.specs.Prelude.{cond, List, ℕ, ◌+◌, ℤ, ◌-ℤ◌, set, eqb}
+use Rattle.std.specs.Prelude.{cond, List, ℕ, ◌+◌, ℤ, ◌-ℤ◌, set, eqb, Option, Some, None}
 use Rattle.lists.specs.Runs.{upward, downward}
 use Rattle.lists.specs.Permutations.{at, table}
 use Rattle.assignment.specs.Pairings.{signed_at}
 use Rattle.rules.specs.declared.Low.{Low}
-use Rattle.rules.specs.declared.LeastSoFar.{LeastSoFar}
-use Rattle.rules.specs.declared.LeastSoFar.TheVariants.{NoneYet, Of}
 use Rattle.rules.specs.Lowest.{reduced, lowest, least_but}
 
 -- The row of a free column: the free mark, which is no row.
@@ -64,9 +62,9 @@ pub record Transfer : Type 0 where
   pub count : ℕ
 
 -- A price, lowered by a least value. Side 1 has no other column, and there the price stays.
-abbrev pub less_least : ℤ → LeastSoFar → ℤ
-less_least v NoneYet = v
-less_least v (Of h) = v -ℤ h
+abbrev pub less_least : ℤ → Option ℤ → ℤ
+less_least v None = v
+less_least v (Some h) = v -ℤ h
 
 -- A unique row i lowers the price of its column j.
 abbrev pub lower_column : ℕ → (ℕ → ℕ → ℤ) → ℕ → ℕ → List ℤ → List ℤ

@@ -1,12 +1,10 @@
 -- Rule 1, the two lowest; and the two least values that rule 3 needs.
-use Rattle.std.specs.Prelude.{cond, ℕ, ℤ, ◌-ℤ◌, eqb}
+use Rattle.std.specs.Prelude.{cond, ℕ, ℤ, ◌-ℤ◌, eqb, Option, Some, None}
 use Rattle.std.specs.Int.Signed.{lt_z, le_z}
 use Rattle.lists.specs.Runs.{upward}
 use Rattle.rules.specs.declared.Low.{Low}
 use Rattle.rules.specs.declared.TwoLowest.{TwoLowest}
 use Rattle.rules.specs.declared.TwoLowest.TheVariants.{One, Two}
-use Rattle.rules.specs.declared.LeastSoFar.{LeastSoFar}
-use Rattle.rules.specs.declared.LeastSoFar.TheVariants.{NoneYet, Of}
 
 -- "Reduced cost of (i, j) is cost minus column price v[j]."
 abbrev pub reduced : (ℕ → ℕ → ℤ) → (ℕ → ℤ) → ℕ → ℕ → ℤ
@@ -41,10 +39,10 @@ unfoldable pub lowest : ℕ → (ℕ → ℤ) → Low
 lowest n f = upward 1 n (λ i found. lower found (low (f i) i)) (low (f 0) 0)
 
 -- A value beside the least so far.
-abbrev pub least : LeastSoFar → ℤ → LeastSoFar
-least NoneYet h = Of h
-least (Of a) h = Of (cond (lt_z h a) h a)
+abbrev pub least : Option ℤ → ℤ → Option ℤ
+least None h = Some h
+least (Some a) h = Some (cond (lt_z h a) h a)
 
 -- The least of f 0, f 1, .., f (n - 1) but f j.
-unfoldable pub least_but : ℕ → (ℕ → ℤ) → ℕ → LeastSoFar
-least_but n f j = upward 0 n (λ k found. cond (eqb k j) found (least found (f k))) NoneYet
+unfoldable pub least_but : ℕ → (ℕ → ℤ) → ℕ → Option ℤ
+least_but n f j = upward 0 n (λ k found. cond (eqb k j) found (least found (f k))) None

@@ -1,12 +1,10 @@
 -- Rule 5, scan and search. `v j` is the price of column j and `row j` the row that it is paired with: n or more where j is free.
-use Rattle.std.specs.Prelude.{Bool, false, cond, List, ℕ, ◌+◌, ℤ, ◌+ℤ◌, ◌-ℤ◌, set, ltb}
+use Rattle.std.specs.Prelude.{Bool, false, cond, List, ℕ, ◌+◌, ℤ, ◌+ℤ◌, ◌-ℤ◌, set, ltb, Option, Some, None}
 use Rattle.std.specs.Int.Signed.{lt_z, le_z}
 use Rattle.lists.specs.Runs.{upward, Turn, on, left, until}
 use Rattle.lists.specs.Permutations.{at, table, exchange}
 use Rattle.assignment.specs.Pairings.{signed_at}
 use Rattle.rules.specs.declared.Cursor.{Cursor}
-use Rattle.rules.specs.declared.LastFree.{LastFree}
-use Rattle.rules.specs.declared.LastFree.TheVariants.{NoneYet, At}
 use Rattle.rules.specs.Lowest.{reduced}
 use Rattle.rules.specs.Block.{block}
 
@@ -82,8 +80,8 @@ module _ (n : ℕ) (cost : ℕ → ℕ → ℤ) (v : ℕ → ℤ) (row : ℕ →
 -- source has no early exit. [..] lo and hi then keep their values from before that scan."
 
 -- The last free column of the places from lo up to hi.
-unfoldable pub last_free : ℕ → (ℕ → ℕ) → List ℕ → ℕ → ℕ → LastFree
-last_free n row list lo hi = upward lo hi (λ k found. cond (ltb (row (at list k)) n) found (At (at list k))) NoneYet
+unfoldable pub last_free : ℕ → (ℕ → ℕ) → List ℕ → ℕ → ℕ → Option ℕ
+last_free n row list lo hi = upward lo hi (λ k found. cond (ltb (row (at list k)) n) found (Some (at list k))) None
 
 -- The work with its block of minima from lo on.
 abbrev pub fresh_block : ℕ → ℕ → Work → Work
@@ -106,9 +104,9 @@ found_at (on w) = found 0 (record { lo = 0; hi = 0 }) 0 w
 
 module _ (n : ℕ) (cost : ℕ → ℕ → ℤ) (v : ℕ → ℤ) (row : ℕ → ℕ) where
   -- A fresh block, from lo on: it has a free column, or it is scanned.
-  abbrev pub after_block : ℕ → Work → LastFree → Turn Work Found
-  after_block lo w (At j) = left (found lo (record { lo = lo; hi = w.hi }) j w)
-  after_block lo w NoneYet = after_scan lo w.hi (scan n cost v row lo w)
+  abbrev pub after_block : ℕ → Work → Option ℕ → Turn Work Found
+  after_block lo w (Some j) = left (found lo (record { lo = lo; hi = w.hi }) j w)
+  after_block lo w None = after_scan lo w.hi (scan n cost v row lo w)
 
   -- One block. Between two blocks lo and hi are the same.
   abbrev pub search_block : Work → Turn Work Found

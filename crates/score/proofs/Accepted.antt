@@ -13,12 +13,12 @@ use lib.Seq.{take_at}
 use Rattle.lists.proofs.Tables.{length-table, get_d_table}
 use Rattle.layout.proofs.Sheets.{sheet_length_lem}
 use Rattle.assignment.specs.Pairings.{square}
-use Rattle.matrix.specs.Refusals.{number_of}
+use Rattle.matrix.specs.Refusals.{number, number_of}
 use Rattle.matrix.specs.Verdicts.{Passes, fails_if, fails_at}
-use Rattle.matrix.specs.declared.Refusal.{Refusal}
-use Rattle.matrix.specs.declared.Verdict.{Verdict}
-use Rattle.matrix.specs.declared.Verdict.TheVariants.{Passed, Fails}
-use Rattle.matrix.specs.declared.Answer.TheVariants.{Total}
+use Rattle.matrix.specs.declared.refusals.Reason.{Reason}
+use Rattle.matrix.specs.declared.refusals.Refusal.{Refusal}
+use Rattle.matrix.specs.Verdicts.{Verdict}
+use Rattle.std.specs.Prelude.{Ok, Err}
 use Rattle.matrix.proofs.Places.{place-below}
 use Rattle.matrix.proofs.Verdicts.{Every, then_every, fails_by_every, fails_at_by_every}
 use Rattle.score.specs.Score.{score_of, score}
@@ -33,11 +33,11 @@ use Rattle.score.proofs.Passing.{sheet_tests_iff}
 abbrev Numbered : Refusal → Type 0
 Numbered refusal = 0 < number_of refusal
 
-if_numbered : (number place : ℕ) (test : Bool) → 0 < number → Every Numbered (fails_if number place test)
-if_numbered number place test l = fails_by_every Numbered number place (pos 0) test (λ e. l)
+if_numbered : (reason : Reason) (place : ℕ) (test : Bool) → 0 < number reason → Every Numbered (fails_if reason place test)
+if_numbered reason place test l = fails_by_every Numbered reason place (pos 0) test (λ e. l)
 
-at-numbered : (number : ℕ) (place : ℕ → ℕ) (n : ℕ) (test : ℕ → Bool) → 0 < number → Every Numbered (fails_at number place n test)
-at-numbered number place n test l = fails_at_by_every Numbered number place (λ k. pos 0) n test (λ k h e clear. l)
+at-numbered : (reason : Reason) (place : ℕ → ℕ) (n : ℕ) (test : ℕ → Bool) → 0 < number reason → Every Numbered (fails_at reason place n test)
+at-numbered reason place n test l = fails_at_by_every Numbered reason place (λ k. pos 0) n test (λ k h e clear. l)
 
 tests_numbered : (firsts seconds : List ℕ) (room : ℕ) → Every Numbered (sheet_tests firsts seconds room)
 unfolding sheet_tests
@@ -54,8 +54,8 @@ module _ (firsts seconds room : List ℕ) where
   accepted_iff = (by (sheet_tests firsts seconds (length room)) (tests_numbered firsts seconds (length room)), λ e. ap (λ (v : Verdict). (filled_if firsts seconds room v).number) e)
     where
       by : (v : Verdict) → Every Numbered v → (filled_if firsts seconds room v).number ≡ 0 → Passes v
-      by Passed h e = refl
-      by (Fails refusal) h e = absurd (omega arith)
+      by (Ok _) h e = refl
+      by (Err refusal) h e = absurd (omega arith)
 
   abbrev n : ℕ
   n = reference_count firsts
@@ -73,7 +73,7 @@ module _ (firsts seconds room : List ℕ) where
         (omega (arith, sheet_length_lem 1 [] n (scores n firsts seconds) [], length-table (n * n) (score_at n firsts seconds)))
 
     -- The cost of a row and a column is the score of their references.
-    pub cost_scored : (i j : ℕ) → i < n → j < n → score (reference i firsts) (reference j seconds) ≡ Total ((square n (scores n firsts seconds)).cost i j)
+    pub cost_scored : (i j : ℕ) → i < n → j < n → score (reference i firsts) (reference j seconds) ≡ Ok ((square n (scores n firsts seconds)).cost i j)
     cost_scored i j l m =
         (score_iff (reference i firsts) (reference j seconds)).1 ((reference-known n firsts accepted_lists.rows i l, reference-known n seconds accepted_lists.columns j m), stands)
       where

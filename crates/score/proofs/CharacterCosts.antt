@@ -22,9 +22,6 @@ known_cases b e = by _ _ e refl refl
     by false t h d f = let p = and_true (leb 65 b) (leb b 90) (f ∙ h) in inr (leb-true 65 b p.0, leb-true b 90 p.1)
 
 module _ (b : ℕ) (e : known b ≡ true) where
-  pub known_from : 48 ≤ b
-  known_from = elim (known_cases b e) [ inl d ↦ omega (arith, d) | inr d ↦ omega (arith, d) ]
-
   pub numbered_below : numbered b < 36
   numbered_below =
       elim (known_cases b e) [

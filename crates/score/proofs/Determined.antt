@@ -3,7 +3,7 @@ use mathlib.Core.Path.{◌≡◌, sym, ◌∙◌}
 use mathlib.Core.List.{List}
 use Prim.Native.Nat.{ℕ}
 use Rattle.matrix.specs.Answers.{values_of}
-use Rattle.matrix.specs.declared.Answer.{Answer}
+use Rattle.matrix.specs.Answers.{Answer}
 use Rattle.matrix.proofs.Determined.{values_determine}
 use Rattle.score.specs.Score.{score}
 use Rattle.score.specs.ScoreSheet.{Filled, score_sheet}

@@ -12,7 +12,7 @@ use Rattle.ints.proofs.Shapes.{zlin}
 use Rattle.lists.specs.Permutations.{at}
 use Rattle.lists.specs.Sums.{sum}
 use Rattle.lists.proofs.Sums.{sum_cong, sum_zero, sum_add, sum_le, sum_le_tight, sum_within}
-use Rattle.matrix.specs.declared.Answer.TheVariants.{Total}
+use Rattle.std.specs.Prelude.{Ok}
 use Rattle.score.specs.Characters.{Reference, character_cost}
 use Rattle.score.specs.Score.{score_of, score}
 use Rattle.score.proofs.CharacterCosts.{cost_small, cost-same, cost_symmetric, cost_zero, cost_detour}
@@ -56,18 +56,18 @@ module _ (x y : List ℕ) (rx : Reference x) (ry : Reference y) where
 
 -- ---- the entry
 
-pub score_symmetric : (x y : List ℕ) {t : ℤ} → score x y ≡ Total t → score y x ≡ Total t
+pub score_symmetric : (x y : List ℕ) {t : ℤ} → score x y ≡ Ok t → score y x ≡ Ok t
 score_symmetric x y e =
     let s = (score_iff x y).0 e in
     (score_iff y x).1 ((s.0.1, s.0.0), s.1 ∙ sum_symmetric x y s.0.0 s.0.1)
 
-pub score_zero : (x y : List ℕ) → (score x y ≡ Total (pos 0)) ↔ (Reference x × (x ≡ y))
+pub score_zero : (x y : List ℕ) → (score x y ≡ Ok (pos 0)) ↔ (Reference x × (x ≡ y))
 score_zero x y = (
   λ e. let s = (score_iff x y).0 e in (s.0.0, sum_equal x y s.0.0 s.0.1 (sym s.1)),
   λ h. ap (λ (z : List ℕ). score x z) (sym h.1) ∙ (score_iff x x).1 ((h.0, h.0), sym (sum_same x)),
 )
 
-pub score_detour : (x y z : List ℕ) {s t : ℤ} → score x y ≡ Total s → score y z ≡ Total t → (score x z ≡ Total (score_of x z)) × (score_of x z ≤ℤ (s +ℤ t))
+pub score_detour : (x y z : List ℕ) {s t : ℤ} → score x y ≡ Ok s → score y z ≡ Ok t → (score x z ≡ Ok (score_of x z)) × (score_of x z ≤ℤ (s +ℤ t))
 score_detour x y z e f =
     let a = (score_iff x y).0 e in
     let b = (score_iff y z).0 f in

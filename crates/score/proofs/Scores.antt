@@ -10,7 +10,7 @@ use borrow.Author.Tests.{eqb-true, eq-eqb, not-false}
 use lib.IntN.{ℤ}
 use lib.ListN.{length}
 use Rattle.matrix.specs.Verdicts.{Passes}
-use Rattle.matrix.specs.declared.Answer.TheVariants.{Total}
+use Rattle.std.specs.Prelude.{Ok}
 use Rattle.matrix.proofs.Verdicts.{then_iff, fails_if_iff, fails_at_iff, totalled_iff}
 use Rattle.score.specs.Characters.{Known, Reference}
 use Rattle.score.specs.Score.{lengths_twelve, pair_place, characters_known, score_tests, score_of, score}
@@ -51,7 +51,7 @@ tests_iff first second =
     )
 
 -- Two references, and only they, have a score.
-pub score_iff : (first second : List ℕ) {t : ℤ} → (score first second ≡ Total t) ↔ ((Reference first × Reference second) × (t ≡ score_of first second))
+pub score_iff : (first second : List ℕ) {t : ℤ} → (score first second ≡ Ok t) ↔ ((Reference first × Reference second) × (t ≡ score_of first second))
 unfolding score
 score_iff first second =
     let s = totalled_iff (score_tests first second) (score_of first second) in

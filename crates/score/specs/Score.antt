@@ -2,11 +2,9 @@
 use Rattle.std.specs.Prelude.{not, List, ℕ, ◌+◌, ◌*◌, ◌/◌, ◌%◌, eqb, ℤ, pos, length}
 use Rattle.lists.specs.Permutations.{at}
 use Rattle.lists.specs.Sums.{sum}
-use Rattle.matrix.specs.Refusals.{ReferenceLength, CharacterUnknown}
-use Rattle.matrix.specs.Verdicts.{◌then◌, fails_if, fails_at}
-use Rattle.matrix.specs.Answers.{totalled}
-use Rattle.matrix.specs.declared.Verdict.{Verdict}
-use Rattle.matrix.specs.declared.Answer.{Answer}
+use Rattle.matrix.specs.declared.refusals.Reason.TheVariants.{ReferenceLength, CharacterUnknown}
+use Rattle.matrix.specs.Verdicts.{Verdict, ◌then◌, fails_if, fails_at}
+use Rattle.matrix.specs.Answers.{Answer, totalled}
 use Rattle.score.specs.Characters.{foreign, character_cost}
 
 -- 18, "A wrong length is 18, place 1 or 2".

@@ -1,13 +1,12 @@
 -- A sheet of scores: two lists of references, every reference of the first with every one of the second.
-use Rattle.std.specs.Prelude.{Bool, not, ◌||◌, List, [], ◌++◌, ℕ, ◌+◌, ◌*◌, ◌/◌, ◌%◌, ltb, eqb, ℤ, length, drop}
+use Rattle.std.specs.Prelude.{Bool, not, ◌||◌, List, [], ◌++◌, ℕ, ◌+◌, ◌*◌, ◌/◌, ◌%◌, ltb, eqb, ℤ, length, drop, Ok, Err}
 use Rattle.lists.specs.Parts.{part}
 use Rattle.lists.specs.Permutations.{table}
 use Rattle.layout.specs.Sheets.{sheet_of}
 use Rattle.matrix.specs.Limits.{sheet_side}
-use Rattle.matrix.specs.Refusals.{SheetSideOver, SlipRoomShort, ReferenceLength, code_of}
-use Rattle.matrix.specs.Verdicts.{◌then◌, fails_if}
-use Rattle.matrix.specs.declared.Verdict.{Verdict}
-use Rattle.matrix.specs.declared.Verdict.TheVariants.{Passed, Fails}
+use Rattle.matrix.specs.Refusals.{code_of}
+use Rattle.matrix.specs.declared.refusals.Reason.TheVariants.{SheetSideOver, SlipRoomShort, ReferenceLength}
+use Rattle.matrix.specs.Verdicts.{Verdict, ◌then◌, fails_if}
 use Rattle.score.specs.Score.{characters_known, score_of}
 
 -- How many references a list has, and the one with number i.
@@ -56,8 +55,8 @@ pub record Filled : Type 0 where
 
 -- A refusal writes nothing; "room past the sheet is untouched".
 abbrev pub filled_if : List ℕ → List ℕ → List ℕ → Verdict → Filled
-filled_if firsts seconds room Passed = record { number = 0; sheet = scored_sheet firsts seconds ++ drop (sheet_length (reference_count firsts)) room }
-filled_if firsts seconds room (Fails refusal) = record { number = code_of refusal; sheet = room }
+filled_if firsts seconds room (Ok _) = record { number = 0; sheet = scored_sheet firsts seconds ++ drop (sheet_length (reference_count firsts)) room }
+filled_if firsts seconds room (Err refusal) = record { number = code_of refusal; sheet = room }
 
 unfoldable pub score_sheet : List ℕ → List ℕ → List ℕ → Filled
 score_sheet firsts seconds room = filled_if firsts seconds room (sheet_tests firsts seconds (length room))

@@ -1,57 +1,61 @@
 // A sheet of scores, written part by part.
-ghost use Rattle.std.specs.Prelude.{◌≡◌, ◌+◌, ◌*◌, ◌<◌, ◌≤◌, pos, length, drop};
+ghost use Rattle.std.specs.Prelude.{◌≡◌, ◌+◌, ◌*◌, ◌<◌, ◌≤◌, length, drop};
 ghost use mathlib.Core.List.{◌++◌, flat_map};
 ghost use lib.Seq.{sets};
 ghost use Rattle.layout.specs.Values.{signed_bytes};
-ghost use Rattle.score.specs.Characters.{cost_table};
 ghost use Rattle.score.specs.Score.{score_of};
 ghost use Rattle.score.specs.ScoreSheet.{reference_count, reference, sheet_length, score_at, scores, scored_sheet};
 ghost use Rattle.score.specs.Asked.{Lists};
 
-use crate::table::costs;
-use crate::total;
+use crate::table::Table;
+use layout::edition::Edition;
+use layout::field::Field;
 use layout::trailer::write_trailer;
-use layout::value::write_value;
 
 // The reference with number i.
 fn reference(list: &[u8], i: usize) -> &[u8]
     requires { 12 * i + 12 ≤ length list.now }
     ensures { result.now ≡ reference i list.now }
 {
-    let at = 12 * i;
-    let end = at + 12;
-    &list[at..end]
+    &list[12 * i..12 * i + 12]
 }
 
-// The score of reference i of the first list and reference j of the second.
-fn pair_score(table: &[u8], firsts: &[u8], seconds: &[u8], n: usize, i: usize, j: usize) -> usize
-    requires { (table.now ≡ cost_table) × Lists n firsts.now seconds.now × (i < n) × (j < n) }
-    ensures { pos result ≡ score_of (reference i firsts.now) (reference j seconds.now) }
-{
-    total(table, reference(firsts, i), reference(seconds, j))
+// Two lists of n references, every one of the first with every one of the second.
+#[derive(Drop)]
+struct Pairs<'a> {
+    n: usize,
+    firsts: &'a [u8],
+    seconds: &'a [u8],
+    table: Table,
+    ghost listed: { Lists n firsts.now seconds.now },
 }
 
-// The score at place k of a sheet of side n, in row order.
-fn score_at(table: &[u8], firsts: &[u8], seconds: &[u8], n: usize, k: usize) -> usize
-    requires { (table.now ≡ cost_table) × Lists n firsts.now seconds.now × (k < n * n) }
-    ensures { pos result ≡ score_at n firsts.now seconds.now k }
-{
-    let row = k / n;
-    let column = k % n;
-    pair_score(table, firsts, seconds, n, row, column)
-}
+impl Pairs<'_> {
+    // The score of reference i of the first list and reference j of the second.
+    fn score(&self, i: usize, j: usize) -> i32
+        requires { (i < self.now.n) × (j < self.now.n) }
+        ensures { result ≡ score_of (reference i self.now.firsts.now) (reference j self.now.seconds.now) }
+    {
+        self.table
+            .score(reference(self.firsts, i), reference(self.seconds, j))
+    }
 
-// Writes the scores over the front of a sheet's room, four bytes each.
-fn write_scores(sheet: &mut [u8], table: &[u8], firsts: &[u8], seconds: &[u8], n: usize)
-    requires { (table.now ≡ cost_table) × Lists n firsts.now seconds.now × (4 * (n * n) ≤ length sheet.old) }
-    ensures { sheet.new ≡ sets sheet.old 0 (flat_map (signed_bytes 4) (scores n firsts.now seconds.now)) }
-{
-    let count = n * n;
-    let mut k = 0;
-    while k < count {
-        let score = score_at(table, firsts, seconds, n, k);
-        write_value(sheet, 4 * k, 4, score);
-        k += 1;
+    // The score at place k of a sheet of side n, in row order.
+    fn score_at(&self, k: usize) -> i32
+        requires { k < self.now.n * self.now.n }
+        ensures { result ≡ score_at self.now.n self.now.firsts.now self.now.seconds.now k }
+    {
+        self.score(k / self.n, k % self.n)
+    }
+
+    // Writes the scores over the front of a sheet's room, four bytes each.
+    fn write(&self, sheet: &mut [u8])
+        requires { 4 * (self.now.n * self.now.n) ≤ length sheet.old }
+        ensures { sheet.new ≡ sets sheet.old 0 (flat_map (signed_bytes 4) (scores self.now.n self.now.firsts.now self.now.seconds.now)) }
+    {
+        for k in 0..self.n * self.n {
+            self.score_at(k).write(sheet, 4 * k);
+        }
     }
 }
 
@@ -62,7 +66,19 @@ pub fn write_sheet(sheet: &mut [u8], firsts: &[u8], seconds: &[u8])
 {
     let n = firsts.len() / 12;
     let distance = 4 * (n * n);
-    let table = costs();
-    write_scores(sheet, &table, firsts, seconds, n);
-    write_trailer(sheet, distance, distance, n, 1, 0x4843_544D);
+    let pairs = Pairs {
+        n,
+        firsts,
+        seconds,
+        table: Table::new(),
+    };
+    pairs.write(sheet);
+    write_trailer(
+        sheet,
+        distance,
+        distance,
+        n,
+        Edition::Square.number(),
+        0x4843_544D,
+    );
 }

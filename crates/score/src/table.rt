@@ -1,6 +1,9 @@
 // The table of character costs: a row and in it a place for each character, 0 to 9 and A to Z.
-ghost use Rattle.std.specs.Prelude.{◌≡◌};
-ghost use Rattle.score.specs.Characters.{cost_table};
+ghost use Rattle.std.specs.Prelude.{◌≡◌, true, pos};
+ghost use Rattle.score.specs.Characters.{Reference, known, character_cost, cost_table};
+ghost use Rattle.score.specs.Score.{score_of};
+
+use crate::characters::number;
 
 const COSTS: [u8; 1296] = [
     // 0
@@ -116,9 +119,35 @@ const COSTS: [u8; 1296] = [
     0,
 ];
 
-// The table, to be bound once and lent, since a constant is made anew at each use. The promise holds it and the definition together.
-pub fn costs() -> [u8; 1296]
-    ensures { result ≡ cost_table }
-{
-    COSTS
+// The table, to be bound once and lent, since a constant is made anew at each use. Its fact holds it and the definition together.
+#[derive(Drop)]
+pub struct Table {
+    costs: [u8; 1296],
+    ghost right: { costs ≡ cost_table },
+}
+
+impl Table {
+    pub fn new() -> Self {
+        Table { costs: COSTS }
+    }
+
+    // What two characters cost.
+    fn cost(&self, a: u8, b: u8) -> i32
+        requires { (known a ≡ true) × (known b ≡ true) }
+        ensures { result ≡ pos (character_cost a b) }
+    {
+        i32::from(self.costs[36 * number(a) + number(b)])
+    }
+
+    // The sum of the 12 character costs of two references.
+    pub fn score(&self, first: &[u8], second: &[u8]) -> i32
+        requires { Reference first.now × Reference second.now }
+        ensures { result ≡ score_of first.now second.now }
+    {
+        let mut total = 0;
+        for (&a, &b) in first.iter().zip(second) {
+            total += self.cost(a, b);
+        }
+        total
+    }
 }

@@ -1,14 +1,18 @@
 -- What the editions say, edition by edition. Assumes nothing.
-use mathlib.Core.Path.{◌≡◌}
-use mathlib.Core.Bool.{Bool, true, false, cond}
+use mathlib.Core.Path.{◌≡◌, refl, sym, ap, ◌∙◌}
+use mathlib.Core.Bool.{Bool, true, false, cond, true≢false}
 use Prim.Native.Nat.{ℕ, ◌+◌, ◌*◌, ◌≤◌}
+use native.Mathlib.Decide.{ℕ_discrete}
 use native.Mathlib.Nat.{mul-le-mul}
 use native.Mathlib.Omega.{arith}
 use borrow.Author.Tests.{eq-eqb, ne_eqb, eqb-true}
+use Rattle.layout.specs.Editions.{number, named}
 use Rattle.layout.specs.Trailers.{has_row_count}
+use Rattle.layout.specs.declared.edition.Edition.{Edition}
+use Rattle.layout.specs.declared.edition.Edition.TheVariants.{Square, Barred, Oblong}
 use Rattle.layout.specs.Slips.{row_count_length}
 use Rattle.matrix.specs.Limits.{K}
-use Rattle.sheet.specs.Reading.{has_bars, distance_due, cost_most}
+use Rattle.sheet.specs.Reading.{has_bars, unknown, distance_due, cost_most}
 use Rattle.bars.specs.Tests.{barred_most}
 use Rattle.bars.proofs.Passed.{barred_most_small}
 
@@ -46,3 +50,30 @@ with_bars {edition} e = eq-eqb edition 2 e
 
 pub without_bars : {edition : ℕ} → ((edition ≡ 2) → ⊥) → has_bars edition ≡ false
 without_bars {edition} h = ne_eqb edition 2 h
+
+-- The edition that a number names has it, where one does; and each is named by its own.
+pub named_number : (edition : Edition) → named (number edition) ≡ edition
+named_number Square = refl
+named_number Barred = refl
+named_number Oblong = refl
+
+pub known_number : (edition : Edition) → unknown (number edition) ≡ false
+known_number Square = refl
+known_number Barred = refl
+known_number Oblong = refl
+
+pub number_named : (n : ℕ) → unknown n ≡ false → number (named n) ≡ n
+number_named n e = by (ℕ_discrete n 1) (ℕ_discrete n 2) (ℕ_discrete n 3)
+  where
+    by : Dec (n ≡ 1) → Dec (n ≡ 2) → Dec (n ≡ 3) → number (named n) ≡ n
+    by (yes f) two three = ap (λ (k : ℕ). number (named k)) f ∙ sym f
+    by (no one) (yes f) three = ap (λ (k : ℕ). number (named k)) f ∙ sym f
+    by (no one) (no two) (yes f) = ap (λ (k : ℕ). number (named k)) f ∙ sym f
+    by (no one) (no two) (no three) = absurd (true≢false (sym (rw (ne_eqb n 1 one, ne_eqb n 2 two, ne_eqb n 3 three) refl) ∙ e))
+
+pub known_here : (n : ℕ) (edition : Edition) → number edition ≡ n → unknown n ≡ false
+known_here n edition e = ap unknown (sym e) ∙ known_number edition
+
+-- No edition has this number.
+pub unnamed : (n : ℕ) → ((edition : Edition) → ¬ (number edition ≡ n)) → unknown n ≡ true
+unnamed n h = rw (ne_eqb n 1 (λ e. h Square (sym e)), ne_eqb n 2 (λ e. h Barred (sym e)), ne_eqb n 3 (λ e. h Oblong (sym e)))

@@ -16,6 +16,7 @@ use Rattle.ints.proofs.Ranges.{within_mono}
 use Rattle.lists.specs.Permutations.{at}
 use Rattle.lists.specs.Counts.{bit_of}
 use Rattle.lists.proofs.Tables.{table_cong}
+use Rattle.layout.specs.Editions.{number}
 use Rattle.layout.specs.Trailers.{side_of, edition_of}
 use Rattle.layout.specs.Sheets.{costs_at, bars_at}
 use Rattle.layout.proofs.Fields.{length_fields}
@@ -26,24 +27,27 @@ use Rattle.bars.proofs.FilledCosts.{filled_costs_length, filled_costs_within}
 use Rattle.bars.proofs.Longer.{first_barred_same, shown_rows_same}
 use Rattle.matrix.specs.Limits.{sheet_side, K}
 use Rattle.matrix.specs.Verdicts.{Passes, ◌then◌}
-use Rattle.matrix.specs.Refusals.{BarsPastSide}
+use Rattle.matrix.specs.declared.refusals.Reason.TheVariants.{BarsPastSide}
 use Rattle.matrix.specs.Tests.{costs_in}
-use Rattle.matrix.specs.declared.Verdict.{Verdict}
-use Rattle.matrix.specs.declared.Verdict.TheVariants.{Passed, Fails}
+use Rattle.matrix.specs.Verdicts.{Verdict}
+use Rattle.matrix.specs.declared.refusals.Refusal.{Refusal}
+use Rattle.std.specs.Prelude.{Ok, Err}
 use Rattle.matrix.proofs.SmallLimits.{sheet_side_small, sheet_side_within}
 use Rattle.matrix.proofs.Verdicts.{then_iff, fails_at_cong}
 use Rattle.matrix.proofs.Passed.{costs_in_lem}
 use Rattle.rules.specs.Right.{Right}
-use Rattle.lapjv.specs.Solve.{Outcome, solve}
+use Rattle.lapjv.specs.Solve as lapjv
+use Rattle.lapjv.specs.Solve.{solve}
 use Rattle.lapjv.specs.WithinLimits.{WithinLimits}
 use Rattle.lapjv.proofs.Tests.{passes_paired}
 use Rattle.lapjv.proofs.Owed.{answer_owes}
 use Rattle.sheet.specs.declared.State.{State}
-use Rattle.sheet.specs.declared.Reply.TheVariants.{Accepted, Blocked}
-use Rattle.sheet.specs.declared.Settled.{Settled}
+use Rattle.sheet.specs.declared.shape.Shape.{Shape}
+use Rattle.sheet.specs.declared.Unpaired.TheVariants.{Refused, Blocked}
 use Rattle.sheet.specs.Reading.{has_bars, rows_of, distance_due, cost_most, Laid, laid_at, bars_in, night_tests, night_if, night_tested, read_if, sheet_tests, read, night}
-use Rattle.sheet.specs.Settle.{fresh, lent, state_of, solved_costs, found, ended, settled_as, settled}
-use Rattle.sheet.specs.Steps.{read_into, bars_into, filled_in, settled_by, solved_in, state_tests, settled_if, settled_in}
+use Rattle.sheet.specs.Settle.{fresh, lent, state_of, solved_costs, found, barred_row, rows_shown, ended, Outcome, blocked_with, accepted_with, settled_as, settled}
+use Rattle.sheet.specs.Steps.{read_into, bars_into, filled_in, settled_with, settled_by, solved_in, state_tests, settled_if, settled_in}
+use Rattle.sheet.specs.Asked.{Shaped}
 use Rattle.sheet.proofs.Editions.{cost_most_within}
 use Rattle.sheet.proofs.Passing.{tests_passed, laid_found}
 
@@ -171,15 +175,17 @@ module _ (edition m n : ℕ) (costs : List ℤ) (bars : List ℕ) (size : length
     solved_same =
         ap (λ (l : List ℤ). after (solve n l (lent fresh))) (take_at (solved_costs laid) (drop (n * n) fresh.costs) (n * n) filled_size)
         ∙ ap after (passes_paired n (solved_costs laid) (lent fresh) limits)
-        ∙ ap₂ (λ (bar shown : ℕ). cond (ltb bar n) (record { reply = Blocked shown; state = fresh }) done)
+        ∙ ap₂ (λ (bar shown : ℕ). settled_with edition m n (cond (ltb bar n) (Err (Blocked shown)) (Ok (found laid).total)) (ended laid))
         (first_barred_same n bars_kept bars same_bars kept_cols (found laid).cols same_cols)
         (shown_rows_same n bars_kept bars same_bars kept_cols (found laid).cols same_cols)
+        ∙ either (ltb (barred_row laid) n)
       where
-        after : Outcome → Settled
+        after : lapjv.Outcome → Outcome
         after o = settled_by edition m n o.answer (state_of (solved_costs laid ++ drop (n * n) fresh.costs) bars_kept o.lent)
 
-        done : Settled
-        done = record { reply = Accepted edition m n (found laid).total; state = ended laid }
+        either : (t : Bool) → settled_with edition m n (cond t (Err (Blocked (rows_shown laid))) (Ok (found laid).total)) (ended laid) ≡ cond t (blocked_with laid) (accepted_with laid)
+        either true = refl
+        either false = refl
 
         kept_cols : List ℕ
         kept_cols = (found laid).cols ++ drop n fresh.cols
@@ -195,8 +201,8 @@ module _ (edition m n : ℕ) (costs : List ℤ) (bars : List ℕ) (size : length
   held_settles = ap (settled_if edition m n held) tests_same ∙ by (night_tests laid) refl
     where
       by : (v : Verdict) → night_tests laid ≡ v → settled_if edition m n held v ≡ settled_as (night_if laid v)
-      by Passed e = ap (solved_in edition m n) filled-same ∙ solved_same e
-      by (Fails refusal) e = refl
+      by (Ok _) e = ap (solved_in edition m n) filled-same ∙ solved_same e
+      by (Err refusal) e = refl
 
 -- ---- a sheet read into the fresh state
 
@@ -222,11 +228,11 @@ module _ (edition m n : ℕ) (sheet : List ℕ) (fewer : m ≤ n) (small : n ≤
   bars_size true = length_fields _ _ 8 n sheet
   bars_size false = length-replicate n 0
 
-  pub state_settles : {start read barred : State} {answer : Settled} → start ≡ fresh → read ≡ read_into (distance_due edition m n) (m * n) sheet start
-      → barred ≡ bars_into edition n sheet read → answer ≡ settled_in edition m n barred → answer ≡ settled_as (night_tested (laid_at edition m n (distance_due edition m n) sheet))
-  state_settles e f g h =
-      h ∙ ap (settled_in edition m n) (g ∙ ap (bars_into edition n sheet) (f ∙ ap (read_into (distance_due edition m n) (m * n) sheet) e)
-      ∙ ap₂ (λ (l : List ℤ) (b : List ℕ). state_of l b (lent fresh)) (sets_front costs_there fresh.costs (m * n) costs_size (mul-le-mul few_rows fits)) (bars_read (has_bars edition)))
+  -- The fresh state, once the sheet was read into it, settles as the night that lies there.
+  pub read_settles : settled_in edition m n (bars_into edition n sheet (read_into (distance_due edition m n) (m * n) sheet fresh)) ≡ settled_as (night_tested (laid_at edition m n (distance_due edition m n) sheet))
+  read_settles =
+      ap (settled_in edition m n)
+      (ap₂ (λ (l : List ℤ) (b : List ℕ). state_of l b (lent fresh)) (sets_front costs_there fresh.costs (m * n) costs_size (mul-le-mul few_rows fits)) (bars_read (has_bars edition)))
       ∙ held_settles edition m n costs_there (bars_in edition n sheet) costs_size (bars_size (has_bars edition)) fewer small
 
 -- A sheet that passes the tests before the costs settles as its night.
@@ -237,6 +243,17 @@ passed_settles room sheet e =
     ap (λ (l : Laid). settled_as (night_tested l)) (sym (laid_found room sheet (tests_passed room sheet e)))
     ∙ ap (λ (v : Verdict). settled_as (read_if sheet v)) (sym e)
 
-pub fails_settles : (room : ℕ) (sheet : List ℕ) {v : Verdict} → sheet_tests room sheet ≡ v → settled_as (read_if sheet v) ≡ settled room sheet
+pub fails_settles : (room : ℕ) (sheet : List ℕ) {refusal : Refusal} → sheet_tests room sheet ≡ Err refusal → Err (Refused refusal) ≡ settled room sheet
 unfolding settled read
-fails_settles room sheet e = ap (λ (w : Verdict). settled_as (read_if sheet w)) (sym e)
+fails_settles room sheet e = ap (λ (v : Verdict). settled_as (read_if sheet v)) (sym e)
+
+-- What code finds of a sheet that passes them: where its costs lie, and what the state settles as, once it was read.
+module _ (room : ℕ) (sheet : List ℕ) (shape : Shape) (passes : Passes (sheet_tests room sheet)) (says : Shaped sheet shape) where
+  pub shape_inside : distance_due (number shape.edition) shape.row_count shape.side + 12 ≤ length sheet
+  shape_inside = rw (says.edition, says.rows, says.side) (tests_passed room sheet passes).inside
+
+  pub shape_settles : let e = number shape.edition in let m = shape.row_count in let n = shape.side in
+      settled_in e m n (bars_into e n sheet (read_into (distance_due e m n) (m * n) sheet fresh)) ≡ settled room sheet
+  shape_settles =
+      let counted = (tests_passed room sheet passes).counted in
+      rw (says.edition, says.rows, says.side) (read_settles (edition_of sheet) (rows_of sheet) (side_of sheet) sheet counted.fewer counted.small ∙ passed_settles room sheet passes)

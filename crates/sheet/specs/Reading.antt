@@ -11,10 +11,10 @@ use Rattle.bars.specs.Tests.{barred_most, bars_clear}
 use Rattle.matrix.specs.Limits.{sheet_side, K}
 use Rattle.matrix.specs.Verdicts.{◌then◌, fails_if, fails_at}
 use Rattle.matrix.specs.Tests.{costs_in}
-use Rattle.matrix.specs.declared.Verdict.{Verdict}
-use Rattle.matrix.specs.declared.Verdict.TheVariants.{Passed, Fails}
-use Rattle.matrix.specs.declared.Refusal.{Refusal}
-use Rattle.matrix.specs.Refusals.{NoMark, EditionUnknown, SheetSideOver, DistanceWrong, DistancePastBytes, SlipRoomShort, SheetOver, NoteUnfit, RowsOver}
+use Rattle.matrix.specs.Verdicts.{Verdict}
+use Rattle.std.specs.Prelude.{Ok, Err}
+use Rattle.matrix.specs.declared.refusals.Refusal.{Refusal}
+use Rattle.matrix.specs.declared.refusals.Reason.TheVariants.{NoMark, EditionUnknown, SheetSideOver, DistanceWrong, DistancePastBytes, SlipRoomShort, SheetOver, NoteUnfit, RowsOver}
 
 -- "sheet over 65,536 bytes".
 unfoldable pub sheet_most : ℕ
@@ -74,10 +74,11 @@ trailed sheet =
     then fails_if SheetSideOver 0 (ltb sheet_side (side_of sheet))
 
 -- 23, "an edition 3 sheet under 14 bytes (place 0), or more rows than columns (place the row count)".
+abbrev pub uncut : List ℕ → Verdict
+uncut sheet = fails_if RowsOver 0 (has_row_count (edition_of sheet) && ltb (length sheet) 14)
+
 abbrev pub rows_fit : List ℕ → Verdict
-rows_fit sheet =
-    fails_if RowsOver 0 (has_row_count (edition_of sheet) && ltb (length sheet) 14)
-    then fails_if RowsOver (rows_of sheet) (ltb (side_of sheet) (rows_of sheet))
+rows_fit sheet = uncut sheet then fails_if RowsOver (rows_of sheet) (ltb (side_of sheet) (rows_of sheet))
 
 -- 14, 15: where it points.
 abbrev pub pointed : List ℕ → Verdict
@@ -122,16 +123,16 @@ pub data Read : Type 0 where
   night : Laid → Read
 
 abbrev pub night_if : Laid → Verdict → Read
-night_if laid Passed = night laid
-night_if laid (Fails refusal) = refused refusal
+night_if laid (Ok _) = night laid
+night_if laid (Err refusal) = refused refusal
 
 abbrev pub night_tested : Laid → Read
 night_tested laid = night_if laid (night_tests laid)
 
 -- A sheet from the verdict of those before them.
 abbrev pub read_if : List ℕ → Verdict → Read
-read_if sheet Passed = night_tested (laid_of sheet)
-read_if sheet (Fails refusal) = refused refusal
+read_if sheet (Ok _) = night_tested (laid_of sheet)
+read_if sheet (Err refusal) = refused refusal
 
 -- A sheet, read for a slip room of so many bytes.
 unfoldable pub read : ℕ → List ℕ → Read

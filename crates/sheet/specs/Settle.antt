@@ -1,16 +1,19 @@
 -- What comes of a sheet: its night solved, the slip, and what the front desk gets and finds in the slip's room.
-use Rattle.std.specs.Prelude.{cond, List, ◌++◌, ℕ, ◌*◌, ltb, ℤ, pos, length, take, drop, replicate}
+use Rattle.std.specs.Prelude.{cond, List, ◌++◌, ℕ, ◌*◌, ltb, ℤ, pos, length, take, drop, replicate, Result, Ok, Err}
+use Rattle.layout.specs.Editions.{named}
 use Rattle.layout.specs.Values.{bytes_of}
 use Rattle.layout.specs.Slips.{slip_of, slip_length}
 use Rattle.matrix.specs.Limits.{K}
-use Rattle.matrix.specs.Refusals.{code_of, NoPairing}
+use Rattle.matrix.specs.Refusals.{number, code_of}
+use Rattle.matrix.specs.declared.refusals.Reason.TheVariants.{NoPairing}
 use Rattle.bars.specs.Barred.{first_barred, filled_costs}
 use Rattle.bars.specs.Masks.{shown_rows}
-use Rattle.rules.specs.Run.{Result}
+use Rattle.rules.specs.Run as run
 use Rattle.lapjv.specs.Answers.{answer}
 use Rattle.lapjv.specs.Solve as lapjv
 use Rattle.sheet.specs.declared.State.{State}
-use Rattle.sheet.specs.declared.Reply.TheVariants.{Accepted, Refused, Blocked}
+use Rattle.sheet.specs.declared.Unpaired.{Unpaired}
+use Rattle.sheet.specs.declared.Unpaired.TheVariants.{Refused, Blocked}
 use Rattle.sheet.specs.declared.Settled.{Settled}
 use Rattle.sheet.specs.Reading.{Laid, Read, refused, night, read}
 
@@ -49,7 +52,7 @@ state_of costs bars l = record {
 abbrev pub solved_costs : Laid → List ℤ
 solved_costs laid = filled_costs laid.side (pos K) laid.costs laid.bars
 
-abbrev pub found : Laid → Result
+abbrev pub found : Laid → run.Result
 found laid = answer laid.side (solved_costs laid)
 
 -- The first row that is paired at a barred place, or the side; and, where there is one, the set of rows that is shown.
@@ -65,20 +68,24 @@ ended laid =
     let n = laid.side in
     state_of (solved_costs laid ++ drop (n * n) fresh.costs) (laid.bars ++ drop n fresh.bars) (lapjv.paired n (lent fresh) (found laid)).lent
 
--- The two ways in which a night ends: rows that show that it has no pairing, or edition, rows, side, total and the arrays.
-abbrev pub blocked_with : Laid → Settled
-blocked_with laid = record { reply = Blocked (rows_shown laid); state = fresh }
+-- What is settled of a sheet, or why nothing is.
+abbrev pub Outcome : Type 0
+Outcome = Result Settled Unpaired
 
-abbrev pub accepted_with : Laid → Settled
-accepted_with laid = record { reply = Accepted laid.edition laid.row_count laid.side (found laid).total; state = ended laid }
+-- The two ways in which a night ends: rows that show that it has no pairing, or edition, rows, side, total and the arrays.
+abbrev pub blocked_with : Laid → Outcome
+blocked_with laid = Err (Blocked (rows_shown laid))
+
+abbrev pub accepted_with : Laid → Outcome
+accepted_with laid = Ok (record { edition = named laid.edition; row_count = laid.row_count; side = laid.side; total = (found laid).total; state = ended laid })
 
 -- What is settled of a sheet as it was read. "Refuse with 20 exactly if there is none."
-abbrev pub settled_as : Read → Settled
-settled_as (refused refusal) = record { reply = Refused refusal; state = fresh }
+abbrev pub settled_as : Read → Outcome
+settled_as (refused refusal) = Err (Refused refusal)
 settled_as (night laid) = cond (ltb (barred_row laid) laid.side) (blocked_with laid) (accepted_with laid)
 
 -- A sheet settled, for a slip room of so many bytes.
-unfoldable pub settled : ℕ → List ℕ → Settled
+unfoldable pub settled : ℕ → List ℕ → Outcome
 settled room sheet = settled_as (read room sheet)
 
 -- What the front desk gets and finds: "0, or number + 256*place", and the slip's room.
@@ -88,7 +95,7 @@ pub record Delivery : Type 0 where
 
 -- 20, "the one refusal under demand 1 that writes": its set of rows "goes as 8 bytes at the start of the slip room, the rest unchanged".
 abbrev pub blocked_as : List ℕ → Laid → Delivery
-blocked_as room laid = record { number = NoPairing; slip = bytes_of 8 (rows_shown laid) ++ drop 8 room }
+blocked_as room laid = record { number = number NoPairing; slip = bytes_of 8 (rows_shown laid) ++ drop 8 room }
 
 -- The slip of a night at the front of its room, of its m rows: "Slip room past 18n+20 is untouched." "A slip carries its sheet's edition."
 abbrev pub slip_as : List ℕ → Laid → Delivery

@@ -1,23 +1,22 @@
 -- What functions that the entries call leave in the state.
-use Rattle.std.specs.Prelude.{cond, List, ◌++◌, ℕ, ◌*◌, ltb, pos, take, drop}
+use Rattle.std.specs.Prelude.{cond, List, ◌++◌, ℕ, ◌*◌, ltb, ℤ, pos, take, drop, Result, Ok, Err}
 use lib.Seq.{sets}
+use Rattle.layout.specs.Editions.{named}
 use Rattle.layout.specs.Sheets.{costs_at, bars_at}
 use Rattle.bars.specs.Barred.{first_barred, filled_costs}
 use Rattle.bars.specs.Masks.{shown_rows}
 use Rattle.bars.specs.Tests.{bars_clear}
 use Rattle.matrix.specs.Limits.{K}
-use Rattle.matrix.specs.Verdicts.{◌then◌}
+use Rattle.matrix.specs.Verdicts.{Verdict, ◌then◌}
 use Rattle.matrix.specs.Tests.{costs_in}
-use Rattle.matrix.specs.declared.Verdict.{Verdict}
-use Rattle.matrix.specs.declared.Verdict.TheVariants.{Passed, Fails}
-use Rattle.lapjv.specs.declared.Solved.{Solved}
-use Rattle.lapjv.specs.declared.Solved.TheVariants.{Paired, Refused}
+use Rattle.matrix.specs.declared.refusals.Refusal.{Refusal}
+use Rattle.lapjv.specs.declared.Sums.{Sums}
 use Rattle.lapjv.specs.Solve.{solve}
 use Rattle.sheet.specs.declared.State.{State}
-use Rattle.sheet.specs.declared.Reply.TheVariants.{Accepted, Blocked}
-use Rattle.sheet.specs.declared.Settled.{Settled}
-use Rattle.sheet.specs.Reading.{has_bars, cost_most, refused}
-use Rattle.sheet.specs.Settle.{fresh, lent, state_of, settled_as}
+use Rattle.sheet.specs.declared.Unpaired.{Unpaired}
+use Rattle.sheet.specs.declared.Unpaired.TheVariants.{Refused, Blocked}
+use Rattle.sheet.specs.Reading.{has_bars, cost_most}
+use Rattle.sheet.specs.Settle.{lent, state_of, Outcome}
 
 -- So many costs, the first at a distance before the trailer, are read over the front of the state's costs.
 abbrev pub read_into : ℕ → ℕ → List ℕ → State → State
@@ -31,17 +30,22 @@ bars_into edition n sheet s = state_of s.costs (cond (has_bars edition) (sets s.
 abbrev pub filled_in : ℕ → State → State
 filled_in n s = state_of (filled_costs n (pos K) s.costs s.bars ++ drop (n * n) s.costs) s.bars (lent s)
 
--- What is settled by a state that the solver has worked in: its pairs are those of the night, or one is barred.
-abbrev pub unless_barred : ℕ → ℕ → Settled → State → Settled
-unless_barred n bar settled s = cond (ltb bar n) (record { reply = Blocked (shown_rows n s.bars s.cols); state = fresh }) settled
+-- Of the pairs that the solver left in a state none is barred, and then this is answered; or rows are shown.
+abbrev pub unbarred : {A : Type 0} → A → ℕ → State → Result A Unpaired
+unbarred a n s = cond (ltb (first_barred n s.bars s.cols) n) (Err (Blocked (shown_rows n s.bars s.cols))) (Ok a)
 
--- What is settled by the solver's answer and the state that it worked in.
-abbrev pub settled_by : ℕ → ℕ → ℕ → Solved → State → Settled
-settled_by edition m n (Refused refusal) s = settled_as (refused refusal)
-settled_by edition m n (Paired found) s = unless_barred n (first_barred n s.bars s.cols) (record { reply = Accepted edition m n found.total; state = s }) s
+-- What is settled with a total and the state that it was found in.
+abbrev pub settled_with : ℕ → ℕ → ℕ → Result ℤ Unpaired → State → Outcome
+settled_with edition m n (Ok total) s = Ok (record { edition = named edition; row_count = m; side = n; total = total; state = s })
+settled_with edition m n (Err unpaired) s = Err unpaired
+
+-- What is settled by the solver's answer and the state that it worked in: its pairs are those of the night, or one is barred.
+abbrev pub settled_by : ℕ → ℕ → ℕ → Result Sums Refusal → State → Outcome
+settled_by edition m n (Err refusal) s = Err (Refused refusal)
+settled_by edition m n (Ok found) s = settled_with edition m n (unbarred found.total n s) s
 
 -- The solver on the first n*n costs of a state, in its other arrays.
-abbrev pub solved_in : ℕ → ℕ → ℕ → State → Settled
+abbrev pub solved_in : ℕ → ℕ → ℕ → State → Outcome
 solved_in edition m n s =
     let o = solve n (take (n * n) s.costs) (lent s) in
     settled_by edition m n o.answer (state_of s.costs s.bars o.lent)
@@ -51,9 +55,9 @@ abbrev pub state_tests : ℕ → ℕ → ℕ → State → Verdict
 state_tests edition m n s = costs_in (pos (cost_most edition)) (take (m * n) s.costs) then bars_clear n s.bars
 
 -- A night that was read into a state: refused, or filled and solved.
-abbrev pub settled_if : ℕ → ℕ → ℕ → State → Verdict → Settled
-settled_if edition m n s Passed = solved_in edition m n (filled_in n s)
-settled_if edition m n s (Fails refusal) = settled_as (refused refusal)
+abbrev pub settled_if : ℕ → ℕ → ℕ → State → Verdict → Outcome
+settled_if edition m n s (Ok _) = solved_in edition m n (filled_in n s)
+settled_if edition m n s (Err refusal) = Err (Refused refusal)
 
-abbrev pub settled_in : ℕ → ℕ → ℕ → State → Settled
+abbrev pub settled_in : ℕ → ℕ → ℕ → State → Outcome
 settled_in edition m n s = settled_if edition m n s (state_tests edition m n s)

@@ -1,20 +1,23 @@
 // A sheet's tests.
-ghost use Rattle.std.specs.Prelude.{◌≡◌, cond, ◌&&◌, ◌+◌, ◌*◌, ◌^◌, ◌≤◌, ◌<◌, ltb, pos, length};
-ghost use Rattle.lists.specs.Runs.{first};
-ghost use Rattle.layout.specs.Trailers.{has_row_count, distance_of, side_of, edition_of};
-ghost use Rattle.layout.specs.Slips.{slip_length};
+ghost use Rattle.std.specs.Prelude.{◌≡◌, cond, ◌+◌, ◌*◌, ◌^◌, ◌≤◌, ◌<◌, pos, length};
+ghost use Rattle.lists.specs.Runs.{Finds};
+ghost use Rattle.layout.specs.Editions.{number, named};
+ghost use Rattle.layout.specs.Trailers.{distance_of, edition_of};
 ghost use Rattle.matrix.specs.Limits.{sheet_side};
-ghost use Rattle.matrix.specs.Verdicts.{Passes, ◌then◌};
-ghost use Rattle.sheet.specs.Reading.{sheet_most, note_most, trailed, pointed, unprintable, unfit_at, unfit, note_fit, room_long, sheet_tests, unknown, has_bars, rows_of, rows_fit, distance_due, cost_most};
-ghost use Rattle.sheet.specs.Asked.{Ended, Counted};
+ghost use Rattle.matrix.specs.Verdicts.{◌then◌};
+ghost use Rattle.sheet.specs.Reading.{sheet_most, note_most, has_bars, rows_of, distance_due, cost_most, trailed, uncut, rows_fit, pointed, unprintable, unfit_at, unfit, note_fit, room_long, sheet_tests};
+ghost use Rattle.sheet.specs.Asked.{Ended, Gives, Shaped};
 
+use crate::shape::Shape;
+use layout::edition::Edition;
 use layout::slip::row_count_length;
 use layout::trailer::{distance_of, edition_of, row_count_of, side_of, unmarked};
 use matrix::limits::sheet_side;
-use matrix::tests::fails_if;
-use matrix::{Verdict, refusals};
+use matrix::tests::{fails_at, fails_if};
+use matrix::{Reason, Refusal};
 
 // The number once more, beside specs/Reading.antt: code cannot read a definition. The promise holds the two together.
+#[tactic(auto, unfolding(crate::specs::Reading::sheet_most))]
 fn sheet_most() -> usize
     ensures { result ≡ sheet_most }
 {
@@ -22,20 +25,25 @@ fn sheet_most() -> usize
 }
 
 // As `sheet_most`.
+#[tactic(auto, unfolding(crate::specs::Reading::note_most))]
 fn note_most() -> usize
     ensures { result ≡ note_most }
 {
     4096
 }
 
-// Whether an edition is none of the three.
-fn unknown(edition: usize) -> bool
-    ensures { result ≡ unknown edition }
+// Tests 17, 11, 12, 13, and the edition. The mark is "MTCH", the lowest byte first.
+#[tactic(auto, using(crate::proofs::Editions::known_here, crate::proofs::Editions::unnamed), unfolding(matrix::specs::Verdicts::fails_by, layout::specs::Values::value_of))]
+fn trailed(sheet: &[u8]) -> Result<Edition, Refusal>
+    ensures { result ≡ (trailed sheet.now then Ok (named (edition_of sheet.now))) }
 {
-    if edition == 1 {
-        return false;
-    }
-    edition != 2 && edition != 3
+    fails_if(sheet_most() < sheet.len(), Reason::SheetOver, 0)?;
+    fails_if(unmarked(sheet, 0x4843_544D), Reason::NoMark, 0)?;
+    let Ok(edition) = Edition::try_from(edition_of(sheet)) else {
+        return Err(Refusal::new(Reason::EditionUnknown, 0));
+    };
+    fails_if(sheet_side() < side_of(sheet), Reason::SheetSideOver, 0)?;
+    Ok(edition)
 }
 
 // How many rows a sheet has: as many as columns, or as its row count says.
@@ -50,6 +58,7 @@ pub fn rows_of(sheet: &[u8]) -> usize
 }
 
 // What an edition's bars take, of n rows.
+#[tactic(auto, using(matrix::proofs::SmallLimits::sheet_side_small))]
 fn bars_length(edition: usize, n: usize) -> usize
     requires { n ≤ sheet_side }
     ensures { result ≡ cond (has_bars edition) (8 * n) 0 }
@@ -78,68 +87,40 @@ pub fn cost_most(edition: usize) -> i64
     matrix::limits::bound()
 }
 
-// Tests 17, 11, 12, 13. The mark is "MTCH", the lowest byte first.
-fn trailed(sheet: &[u8]) -> Verdict
-    ensures { result ≡ trailed sheet.now }
+// How many rows a sheet has, where there is room for a row count that its edition wants.
+#[tactic(auto, unfolding(matrix::specs::Verdicts::fails_by))]
+fn row_count(sheet: &[u8], edition: Edition) -> Result<usize, Refusal>
+    requires { (12 ≤ length sheet.now) × (number edition ≡ edition_of sheet.now) }
+    ensures { result ≡ (uncut sheet.now then Ok (rows_of sheet.now)) }
 {
-    if sheet_most() < sheet.len() {
-        return fails_if(true, refusals::SHEET_OVER, 0);
-    }
-    if unmarked(sheet, 0x4843_544D) {
-        return fails_if(true, refusals::NO_MARK, 0);
-    }
-    if unknown(edition_of(sheet)) {
-        return fails_if(true, refusals::EDITION_UNKNOWN, 0);
-    }
-    fails_if(sheet_side() < side_of(sheet), refusals::SHEET_SIDE_OVER, 0)
+    let counted = edition == Edition::Oblong;
+    fails_if(counted && sheet.len() < 14, Reason::RowsOver, 0)?;
+    Ok(rows_of(sheet))
 }
 
-// Whether a row count is wanted and there is no room for it before the trailer.
-fn cut_off(sheet: &[u8]) -> bool
-    requires { 12 ≤ length sheet.now }
-    ensures { result ≡ (has_row_count (edition_of sheet.now) && ltb (length sheet.now) 14) }
+// Tests 17, 11, 12, 13, 23, and the shape.
+fn shaped(sheet: &[u8]) -> Result<Shape, Refusal>
+    ensures { Gives (trailed sheet.now then rows_fit sheet.now) (Shaped sheet.now) result }
 {
-    edition_of(sheet) == 3 && sheet.len() < 14
-}
-
-// Test 23.
-fn rows_fit(before: Verdict, sheet: &[u8]) -> Verdict
-    requires { Passes before → 12 ≤ length sheet.now }
-    ensures { result ≡ (before then rows_fit sheet.now) }
-{
-    match before {
-        Verdict::Fails(refusal) => {
-            return Verdict::Fails(refusal);
-        }
-        Verdict::Passed => {}
-    }
-    if cut_off(sheet) {
-        return fails_if(true, refusals::ROWS_OVER, 0);
-    }
-    let m = rows_of(sheet);
-    fails_if(side_of(sheet) < m, refusals::ROWS_OVER, m)
+    let edition = trailed(sheet)?;
+    let row_count = row_count(sheet, edition)?;
+    let side = side_of(sheet);
+    fails_if(side < row_count, Reason::RowsOver, row_count)?;
+    Ok(Shape {
+        edition,
+        row_count,
+        side,
+    })
 }
 
 // Tests 14, 15.
-fn pointed(before: Verdict, sheet: &[u8]) -> Verdict
-    requires { Passes before → Counted sheet.now }
-    ensures { result ≡ (before then pointed sheet.now) }
+fn pointed(sheet: &[u8], shape: Shape) -> Result<(), Refusal>
+    requires { Shaped sheet.now shape }
+    ensures { result ≡ pointed sheet.now }
 {
-    match before {
-        Verdict::Fails(refusal) => {
-            return Verdict::Fails(refusal);
-        }
-        Verdict::Passed => {}
-    }
     let distance = distance_of(sheet);
-    if distance != distance_due(edition_of(sheet), rows_of(sheet), side_of(sheet)) {
-        return fails_if(true, refusals::DISTANCE_WRONG, 0);
-    }
-    fails_if(
-        sheet.len() - 12 < distance,
-        refusals::DISTANCE_PAST_BYTES,
-        0,
-    )
+    fails_if(distance != shape.distance(), Reason::DistanceWrong, 0)?;
+    fails_if(sheet.len() - 12 < distance, Reason::DistancePastBytes, 0)
 }
 
 // Whether a byte is outside 32 to 126.
@@ -156,67 +137,40 @@ fn unfit(k: usize, byte: u8) -> bool
     note_most() <= k || unprintable(byte)
 }
 
-// Refusal 21: the first position of a note of so many bytes at which it does not go on, or their number.
-fn first_unfit(sheet: &[u8], count: usize) -> usize
+// Refusal 21: the first position of a note of so many bytes at which it does not go on.
+fn first_unfit(sheet: &[u8], count: usize) -> Option<usize>
     requires { count ≤ length sheet.now }
-    ensures { result ≡ first count (unfit sheet.now) }
+    ensures { Finds count (unfit sheet.now) result }
 {
-    let mut k = 0;
-    while k < count {
-        if unfit(k, sheet[k]) {
-            return k;
-        }
-        k += 1;
-    }
-    k
+    (0..count).find(|&k| unfit(k, sheet[k]))
 }
 
 // Test 21.
-fn note_fit(before: Verdict, sheet: &[u8]) -> Verdict
-    requires { Passes before → distance_of sheet.now + 12 ≤ length sheet.now }
-    ensures { result ≡ (before then note_fit sheet.now) }
+#[tactic(auto, using(matrix::proofs::Verdicts::found_fails))]
+fn note_fit(sheet: &[u8]) -> Result<(), Refusal>
+    requires { distance_of sheet.now + 12 ≤ length sheet.now }
+    ensures { result ≡ note_fit sheet.now }
 {
-    match before {
-        Verdict::Fails(refusal) => {
-            return Verdict::Fails(refusal);
-        }
-        Verdict::Passed => {}
-    }
     let count = sheet.len() - 12 - distance_of(sheet);
-    let k = first_unfit(sheet, count);
-    fails_if(k < count, refusals::NOTE_UNFIT, k)
-}
-
-// How long the slip of a sheet's night is.
-fn slip_length(sheet: &[u8]) -> usize
-    requires { Counted sheet.now }
-    ensures { result ≡ slip_length (edition_of sheet.now) (rows_of sheet.now) (side_of sheet.now) }
-{
-    let body = 10 * rows_of(sheet) + 8 * side_of(sheet) + 8;
-    body + row_count_length(edition_of(sheet)) + 12
+    fails_at(first_unfit(sheet, count), Reason::NoteUnfit)
 }
 
 // Test 16.
-fn room_long(before: Verdict, sheet: &[u8], room: usize) -> Verdict
-    requires { Passes before → Counted sheet.now }
-    ensures { result ≡ (before then room_long room sheet.now) }
+fn room_long(shape: Shape, sheet: &[u8], room: usize) -> Result<(), Refusal>
+    requires { Shaped sheet.now shape }
+    ensures { result ≡ room_long room sheet.now }
 {
-    match before {
-        Verdict::Fails(refusal) => {
-            return Verdict::Fails(refusal);
-        }
-        Verdict::Passed => {}
-    }
-    fails_if(room < slip_length(sheet), refusals::SLIP_ROOM_SHORT, 0)
+    fails_if(room < shape.slip_length(), Reason::SlipRoomShort, 0)
 }
 
-// Tests 17, 11, 12, 13, 23, 14, 15, 21, 16.
-pub fn tests(sheet: &[u8], room: usize) -> Verdict
-    ensures { result ≡ sheet_tests room sheet.now }
+// Tests 17, 11, 12, 13, 23, 14, 15, 21, 16, and the shape.
+#[tactic(auto, unfolding(crate::specs::Reading::sheet_tests))]
+pub fn tests(sheet: &[u8], room: usize) -> Result<Shape, Refusal>
+    ensures { Gives (sheet_tests room sheet.now) (Shaped sheet.now) result }
 {
-    let trailed = trailed(sheet);
-    let counted = rows_fit(trailed, sheet);
-    let pointed = pointed(counted, sheet);
-    let fit = note_fit(pointed, sheet);
-    room_long(fit, sheet, room)
+    let shape = shaped(sheet)?;
+    pointed(sheet, shape)?;
+    note_fit(sheet)?;
+    room_long(shape, sheet, room)?;
+    Ok(shape)
 }

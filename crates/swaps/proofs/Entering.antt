@@ -1,6 +1,5 @@
 -- The entries: past its tests the search can be made, and what it leaves is what the definition says. Assumes nothing.
-use mathlib.Core.Path.{◌≡◌, refl, sym, subst}
-use mathlib.Core.Bool.{Bool}
+use mathlib.Core.Path.{◌≡◌, refl, sym, ap, subst}
 use mathlib.Core.List.{List, []}
 use Prim.Native.Nat.{ℕ, ◌*◌, ◌≤◌}
 use native.Mathlib.Nat.{le_trans}
@@ -17,10 +16,9 @@ use Rattle.bars.specs.Barred.{night_of, barred}
 use Rattle.bars.proofs.Passed.{square-unbarred}
 use Rattle.matrix.specs.Asked.{ColumnsListed}
 use Rattle.matrix.specs.Limits.{side}
-use Rattle.matrix.specs.Verdicts.{Passes}
-use Rattle.matrix.specs.declared.Refusal.{Refusal}
-use Rattle.matrix.specs.declared.Verdict.{Verdict}
-use Rattle.matrix.specs.declared.Verdict.TheVariants.{Fails}
+use Rattle.matrix.specs.Verdicts.{Verdict, Passes}
+use Rattle.std.specs.Prelude.{Ok, Err}
+use Rattle.matrix.specs.declared.refusals.Refusal.{Refusal}
 use Rattle.matrix.proofs.SmallLimits.{sheet_side_within}
 use Rattle.matrix.proofs.Verdicts.{then_iff}
 use Rattle.matrix.proofs.Passed.{list_long_lem, rooms_long_lem}
@@ -32,7 +30,7 @@ use Rattle.checker.proofs.Barred.{checks_barred_iff, barred_pairing}
 use Rattle.checker.proofs.Oblong.{checks_oblong_iff, oblong_pairing}
 use Rattle.swaps.specs.Found.{CanFindIn, FoundIn}
 use Rattle.swaps.specs.Entries.{Lent, lent_of, outcome_of, outcome, lent_long, second_tests, second_barred_tests, second_oblong_tests}
-use Rattle.swaps.specs.declared.Seconded.TheVariants.{Told, Refused}
+use Rattle.swaps.specs.declared.Pairings.{Pairings}
 
 -- ---- any night
 
@@ -69,16 +67,23 @@ module _ (m n : ℕ) (costs : List ℤ) (bars cols : List ℕ) (us vs : List ℤ
     record { listed = h.listed; inside = λ i l. rw (at_first night cols i l) at (h.shown.pairing.inside i l) },
   )
 
-  -- An outcome, by its verdict.
-  pub refused-outcome : {verdict : Verdict} {refusal : Refusal} → verdict ≡ Fails refusal → outcome_of (Refused refusal) lent ≡ outcome night cols us vs lent verdict
+  -- The outcome of an accepted input.
+  pub told_outcome : (p : Pairings) (list indices : List ℕ) (numbers : List ℤ) → p.total ≡ total night cols
+      → FoundIn m n costs bars cols us vs lent.list lent.indices lent.numbers p.another list indices numbers
+      → outcome_of (Ok p) (lent_of list indices numbers) ≡ outcome night cols us vs lent (Ok tt)
   unfolding outcome
-  refused-outcome e = rw e
+  told_outcome p list indices numbers d f = rw (← d, ← f.told, f.written, f.indices_cleared, f.numbers_cleared) refl
 
-  pub told_outcome : {verdict : Verdict} → Passes verdict → {t : ℤ} → t ≡ total night cols → {r : Bool} {list indices : List ℕ} {numbers : List ℤ}
-      → FoundIn m n costs bars cols us vs lent.list lent.indices lent.numbers r list indices numbers
-      → outcome_of (Told (record { total = t; another = r })) (lent_of list indices numbers) ≡ outcome night cols us vs lent verdict
-  unfolding outcome
-  told_outcome e d f = rw (e, d, f.told, f.written, f.indices_cleared, f.numbers_cleared)
+-- The outcome of a refused one.
+pub refused_outcome : (this : Night) (cols : List ℕ) (us vs : List ℤ) (lent : Lent) (refusal : Refusal)
+    → outcome this cols us vs lent (Err refusal) ≡ outcome_of (Err refusal) lent
+unfolding outcome
+refused_outcome this cols us vs lent refusal = refl
+
+-- The list without an entry bars nothing.
+pub plain_outcome : (n : ℕ) (costs : List ℤ) (cols : List ℕ) (us vs : List ℤ) (lent : Lent) (verdict : Verdict)
+    → outcome (night_of n n costs []) cols us vs lent verdict ≡ outcome (square n costs) cols us vs lent verdict
+plain_outcome n costs cols us vs lent verdict = ap (λ (night : Night). outcome night cols us vs lent verdict) (square-unbarred n costs)
 
 -- ---- the tests of each entry
 

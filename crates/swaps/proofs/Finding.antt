@@ -1,63 +1,36 @@
 -- The search: what the walk starts with, and what its end makes of the list. Assumes nothing.
 use mathlib.Core.Path.{◌≡◌, refl, sym, ap, ap₂, ◌∙◌, subst}
 use mathlib.Core.Bool.{true, false, cond}
-use mathlib.Core.List.{List, ◌++◌}
-use Prim.Native.Nat.{ℕ, ◌+◌, ◌-◌, ◌≤◌, ◌<◌}
+use mathlib.Core.List.{List}
+use Rattle.std.proofs.Common.{Some}
+use Prim.Native.Nat.{ℕ, zero, suc, ◌+◌, ◌-◌, ◌≤◌, ◌<◌}
+use native.Mathlib.Nat.{sub-zero}
 use native.Mathlib.Omega.{arith}
 use lib.Dec.{ltb}
 use lib.IntN.{ℤ}
-use lib.ListN.{length, set, drop, replicate, length-append, length-drop, length-replicate, get_or-replicate, get_or-append}
-use lib.Seq.{ext_get_or, get_or-append-add, get_or-drop}
-use Rattle.lists.specs.Runs.{left, upward}
-use Rattle.lists.specs.Permutations.{at, table}
-use Rattle.lists.specs.Parts.{part}
+use lib.ListN.{length, set, take, drop, replicate, length-replicate, get_or-replicate}
+use lib.Seq.{ext_get_or, length-take-le}
+use Rattle.lists.specs.Runs.{turns, left, upward}
+use Rattle.lists.specs.Permutations.{at}
 use Rattle.lists.proofs.Runs.{upward_cong}
-use Rattle.lists.proofs.Parts.{part_length, part_at}
-use Rattle.lists.proofs.Tables.{length-table, get_d_table, get_d_constant}
+use Rattle.lists.proofs.Parts.{part_at, lent_length}
+use Rattle.lists.proofs.Tables.{length-table}
 use Rattle.lists.proofs.Leaving.{Either, is_left_lem}
 use Rattle.lists.proofs.Injections.{pigeonhole}
 use Rattle.assignment.specs.Pairings.{Night, signed_at}
 use Rattle.bars.specs.Barred.{night_of}
 use Rattle.swaps.specs.Walks.{Walk, Closed, place, on_closed, choice, walk}
-use Rattle.swaps.specs.Second.{Answer, only, also, nodes, behind, higher, dearest, way, moved, answer, second}
-use Rattle.swaps.specs.Rooms.{Fair, CanWalk, CanMove, Chosen, WalkedTo, walk_of, closed_in, come_to, move_at}
+use Rattle.swaps.specs.Second.{Answer, only, also, nodes, higher, dearest, way, moved, answer, second}
+use Rattle.swaps.specs.Rooms.{Fair, walk_of, move_at}
+use Rattle.swaps.specs.Turning.{night, node_count, way_of, CanWalk, WalkedTo}
 use Rattle.swaps.specs.Found.{another, written_in, SearchedBy}
-use Rattle.swaps.specs.declared.Walked.{Walked}
-use Rattle.swaps.specs.declared.Walked.TheVariants.{Ended, Came}
+use Rattle.swaps.specs.declared.accepted.Accepted.{Accepted}
 use Rattle.swaps.proofs.Walks.{IsClosed, path_injective}
 use Rattle.swaps.proofs.Turns.{walk_ok}
 use Rattle.swaps.proofs.Seconds.{second_only_iff}
 use Rattle.swaps.proofs.Stores.{store, stored_length, stored_moved}
 use Rattle.swaps.proofs.Lowering.{lowered_start}
-use Rattle.swaps.proofs.Choosing.{nodes_columns, rows_columns}
-
--- ---- a room of zeros with the rows listed in its first part
-
-module _ (n : ℕ) (f : ℕ → ℕ) (room : List ℕ) (e : room ≡ table n f ++ drop n (table (n + n + n + n) (λ k. 0))) where
-  abbrev zeros : List ℕ
-  zeros = table (n + n + n + n) (λ k. 0)
-
-  listed_size : length room ≡ n + n + n + n
-  listed_size =
-      omega (arith, ap length e, length-append (table n f) (drop n zeros), length-table n f, length-drop n zeros, length-table {A = ℕ} (n + n + n + n) (λ k. 0))
-
-  listed_at : (j : ℕ) → j < n → at room j ≡ f j
-  listed_at j l =
-      ap (λ (r : List ℕ). at r j) e ∙ get_or-append (table n f) (drop n zeros) 0 j (omega (arith, length-table n f)) ∙ get_d_table n f 0 j l
-
-  zero_behind : (i : ℕ) → at room (n + i) ≡ 0
-  zero_behind i =
-      let q : n + i ≡ length (table n f) + i = omega (arith, length-table n f) in
-      ap₂ at e q ∙ get_or-append-add (table n f) (drop n zeros) i 0 ∙ get_or-drop n zeros i 0 ∙ get_d_constant (n + n + n + n) 0 (n + i)
-
-  zero_part : (a N : ℕ) → n ≤ a → a + N ≤ n + n + n + n → part a N room ≡ replicate N 0
-  zero_part a N h l =
-      ext_get_or 0 (part a N room) (replicate N 0) (size ∙ sym (length-replicate {A = ℕ} N 0))
-      (λ i b. let q : a + i ≡ n + (a - n + i) = omega arith in
-      part_at a N room i 0 (omega (arith, size)) ∙ ap (at room) q ∙ zero_behind (a - n + i) ∙ sym (get_or-replicate {A = ℕ} N i 0 0 (omega (arith, size))))
-    where
-      size : length (part a N room) ≡ N
-      size = part_length a N room (omega (arith, listed_size))
+use Rattle.swaps.proofs.Choosing.{nodes_columns}
 
 -- The highest price of a used column, as it is found row by row.
 pub found-dearest : (night : Night) (vs : List ℤ) (cols : List ℕ) → upward 0 night.row_count (higher vs cols) (signed_at vs (at cols 0)) ≡ dearest night vs cols
@@ -70,117 +43,119 @@ second_left : (night : Night) (us vs : List ℤ) (cols : List ℕ) (z : Closed) 
 unfolding second
 second_left night us vs cols z e = ap (answer night us vs cols) e
 
-module _ (m n : ℕ) (costs : List ℤ) (bars cols : List ℕ) (us vs : List ℤ) (fair : Fair m n costs bars cols us vs) where
-  abbrev night : Night
-  night = night_of m n costs bars
+-- A night without rows has one pairing, the empty one.
+pub no_rows : (m n : ℕ) (costs : List ℤ) (bars cols : List ℕ) (us vs : List ℤ) → Fair m n costs bars cols us vs → m ≡ 0
+    → second (night_of m n costs bars) us vs cols ≡ only
+no_rows m n costs bars cols us vs fair none =
+    (second_only_iff (night_of m n costs bars) us vs fair.feasible cols fair.pairing fair.tight fair.spares).1
+    (λ other p same. ext_get_or 0 other cols (p.size ∙ sym fair.pairing.size) (λ i l. absurd (omega (arith, p.size))))
 
+-- A run of turns on a part of a list.
+upward_shift : {S : Type 0} (a b : ℕ) (f : ℕ → S → S) (s : S) → a ≤ b → upward a b f s ≡ upward 0 (b - a) (λ k. f (a + k)) s
+unfolding upward turns
+upward_shift a b f s h = ap (λ (k : ℕ). turns a k f s) (sym (sub-zero (b - a))) ∙ by (b - a - 0)
+  where
+    by : (m : ℕ) → turns a m f s ≡ turns 0 m (λ k. f (a + k)) s
+    by zero = refl
+    by (suc m) = let e : a + m ≡ a + (0 + m) = omega arith in ap (λ (k : ℕ). f k (turns a m f s)) e ∙ ap (f (a + (0 + m))) (by m)
+
+module _ (a : Accepted) where
   abbrev N : ℕ
-  N = nodes night
+  N = node_count a
 
-  abbrev way_on : ℕ → ℕ → ℕ
-  way_on = way night us vs cols
-
-  few : N ≤ n
-  few = nodes_columns night cols fair.pairing
+  pub few : N ≤ a.n
+  few = nodes_columns (night a) a.cols.now a.fair.pairing
 
   -- ---- the start
 
-  pub can_walk : (room : List ℕ) → room ≡ table n (λ j. behind night cols j) ++ drop n (table (n + n + n + n) (λ k. 0)) → (ts : List ℤ) → ts ≡ table n (signed_at vs)
-      → (top : ℤ) → top ≡ dearest night vs cols → (count : ℕ) → count ≡ N → CanWalk m n costs bars cols us vs ts top count room
-  can_walk room e ts copied top highest count counted = record {
-    fair = fair;
-    highest = highest;
-    counted = counted;
-    holds = record {
-      room_size = listed_size n (behind night cols) room e;
-      columns = listed_at n (behind night cols) room e;
-      bounded = λ x l. omega (arith, none x);
-      passed = λ x c l b. absurd (omega (arith, none x));
-      went = λ t l. absurd (omega arith);
+  -- A front of a list, filled with zeros.
+  pub zeros : (count : ℕ) → count ≡ N → (l z : List ℕ) → length l ≡ a.n → z ≡ replicate (length (take (count - 0) l)) 0 → z ≡ replicate N 0
+  zeros count e l z size q =
+      q ∙ ap (λ (k : ℕ). replicate k 0) (ap (λ (k : ℕ). length (take k l)) (sub-zero count) ∙ length-take-le count l (omega (arith, few)) ∙ e)
+
+  pub can_walk : (path marks choices : List ℕ) → path ≡ replicate N 0 → marks ≡ replicate N 0 → choices ≡ replicate N 0 → (ts : List ℤ)
+      → ts ≡ take a.n a.vs.now → CanWalk a path marks choices ts
+  can_walk path marks choices p q e ts copied = record {
+    at_start = ap₂ (walk_of 0) p q;
+    beside = record {
+      holds = record {
+        choices_size = ap length e ∙ length-replicate {A = ℕ} N 0;
+        bounded = λ x l. omega (arith, none x l);
+        passed = λ x c l b. absurd (omega (arith, none x l));
+        went = λ t l. absurd (omega arith);
+      };
+      lowered = lowered_start (night a) a.vs.now a.cols.now (walk_of 0 path marks) ts copied a.fair.column_prices;
     };
-    lowered = lowered_start night vs cols (walk_of night us vs cols 0 room) ts copied fair.column_prices;
-    at_start = ap₂ (λ (p q : List ℕ). record { size = 0; path = p; marks = q }) (zero_part n (behind night cols) room e n N (omega arith) (omega (arith, few)))
-        (zero_part n (behind night cols) room e (n + n) N (omega arith) (omega (arith, few)));
   }
     where
-      none : (x : ℕ) → come_to n room x ≡ 0
-      none x = let q : n + n + n + x ≡ n + (n + n + x) = omega arith in ap (at room) q ∙ zero_behind n (behind night cols) room e (n + n + x)
-
-  -- ---- no row
-
-  -- A night without rows has one pairing, the empty one.
-  pub no_rows : m ≡ 0 → (list : List ℕ) → SearchedBy m n costs bars cols us vs list false list
-  no_rows none list = record { told = ap another (sym q); written = ap (λ (a : Answer). written_in a list) (sym q) }
-    where
-      q : second night us vs cols ≡ only
-      q = (second_only_iff night us vs fair.feasible cols fair.pairing fair.tight fair.spares).1
-          (λ other p same. ext_get_or 0 other cols (p.size ∙ sym fair.pairing.size) (λ i l. absurd (omega (arith, p.size))))
+      none : (x : ℕ) → x < N → at choices x ≡ 0
+      none x l = ap (λ (r : List ℕ). at r x) e ∙ get_or-replicate {A = ℕ} N x 0 0 l
 
   -- ---- the end: all nodes are done
 
-  pub none_found : (r : Walked) (after : List ℕ) → WalkedTo night us vs cols r after → r ≡ Ended → (list : List ℕ) → SearchedBy m n costs bars cols us vs list false list
-  none_found r after h e list =
-      let q : second night us vs cols ≡ only = subst (λ (x : Walked). WalkedTo night us vs cols x after) e h in
-      record { told = ap another (sym q); written = ap (λ (a : Answer). written_in a list) (sym q) }
+  pub none_found : second (night a) a.us.now a.vs.now a.cols.now ≡ only → (list : List ℕ)
+      → SearchedBy a.m a.n a.costs.now a.bars.now a.cols.now a.us.now a.vs.now list false list
+  none_found q list = record { told = ap another (sym q); written = ap (λ (r : Answer). written_in r list) (sym q) }
 
   -- ---- the end: the path has come back
 
-  module _ (r : Walked) (room : List ℕ) (h : WalkedTo night us vs cols r room) (from size : ℕ) (came : r ≡ Came from size) where
-    abbrev z : Closed
-    z = closed_in night us vs cols from size room
-
+  module _ (from size : ℕ) (path marks choices : List ℕ) (h : WalkedTo a (Some (from, size)) path marks choices) where
     abbrev w : Walk
-    w = walk_of night us vs cols size room
+    w = walk_of size path marks
 
-    ended : (walk N n way_on ≡ left z) × Chosen night us vs cols size room
-    ended = subst (λ (x : Walked). WalkedTo night us vs cols x room) came h
+    abbrev z : Closed
+    z = record { from = from; walk = w }
 
     -- A walk that is left is closed.
     abbrev All : Walk → Type 0
     All v = (x : ℕ) → x < N → Unit {0}
 
-    closed : IsClosed N n way_on z
-    closed = by (subst (Either {S = Walk} {R = Closed} All (IsClosed N n way_on)) ended.0 (walk_ok N n way_on (λ x. Unit {0}) (λ x l a. tt)))
+    closed : IsClosed N a.n (way_of a) z
+    closed = by (subst (Either {S = Walk} {R = Closed} All (IsClosed N a.n (way_of a))) h.0 (walk_ok N a.n (way_of a) (λ x. Unit {0}) (λ x l g. tt)))
       where
-        by : Either {S = Walk} {R = Closed} All (IsClosed N n way_on) (left z) → IsClosed N n way_on z
+        by : Either {S = Walk} {R = Closed} All (IsClosed N a.n (way_of a)) (left z) → IsClosed N a.n (way_of a) z
         by (is_left_lem c) = c
 
-    path_below : size ≤ N
-    path_below = pigeonhole (path_injective N n way_on w closed.sound)
+    pub order : from ≤ size
+    order = omega (arith, closed.from_below)
 
-    pub can_move : (list : List ℕ) → length list ≡ m → CanMove m n from size cols room list
-    can_move list e = record {
-      small = fair.small;
-      room_size = ended.1.room_size;
-      path_size = omega (arith, path_below, few);
-      order = omega (arith, closed.from_below);
-      rows = rows_columns night cols fair.pairing;
-      listed = fair.pairing.size;
-      second_size = e;
-    }
+    pub size_below : size ≤ N
+    size_below = pigeonhole (path_injective N a.n (way_of a) w closed.sound)
+
+    pub path_below : size ≤ length path
+    path_below = omega (arith, size_below, closed.sound.path_size)
 
     abbrev chosen : ℕ → ℕ
-    chosen x = choice N n way_on w x
+    chosen x = choice N a.n (way_of a) w x
+
+    abbrev front : List ℕ
+    front = take (size - from) (drop from path)
+
+    front_size : length front ≡ size - from
+    front_size = lent_length (size - from) from size path refl (omega (arith, order, path_below))
 
     -- The stores are those of the laws,
-    same_store : (k : ℕ) (l : List ℕ) → k < size → move_at m n room k l ≡ store m (place w) chosen k l
+    same_store : (k : ℕ) (l : List ℕ) → k < size - from → move_at a.m front choices k l ≡ store a.m (place w) chosen (from + k) l
     same_store k l b =
-        ap (λ (p : ℕ). cond (ltb p m) (set l p (come_to n room p)) l) (sym (part_at n N room k 0 (omega (arith, path_below))))
-        ∙ ap (λ (v : ℕ). cond (ltb (place w k) m) (set l (place w k) v) l) (ended.1.at_choice k b)
+        ap (λ (p : ℕ). cond (ltb p a.m) (set l p (at choices p)) l) (part_at from (size - from) path k 0 b)
+        ∙ ap (λ (v : ℕ). cond (ltb (place w (from + k)) a.m) (set l (place w (from + k)) v) l) (h.1 (from + k) (omega arith))
 
     -- and make the moved pairing.
-    stores_moved : upward from size (move_at m n room) cols ≡ moved night us vs cols z
+    stores_moved : upward 0 (length front) (move_at a.m front choices) a.cols.now ≡ moved (night a) a.us.now a.vs.now a.cols.now z
     stores_moved =
-        upward_cong from size (move_at m n room) (store m (place w) chosen) cols (λ k l a b. same_store k l b)
-        ∙ ext_get_or 0 (upward from size (store m (place w) chosen) cols) (moved night us vs cols z)
-        (size_kept ∙ sym (length-table m (λ i. cond (on_closed z i) (chosen i) (at cols i))))
-        (λ i b. stored_moved night us vs cols z closed (omega (arith, fair.pairing.size)) i (omega (arith, size_kept)))
+        ap (λ (k : ℕ). upward 0 k (move_at a.m front choices) a.cols.now) front_size
+        ∙ upward_cong 0 (size - from) (move_at a.m front choices) (λ k. store a.m (place w) chosen (from + k)) a.cols.now (λ k l g b. same_store k l b)
+        ∙ sym (upward_shift from size (store a.m (place w) chosen) a.cols.now order)
+        ∙ ext_get_or 0 (upward from size (store a.m (place w) chosen) a.cols.now) (moved (night a) a.us.now a.vs.now a.cols.now z)
+        (size_kept ∙ sym (length-table a.m (λ i. cond (on_closed z i) (chosen i) (at a.cols.now i))))
+        (λ i b. stored_moved (night a) a.us.now a.vs.now a.cols.now z closed (omega (arith, a.fair.pairing.size)) i (omega (arith, size_kept)))
       where
-        size_kept : length (upward from size (store m (place w) chosen) cols) ≡ m
-        size_kept = stored_length night us vs cols z closed (omega (arith, fair.pairing.size)) ∙ fair.pairing.size
+        size_kept : length (upward from size (store a.m (place w) chosen) a.cols.now) ≡ a.m
+        size_kept = stored_length (night a) a.us.now a.vs.now a.cols.now z closed (omega (arith, a.fair.pairing.size)) ∙ a.fair.pairing.size
 
-    pub one_found : (list after : List ℕ) → after ≡ upward from size (move_at m n room) cols → SearchedBy m n costs bars cols us vs list true after
-    one_found list after e = record { told = ap another (sym q); written = e ∙ stores_moved ∙ ap (λ (a : Answer). written_in a list) (sym q) }
+    pub one_found : (list after : List ℕ) → after ≡ upward 0 (length front) (move_at a.m front choices) a.cols.now
+        → SearchedBy a.m a.n a.costs.now a.bars.now a.cols.now a.us.now a.vs.now list true after
+    one_found list after e = record { told = ap another (sym q); written = e ∙ stores_moved ∙ ap (λ (r : Answer). written_in r list) (sym q) }
       where
-        q : second night us vs cols ≡ also (moved night us vs cols z)
-        q = second_left night us vs cols z ended.0
+        q : second (night a) a.us.now a.vs.now a.cols.now ≡ also (moved (night a) a.us.now a.vs.now a.cols.now z)
+        q = second_left (night a) a.us.now a.vs.now a.cols.now z h.0

@@ -1,36 +1,30 @@
--- A loop that looks for the first place of a test from a given one on. Assumes nothing.
-use mathlib.Core.Path.{◌≡◌, sym, ◌∙◌}
-use mathlib.Core.Bool.{Bool, true, false, ◌&&◌}
-use Prim.Native.Nat.{ℕ, ◌+◌, ◌≤◌, ◌<◌}
+-- The first number of a range that passes a test, as a search over the range answers it; and that it is the first of all where none before the
+-- range passes. Assumes nothing.
+use Rattle.std.proofs.Common.{◌≡◌, sym, ◌∙◌, Bool, true, false, Option, Some, None, ℕ, ◌≤◌, ◌<◌, arith}
+use Rattle.std.specs.Prelude.{MatchOption}
 use native.Mathlib.Decide.{dec_lt}
-use native.Mathlib.Omega.{arith}
-use lib.Dec.{leb}
-use borrow.Author.Tests.{le-leb, lt-leb}
-use Rattle.lists.specs.Runs.{first}
-use Rattle.matrix.proofs.First.{Clear, clear_more, found, first_cong}
-use Rattle.swaps.specs.Places.{first_from}
+use Rattle.lists.specs.Runs.{Finds, FindsFrom}
 
-module _ (from : ℕ) (test : ℕ → Bool) where
-  -- The test, from there on.
-  abbrev pub since : ℕ → Bool
-  since k = leb from k && test k
+module _ (a b : ℕ) (test : ℕ → Bool) where
+  -- What std says of a search over a range.
+  pub finds_from : (r : Option ℕ)
+      → MatchOption r ((k : ℕ) → a ≤ k → k < b → test k ≡ false) (λ i. (a ≤ i) × (i < b) × (test i ≡ true) × ((k : ℕ) → a ≤ k → k < i → test k ≡ false))
+      → FindsFrom a b (λ k t. test k ≡ t) r
+  finds_from None h = h
+  finds_from (Some i) h = h
 
-  pub since_start : Clear since from
-  since_start k l = rw (lt-leb from k l)
-
-  pub since_at : (k : ℕ) → from ≤ k → since k ≡ test k
-  since_at k h = rw (le-leb from k h)
-
-  pub since_more : (k : ℕ) → from ≤ k → Clear since k → test k ≡ false → Clear since (k + 1)
-  since_more k h clear e = clear_more since k clear (since_at k h ∙ e)
-
-  pub since_found : (n k : ℕ) → from ≤ k → k < n → Clear since k → test k ≡ true → k ≡ first_from from n test
-  since_found n k h l clear e = found since n k l clear (since_at k h ∙ e)
-
-  -- Where the test holds at no place before, it is the first place of all.
-  pub since_first : (n : ℕ) → Clear test from → first_from from n test ≡ first n test
-  since_first n clear = first_cong n since test (λ k l. by k (dec_lt k from))
+-- No number before a and none from b to n passes; below b the test is this one.
+module _ (a b n : ℕ) (b≤n : b ≤ n) (test leads : ℕ → Bool) (same : (k : ℕ) → k < b → test k ≡ leads k)
+    (before : (k : ℕ) → k < a → leads k ≡ false) (above : (k : ℕ) → b ≤ k → k < n → leads k ≡ false) where
+  pub finds_all : (r : Option ℕ) → FindsFrom a b (λ k t. test k ≡ t) r → Finds n leads r
+  finds_all None h = λ k l. by k l (dec_lt k a) (dec_lt k b)
     where
-      by : (k : ℕ) → Dec (k < from) → since k ≡ test k
-      by k (yes h) = rw (lt-leb from k h) (sym (clear k h))
-      by k (no h) = since_at k (omega arith)
+      by : (k : ℕ) → k < n → Dec (k < a) → Dec (k < b) → leads k ≡ false
+      by k l (yes p) d = before k p
+      by k l (no p) (yes q) = sym (same k q) ∙ h k (omega arith) q
+      by k l (no p) (no q) = above k (omega arith) l
+  finds_all (Some i) h = (omega (arith, h.1), sym (same i h.1) ∙ h.2, λ k l. by k l (dec_lt k a))
+    where
+      by : (k : ℕ) → k < i → Dec (k < a) → leads k ≡ false
+      by k l (yes p) = before k p
+      by k l (no p) = sym (same k (omega (arith, h.1))) ∙ h.3 k (omega arith) l

@@ -8,15 +8,13 @@ use native.Mathlib.Decide.{ℕ_discrete, dec_lt}
 use native.Mathlib.Omega.{arith}
 use lib.Dec.{ltb}
 use lib.IntN.{ℤ, pos}
-use lib.ListN.{length, set, length-set}
-use lib.Seq.{get_or-set_same, get_or-set_other}
+use lib.ListN.{length, set, take, length-set}
+use lib.Seq.{get_or-set_same, get_or-set_other, get_or-take, length-take-le}
 use borrow.Author.Tests.{lt-ltb, le-ltb}
 use Rattle.ints.specs.Parts.{Within}
 use Rattle.ints.proofs.Shapes.{zlin}
 use Rattle.lists.specs.Permutations.{at}
 use Rattle.lists.proofs.Injections.{source_of}
-use Rattle.lists.proofs.Tables.{length-table, get_d_table}
-use Rattle.lists.specs.Permutations.{table}
 use Rattle.assignment.specs.Pairings.{Night, Pairing, signed_at}
 use Rattle.assignment.proofs.Pairings.{pairing_injective}
 use Rattle.matrix.specs.Limits.{near}
@@ -33,15 +31,15 @@ module _ (night : Night) (vs : List ℤ) (cols : List ℕ) where
   abbrev own : ℕ → ℕ
   own j = behind night cols j
 
-  pub lowered_start : (w : Walk) (ts : List ℤ) → ts ≡ table night.column_count (signed_at vs) → Prices night.column_count vs → Lowered night vs cols w ts
+  pub lowered_start : (w : Walk) (ts : List ℤ) → ts ≡ take night.column_count vs → Prices night.column_count vs → Lowered night vs cols w ts
   lowered_start w ts e p = record {
-    size = ap length e ∙ length-table night.column_count (signed_at vs);
+    size = ap length e ∙ length-take-le night.column_count vs p.enough;
     bounded = λ j l. let s = p.within j l in rw (same j l) (omega (zlin, K_small));
     kept = λ j l q. same j l;
   }
     where
       same : (j : ℕ) → j < night.column_count → signed_at ts j ≡ signed_at vs j
-      same j l = ap (λ (t : List ℤ). signed_at t j) e ∙ get_d_table night.column_count (signed_at vs) (pos 0) j l
+      same j l = ap (λ (t : List ℤ). signed_at t j) e ∙ get_or-take night.column_count vs j (pos 0) l
 
   pub lowered_entered : (w : Walk) (ts : List ℤ) (x : ℕ) → mark w x ≡ 0 → Lowered night vs cols w ts → Lowered night vs cols (enter x w) ts
   lowered_entered w ts x new h = record {

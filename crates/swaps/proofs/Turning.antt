@@ -1,283 +1,226 @@
--- One turn of the walk in its room: what the stores of a turn leave is what the walk's turn makes. Assumes nothing.
-use mathlib.Core.Path.{◌≡◌, sym, ap, ap₂, ◌∙◌, subst}
-use mathlib.Core.Bool.{Bool, true, cond, not}
+-- One turn of the walk: what the stores of a turn leave is what the walk's turn makes. Assumes nothing.
+use mathlib.Core.Path.{◌≡◌, refl, sym, ap, ◌∙◌, subst}
+use mathlib.Core.Bool.{Bool, cond, not}
 use mathlib.Core.Logic.{◌≢◌}
 use mathlib.Core.List.{List}
-use Prim.Native.Nat.{ℕ, suc, ◌+◌, ◌-◌, ◌≤◌, ◌<◌}
+use Rattle.std.proofs.Common.{Option, Some, None, unwrap_or}
+use Prim.Native.Nat.{ℕ, suc, ◌-◌, ◌^◌, ◌≤◌, ◌<◌}
 use native.Mathlib.Decide.{ℕ_discrete, dec_lt}
+use native.Mathlib.Nat.{sub-zero}
 use native.Mathlib.Omega.{arith}
-use lib.Dec.{ltb, eqb}
+use lib.Dec.{eqb}
 use lib.IntN.{ℤ}
-use lib.ListN.{set}
-use borrow.Author.Tests.{lt-ltb, le-ltb, eq-eqb, ne_eqb, eqb-false}
-use Rattle.lists.specs.Runs.{Turn, on, left, first}
+use lib.ListN.{length, set, take}
+use lib.Seq.{length-take-le, get_or-take}
+use borrow.Author.Tests.{lt-ltb, le-ltb, eq-eqb, ne_eqb}
+use Rattle.std.specs.declared.ops.ControlFlow.{ControlFlow}
+use Rattle.std.specs.declared.ops.ControlFlow.TheVariants.{Continue, Break}
+use Rattle.lists.specs.Runs.{Turn, on, left, first, Finds}
 use Rattle.lists.specs.Permutations.{at}
-use Rattle.lists.proofs.Runs.{first_le, first_holds}
-use Rattle.lists.proofs.Parts.{part_at}
+use Rattle.lists.proofs.Found.{first_of}
+use Rattle.lists.proofs.Runs.{first_none, first-at}
 use Rattle.lists.proofs.Injections.{pigeonhole}
-use Rattle.assignment.specs.Pairings.{Night}
-use Rattle.bars.specs.Barred.{night_of}
+use Rattle.matrix.proofs.SmallLimits.{side_small}
 use Rattle.matrix.proofs.First.{first_cong}
-use Rattle.swaps.specs.Walks.{Walk, Closed, mark, place, place_of, last, is_done, enter, finish, live, choice}
-use Rattle.swaps.specs.Second.{nodes, dearest, way}
-use Rattle.swaps.specs.Rooms.{Fair, CanChoose, CanGo, come_to, entered, finished, advanced, first_open, place_in, over_to, gone_to, gone, Lowered, lowest, lower_at, walk_of, turn_of, closed_in, Holds, Underway, TurnedTo}
-use Rattle.swaps.specs.declared.Turned.{Turned}
-use Rattle.swaps.specs.declared.Turned.TheVariants.{On, Back}
+use Rattle.swaps.specs.Walks.{Walk, Closed, mark, place, place_of, last, is_done, enter, finish, live, choice, begin, go_to, go_from, turn}
+use Rattle.swaps.specs.Rooms.{lower_at, over_to, walk_of, turned_at, Holds, Chosen}
+use Rattle.swaps.specs.Turning.{night, node_count, way_of, leads_on, CanChoose, Beside, CanTurn, AfterTurn, TurnedTo}
+use Rattle.swaps.specs.declared.accepted.Accepted.{Accepted}
 use Rattle.swaps.proofs.Walks.{Sound, live-read, size_below, path_injective}
 use Rattle.swaps.proofs.Turns.{State, open_node, state_after}
 use Rattle.swaps.proofs.Ways.{row_read, spare_read}
 use Rattle.swaps.proofs.Lowering.{lowered_entered, lowered_finished}
-use Rattle.swaps.proofs.Choosing.{nodes_columns, behind_node}
-use Rattle.swaps.proofs.Rooms.{walk_entered, walk_finished, walk_advanced, come_here, holds_advanced, holds_entered, holds_finished, come_chosen}
+use Rattle.swaps.proofs.Choosing.{nodes_columns, own_at}
+use Rattle.swaps.proofs.Rooms.{come_here, holds_advanced, holds_finished, holds_entered, come_chosen}
 
-module _ (m n : ℕ) (costs : List ℤ) (bars cols : List ℕ) (us vs ts : List ℤ) (fair : Fair m n costs bars cols us vs) (size : ℕ) (room : List ℕ)
-    (h : Holds (night_of m n costs bars) us vs cols size room)
-    (lower : Lowered (night_of m n costs bars) vs cols (walk_of (night_of m n costs bars) us vs cols size room) ts)
-    (under : Underway (night_of m n costs bars) us vs cols (walk_of (night_of m n costs bars) us vs cols size room)) where
-  abbrev night : Night
-  night = night_of m n costs bars
+-- The place of a node, as it is found on the front of a list.
+pub place_found : (size : ℕ) (path marks : List ℕ) (y : ℕ) → size ≤ length path → (r : Option ℕ)
+    → Finds (length (take (size - 0) path)) (λ k. eqb (at (take (size - 0) path) k) y) r → unwrap_or r size ≡ place_of (walk_of size path marks) y
+place_found size path marks y l r h =
+    rw long at (first_of (length (take (size - 0) path)) (λ k. eqb (at (take (size - 0) path) k) y) r h)
+    ∙ first_cong size (λ k. eqb (at (take (size - 0) path) k) y) (λ k. eqb (at path k) y) (λ k b. ap (λ (v : ℕ). eqb v y) (get_or-take (size - 0) path k 0 (omega arith)))
+  where
+    long : length (take (size - 0) path) ≡ size
+    long = ap (λ (k : ℕ). length (take k path)) (sub-zero size) ∙ length-take-le size path l
 
+walk_held : Turn Walk Closed → Walk
+walk_held (on w) = w
+walk_held (left z) = z.walk
+
+module _ (a : Accepted) (w : Walk) (choices : List ℕ) (ts : List ℤ) (h : CanTurn a w choices ts) where
   abbrev N : ℕ
-  N = nodes night
+  N = node_count a
 
-  abbrev way_on : ℕ → ℕ → ℕ
-  way_on = way night us vs cols
+  abbrev n : ℕ
+  n = a.n
 
-  abbrev w : Walk
-  w = walk_of night us vs cols size room
+  abbrev go : ℕ → ℕ → ℕ
+  go = way_of a
 
-  pub fewer : N ≤ n
-  fewer = nodes_columns night cols fair.pairing
+  state : State N n go h.underway.0 w
+  state = state_after N n go h.underway.0 w (omega (arith, h.underway.1)) h.underway.2
 
-  state : State N n way_on under.0 w
-  state = state_after N n way_on under.0 w (omega (arith, under.1)) under.2
+  pub sound : Sound N n go w
+  sound = state.sound
 
-  s : Sound N n way_on w
-  s = state.sound
+  -- What code needs of sizes.
+  pub record Sizes : Type 0 where
+    pub few : n < 2 ^ 16
+    pub nodes_few : N ≤ n
+    pub path_below : w.size ≤ N
+    pub path_size : length w.path ≡ N
+    pub marks_size : length w.marks ≡ N
+    pub choices_size : length choices ≡ N
 
-  pub path_below : size ≤ N
-  path_below = pigeonhole (path_injective N n way_on w s)
-
-  marked : (k : ℕ) → k < N → mark w k ≡ at room (n + n + k)
-  marked k l = part_at (n + n) N room k 0 l
-
-  -- The last node, as code reads it.
-  pub last-read : 0 < size → at room (n + size - 1) ≡ last w
-  last-read l =
-      let e : n + size - 1 ≡ n + (size - 1) = omega arith in
-      ap (at room) e ∙ sym (part_at n N room (size - 1) 0 (omega (arith, path_below)))
-
-  pub last_inside : 0 < size → last w < N
-  last_inside l = s.inside (size - 1) (omega arith)
+  pub sizes : Sizes
+  sizes = record {
+    few = omega (arith, side_small, a.fair.small);
+    nodes_few = nodes_columns (night a) a.cols.now a.fair.pairing;
+    path_below = pigeonhole (path_injective N n go w sound);
+    path_size = sound.path_size;
+    marks_size = sound.marks_size;
+    choices_size = h.beside.holds.choices_size;
+  }
 
   -- ---- an empty path
 
-  module _ (none : size ≡ 0) where
-    abbrev x : ℕ
-    x = first_open n N room
+  module _ (none : w.size ≡ 0) where
+    abbrev opens : ℕ
+    opens = first N (λ y. not (is_done w y))
 
-    same_open : first N (λ y. not (is_done w y)) ≡ x
-    same_open = first_cong N (λ y. not (is_done w y)) (λ y. not (eqb (at room (n + n + y)) 2)) (λ y l. ap (λ (k : ℕ). not (eqb k 2)) (marked y l))
+    opened : (opens < N) × (mark w opens ≡ 0)
+    opened = open_node N n go h.underway.0 w state h.underway.1 none
 
-    opened : (x < N) × (mark w x ≡ 0)
-    opened = let o = open_node N n way_on under.0 w state under.1 none in (omega (arith, same_open, o.0), sym (ap (mark w) same_open) ∙ o.1)
+    pub open_found : (r : Option ℕ) → Finds (length w.marks) (λ y. not (eqb (at w.marks y) 2)) r → unwrap_or r (length w.marks) ≡ opens
+    open_found r f = first_of (length w.marks) (λ y. not (eqb (at w.marks y) 2)) r f ∙ ap (λ (k : ℕ). first k (λ y. not (is_done w y))) sound.marks_size
 
-    pub open_below : x < N
+    pub open_below : opens < N
     open_below = opened.0
 
-    started : walk_of night us vs cols 1 (entered n size x room) ≡ enter x w
-    started =
-        let one : suc size ≡ 1 = omega arith in
-        subst (λ (k : ℕ). walk_of night us vs cols k (entered n size x room) ≡ enter x w) one (walk_entered night us vs cols fewer size room x (omega arith) opened.0)
-
-    pub begun : TurnedTo night us vs cols size room (On 1) (entered n size x room) ts
+    begun : (on (enter opens w) ≡ turn N n go w) × Beside a (enter opens w) choices ts
     begun = (
-      rw (eq-eqb size 0 none) (ap (λ (k : ℕ). on (enter k w)) same_open ∙ ap on (sym started)),
-      (let one : suc size ≡ 1 = omega arith in
-          subst (λ (k : ℕ). Holds night us vs cols k (entered n size x room)) one
-          (holds_entered night us vs cols fewer size room h s x opened.0 opened.1 (λ g. absurd (omega arith)))),
-      subst (λ (v : Walk). Lowered night vs cols v ts) (sym started) (lowered_entered night vs cols w ts x opened.1 lower),
+      sym (ap (λ (t : Bool). cond t (on (enter opens w)) (go_from N n go (last w) w)) (eq-eqb w.size 0 none)),
+      record {
+        holds = holds_entered N n go w choices h.beside.holds sound opens opened.0 opened.1 (λ g. absurd (omega arith));
+        lowered = lowered_entered (night a) a.vs.now a.cols.now w ts opens opened.1 h.beside.lowered;
+      },
     )
+
+    -- As code writes it.
+    pub starts : (x : ℕ) → x ≡ opens → (path marks : List ℕ) → path ≡ set w.path 0 x → marks ≡ set w.marks x 1 → TurnedTo a w (Continue 1) path marks choices ts
+    starts x e path marks p q =
+        subst (λ (v : Walk). (on v ≡ turn N n go w) × Beside a v choices ts) same begun
+      where
+        same : enter opens w ≡ walk_of 1 path marks
+        same = rw (p, q, e, none) refl
 
   -- ---- from the last node
 
-  module _ (some : 0 < size) (x : ℕ) (is_last : x ≡ last w) (c : ℕ) (is-choice : c ≡ choice N n way_on w x) where
-    abbrev next : List ℕ
-    next = advanced n x c room
+  module _ (not_empty : w.size ≢ 0) where
+    abbrev x : ℕ
+    x = last w
 
-    abbrev y : ℕ
-    y = over_to m x c next
+    some : 0 < w.size
+    some = omega arith
 
-    same_walk : walk_of night us vs cols size next ≡ w
-    same_walk = walk_advanced night us vs cols fewer size room x c
+    pub last-below : x < N
+    last-below = sound.inside (w.size - 1) (omega arith)
 
-    last-below : x < N
-    last-below = omega (arith, is_last, last_inside some)
-
-    -- The room after the first store.
-    held : Holds night us vs cols size next
-    held = rw is-choice (holds_advanced night us vs cols fewer size room h s x some is_last)
-
-    sound : Sound N n way_on (walk_of night us vs cols size next)
-    sound = subst (Sound N n way_on) (sym same_walk) s
-
-    come : come_to n next x ≡ c
-    come = rw is-choice (come_here night us vs cols fewer size room h s x some is_last)
-
-    -- How the turn ends where the choice leads to node k.
-    abbrev onward : ℕ → Turn Walk Closed
-    onward k = cond (eqb (mark w k) 1) (left (record { from = place_of w k; walk = w })) (on (enter k w))
-
-    turn_goes : turn_of night us vs cols w ≡ cond (ltb c n) (onward (way_on x c)) (on (finish x w))
-    turn_goes = rw (ne_eqb size 0 (λ e. omega arith), is-choice, is_last)
-
-    -- The node to which the choice leads.
-    module _ (l : c < n) where
-      led : live N w (way_on x c) ≡ true
-      led = rw is-choice (first_holds (λ k. live N w (way_on x k)) n (omega (arith, is-choice)))
-
-      leads : way_on x c < N
-      leads = (live-read N n way_on w (way_on x c) led).0
-
-      not_done : mark w (way_on x c) ≢ 2
-      not_done = (live-read N n way_on w (way_on x c) led).1
-
-      same_node : y ≡ way_on x c
-      same_node = by (dec_lt x m)
-        where
-          by : Dec (x < m) → y ≡ way_on x c
-          by (yes b) = ap (λ (t : Bool). cond t (at next c) c) (lt-ltb x m b) ∙ held.columns c l ∙ sym (row_read night us vs cols x c b leads).leads
-          by (no b) = ap (λ (t : Bool). cond t (at next c) c) (le-ltb x m (omega arith)) ∙ sym (spare_read night us vs cols x c (omega arith) leads).0
-
-      node_mark : at next (n + n + y) ≡ mark w (way_on x c)
-      node_mark =
-          ap (λ (k : ℕ). at next (n + n + k)) same_node
-          ∙ sym (part_at (n + n) N next (way_on x c) 0 leads)
-          ∙ ap (λ (v : Walk). mark v (way_on x c)) same_walk
-
-    -- It is done.
-    finished_walk : walk_of night us vs cols (size - 1) (finished n x next) ≡ finish x w
-    finished_walk = walk_finished night us vs cols fewer size next x last-below ∙ ap (finish x) same_walk
-
-    gone_done : n ≤ c → TurnedTo night us vs cols size room (On (size - 1)) (finished n x next) (lower_at m n cols x c ts)
-    gone_done l = (
-      turn_goes ∙ ap (λ (t : Bool). cond t (onward (way_on x c)) (on (finish x w))) (le-ltb c n l)
-          ∙ ap on (sym finished_walk),
-      holds_finished night us vs cols fewer size next held sound x some (is_last ∙ sym (ap last same_walk)),
-      rw (le-ltb c n l)
-          (subst (λ (v : Walk). Lowered night vs cols v (cond (ltb x m) (set ts (at cols x) lowest) ts)) (sym finished_walk)
-          (lowered_finished night vs cols fair.pairing w ts x (omega (arith, s.marks_size, last-below)) lower)),
-    )
-
-    -- It goes on to a node that has not been seen.
-    module _ (l : c < n) (fresh : at next (n + n + y) ≢ 1) where
-      unseen : mark w (way_on x c) ≡ 0
-      unseen = let d : mark w (way_on x c) ≢ 1 = λ e. fresh (node_mark l ∙ e) in omega (arith, s.known (way_on x c) (leads l), not_done l, d)
-
-      node_below : y < N
-      node_below = omega (arith, same_node l, leads l)
-
-      new : mark (walk_of night us vs cols size next) y ≡ 0
-      new = ap₂ mark same_walk (same_node l) ∙ unseen
-
-      comes : (come_to n next (last (walk_of night us vs cols size next)) < n)
-          × (way_on (last (walk_of night us vs cols size next)) (come_to n next (last (walk_of night us vs cols size next))) ≡ y)
-      comes =
-          let e : last (walk_of night us vs cols size next) ≡ x = ap last same_walk ∙ sym is_last in
-          rw (e, come) (l, sym (same_node l))
-
-      pub path_room : size < n
-      path_room = omega (arith, size_below N n way_on (walk_of night us vs cols size next) sound y node_below new, fewer)
-
-      entered_walk : walk_of night us vs cols (suc size) (entered n size y next) ≡ enter (way_on x c) w
-      entered_walk =
-          walk_entered night us vs cols fewer size next y (size_below N n way_on (walk_of night us vs cols size next) sound y node_below new) node_below
-          ∙ ap₂ enter (same_node l) same_walk
-
-      gone_on : TurnedTo night us vs cols size room (On (suc size)) (entered n size y next) (lower_at m n cols x c ts)
-      gone_on = (
-        turn_goes ∙ ap (λ (t : Bool). cond t (onward (way_on x c)) (on (finish x w))) (lt-ltb c n l)
-            ∙ ap (λ (t : Bool). cond t (left (record { from = place_of w (way_on x c); walk = w })) (on (enter (way_on x c) w))) (ne_eqb (mark w (way_on x c)) 1 (λ e. omega (arith, unseen)))
-            ∙ ap on (sym entered_walk),
-        holds_entered night us vs cols fewer size next held sound y node_below new (λ g. comes),
-        rw (lt-ltb c n l) (subst (λ (v : Walk). Lowered night vs cols v ts) (sym entered_walk) (lowered_entered night vs cols w ts (way_on x c) unseen lower)),
-      )
-
-    -- It comes back to a node of the path.
-    module _ (l : c < n) (seen : at next (n + n + y) ≡ 1) where
-      same_place : place_in n size y next ≡ place_of w (way_on x c)
-      same_place =
-          first_cong size (λ k. eqb (at next (n + k)) y) (λ k. eqb (place w k) (way_on x c))
-          (λ k b. ap₂ eqb (sym (part_at n N next k 0 (omega (arith, path_below))) ∙ ap (λ (v : Walk). place v k) same_walk) (same_node l))
-
-      same_closed : closed_in night us vs cols (place_in n size y next) size next ≡ record { from = place_of w (way_on x c); walk = w }
-      same_closed = ap₂ closed_at same_place same_walk
-        where
-          closed_at : ℕ → Walk → Closed
-          closed_at from v = record { from = from; walk = v }
-
-      chosen : (t : ℕ) → t < size
-          → come_to n next (place (walk_of night us vs cols size next) t) ≡ choice N n way_on (walk_of night us vs cols size next) (place (walk_of night us vs cols size next) t)
-      chosen t b = elim (ℕ_discrete (suc t) size) [
-        | yes e ↦
-            let q : size - 1 ≡ t = omega arith in
-            let z : place (walk_of night us vs cols size next) t ≡ x = ap (λ (v : Walk). place v t) same_walk ∙ ap (place w) (sym q) ∙ sym is_last in
-            ap (come_to n next) z ∙ come ∙ is-choice ∙ ap₂ (choice N n way_on) (sym same_walk) (sym z)
-        | no d ↦ come_chosen night us vs cols fewer size next held sound t (omega arith)
-      ]
-
-      gone_back : TurnedTo night us vs cols size room (Back (place_in n size y next)) next (lower_at m n cols x c ts)
-      gone_back = (
-        turn_goes ∙ ap (λ (t : Bool). cond t (onward (way_on x c)) (on (finish x w))) (lt-ltb c n l)
-            ∙ ap (λ (t : Bool). cond t (left (record { from = place_of w (way_on x c); walk = w })) (on (enter (way_on x c) w))) (eq-eqb (mark w (way_on x c)) 1 (sym (node_mark l) ∙ seen))
-            ∙ ap left (sym same_closed),
-        record { room_size = held.room_size; at_choice = chosen },
-      )
-
-    -- What the stores of the turn leave.
-    pub gone_turned : (r : Turned) (after : List ℕ) → (r, after) ≡ gone m n size x c room → (ts' : List ℤ) → ts' ≡ lower_at m n cols x c ts
-        → TurnedTo night us vs cols size room r after ts'
-    gone_turned r after e ts' d =
-        subst (TurnedTo night us vs cols size room r after) (sym d)
-        (subst (λ (g : Turned × List ℕ). TurnedTo night us vs cols size room g.0 g.1 (lower_at m n cols x c ts)) (sym e) (by (dec_lt c n) (ℕ_discrete (at next (n + n + y)) 1)))
-      where
-        more : suc size ≡ size + 1
-        more = omega arith
-
-        gone_at : {b : Bool} → ltb c n ≡ b → gone m n size x c room ≡ cond b (gone_to n size y next) (On (size - 1), finished n x next)
-        gone_at e = ap (λ (t : Bool). cond t (gone_to n size y next) (On (size - 1), finished n x next)) e
-
-        by : Dec (c < n) → Dec (at next (n + n + y) ≡ 1) → TurnedTo night us vs cols size room (gone m n size x c room).0 (gone m n size x c room).1 (lower_at m n cols x c ts)
-        by (no l) d = subst (λ (g : Turned × List ℕ). TurnedTo night us vs cols size room g.0 g.1 (lower_at m n cols x c ts)) (sym (gone_at (le-ltb c n (omega arith)))) (gone_done (omega arith))
-        by (yes l) (yes d) =
-            subst (λ (g : Turned × List ℕ). TurnedTo night us vs cols size room g.0 g.1 (lower_at m n cols x c ts))
-            (sym (gone_at (lt-ltb c n l) ∙ ap (λ (t : Bool). cond t (Back (place_in n size y next), next) (On (size + 1), entered n size y next)) (eq-eqb (at next (n + n + y)) 1 d)))
-            (gone_back l d)
-        by (yes l) (no d) =
-            subst (λ (g : Turned × List ℕ). TurnedTo night us vs cols size room g.0 g.1 (lower_at m n cols x c ts))
-            (sym (gone_at (lt-ltb c n l) ∙ ap (λ (t : Bool). cond t (Back (place_in n size y next), next) (On (size + 1), entered n size y next)) (ne_eqb (at next (n + n + y)) 1 d)))
-            (subst (λ (k : ℕ). TurnedTo night us vs cols size room (On k) (entered n size y next) (lower_at m n cols x c ts)) more (gone_on l d))
-
-    pub can_go : CanGo m n size x c room
-    can_go = record {
-      small = fair.small;
-      room_size = h.room_size;
-      some = some;
-      path_size = omega (arith, path_below, fewer);
-      node = omega (arith, last-below, fewer);
-      choice_size = omega (arith, is-choice, first_le (λ k. live N w (way_on x k)) n);
-      nodes_inside = λ j l. omega (arith, h.columns j l, behind_node night cols fair.pairing us vs j l, fewer);
-      path_room = λ l e. path_room l (eqb-false (at next (n + n + y)) 1 e);
+    pub can_choose : CanChoose a w.marks ts x (at choices x)
+    can_choose = record {
+      node = last-below;
+      marks_size = sound.marks_size;
+      lowered = record { size = h.beside.lowered.size; bounded = h.beside.lowered.bounded; kept = h.beside.lowered.kept };
+      bounded = h.beside.holds.bounded x last-below;
+      passed = λ c b. h.beside.holds.passed x c last-below b;
     }
 
-  pub can_choose : (top : ℤ) → top ≡ dearest night vs cols → (x : ℕ) → x < N → CanChoose m n costs bars cols us vs ts top room x
-  can_choose top e x l = record {
-    fair = fair;
-    highest = e;
-    node = l;
-    room_size = h.room_size;
-    columns = h.columns;
-    bounded = h.bounded x l;
-    lowered = record { size = lower.size; bounded = lower.bounded; kept = lower.kept };
-    passed = λ c b. h.passed x c l b;
-  }
+    goes : turn N n go w ≡ go_from N n go x w
+    goes = ap (λ (t : Bool). cond t (on (begin N w)) (go_from N n go x w)) (ne_eqb w.size 0 (λ e. omega arith))
+
+    -- It has no choice: it is done.
+    module _ (f : Finds n (λ c. leads_on a w.marks x c) None) where
+      no_choice : choice N n go w x ≡ n
+      no_choice = first_none (λ c. live N w (go x c)) n f
+
+      pub ends : TurnedTo a w (Continue (w.size - 1)) w.path (set w.marks x 2) (set choices x n) (lower_at a.m a.cols.now x ts)
+      ends = (
+        sym (goes ∙ ap (λ (t : Bool). cond t (go_to (go x (choice N n go w x)) w) (on (finish x w))) (le-ltb (choice N n go w x) n (omega (arith, no_choice)))),
+        record {
+          holds = holds_finished N n go w (set choices x n)
+              (subst (λ (k : ℕ). Holds N n go w (set choices x k)) no_choice (holds_advanced N n go w choices h.beside.holds sound some)) sound some;
+          lowered = lowered_finished (night a) a.vs.now a.cols.now a.fair.pairing w ts x (omega (arith, sound.marks_size, last-below)) h.beside.lowered;
+        },
+      )
+
+    -- It goes over its choice.
+    module _ (c : ℕ) (f : Finds n (λ k. leads_on a w.marks x k) (Some c)) where
+      abbrev next : List ℕ
+      next = set choices x c
+
+      chosen : choice N n go w x ≡ c
+      chosen = first-at (λ k. live N w (go x k)) n c f.0 f.1 f.2
+
+      leads : (go x c < N) × (mark w (go x c) ≢ 2)
+      leads = live-read N n go w (go x c) f.1
+
+      held : Holds N n go w next
+      held = subst (λ (k : ℕ). Holds N n go w (set choices x k)) chosen (holds_advanced N n go w choices h.beside.holds sound some)
+
+      come : at next x ≡ c
+      come = subst (λ (k : ℕ). at (set choices x k) x ≡ k) chosen (come_here N n go w choices h.beside.holds sound some)
+
+      -- The node to which it leads, as code reads it.
+      pub node : over_to a.m a.rows.now x c ≡ go x c
+      node = by (dec_lt x a.m)
+        where
+          by : Dec (x < a.m) → over_to a.m a.rows.now x c ≡ go x c
+          by (yes b) = ap (λ (t : Bool). cond t (at a.rows.now c) c) (lt-ltb x a.m b)
+              ∙ own_at a w.marks ts x (at choices x) can_choose c f.0 ∙ sym (row_read (night a) a.us.now a.vs.now a.cols.now x c b leads.0).leads
+          by (no b) = ap (λ (t : Bool). cond t (at a.rows.now c) c) (le-ltb x a.m (omega arith))
+              ∙ sym (spare_read (night a) a.us.now a.vs.now a.cols.now x c (omega arith) leads.0).0
+
+      pub node_below : go x c < N
+      node_below = leads.0
+
+      -- A node that is not on the path has not been seen, and has room on it.
+      unseen : mark w (go x c) ≢ 1 → mark w (go x c) ≡ 0
+      unseen d = let e = leads.1 in omega (arith, sound.known (go x c) leads.0)
+
+      pub path_room : mark w (go x c) ≢ 1 → w.size < N
+      path_room d = size_below N n go w sound (go x c) leads.0 (unseen d)
+
+      goes_to : turn N n go w ≡ go_to (go x c) w
+      goes_to =
+          goes
+          ∙ ap (λ (t : Bool). cond t (go_to (go x (choice N n go w x)) w) (on (finish x w))) (lt-ltb (choice N n go w x) n (omega (arith, chosen, f.0)))
+          ∙ ap (λ (k : ℕ). go_to (go x k) w) chosen
+
+      beside : mark w (go x c) ≢ 1 → Beside a (enter (go x c) w) next ts
+      beside d = record {
+        holds = holds_entered N n go w next held sound (go x c) leads.0 (unseen d) (λ g. rw come (f.0, refl));
+        lowered = lowered_entered (night a) a.vs.now a.cols.now w ts (go x c) (unseen d) h.beside.lowered;
+      }
+
+      come_all : (t : ℕ) → t < w.size → at next (place w t) ≡ choice N n go w (place w t)
+      come_all t b = elim (ℕ_discrete (suc t) w.size) [
+        | yes e ↦ let q : w.size - 1 ≡ t = omega arith in rw (← q) (come ∙ sym chosen)
+        | no d ↦ come_chosen N n go w next held sound t (omega arith)
+      ]
+
+      back : mark w (go x c) ≡ 1 → go_to (go x c) w ≡ left (record { from = place_of w (go x c); walk = w })
+      back d = ap (λ (t : Bool). cond t (left (record { from = place_of w (go x c); walk = w })) (on (enter (go x c) w))) (eq-eqb (mark w (go x c)) 1 d)
+
+      onward : mark w (go x c) ≢ 1 → go_to (go x c) w ≡ on (enter (go x c) w)
+      onward d = ap (λ (t : Bool). cond t (left (record { from = place_of w (go x c); walk = w })) (on (enter (go x c) w))) (ne_eqb (mark w (go x c)) 1 d)
+
+      -- How the turn ends, from how the way ends.
+      pub gone : (r : ControlFlow ℕ ℕ) (path marks : List ℕ) → turned_at w.size r path marks ≡ go_to (go x c) w → TurnedTo a w r path marks next ts
+      unfolding walk_held
+      gone r path marks e = (e ∙ sym goes_to, by r e (ℕ_discrete (mark w (go x c)) 1))
+        where
+          by : (r : ControlFlow ℕ ℕ) → turned_at w.size r path marks ≡ go_to (go x c) w → Dec (mark w (go x c) ≡ 1) → AfterTurn a w.size r path marks next ts
+          by (Continue size) e (yes d) = let q = e ∙ back d in absurd cc
+          by (Continue size) e (no d) = subst (λ (v : Walk). Beside a v next ts) (sym (ap walk_held (e ∙ onward d))) (beside d)
+          by (Break from) e (yes d) = subst (λ (v : Walk). Chosen N n go v next) (sym (ap walk_held (e ∙ back d))) come_all
+          by (Break from) e (no d) = let q = e ∙ onward d in absurd cc

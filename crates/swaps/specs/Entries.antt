@@ -1,18 +1,20 @@
 -- The entries: what each answers, and what a caller finds in the three lists that it may write, for every input.
-use Rattle.std.specs.Prelude.{Bool, true, false, List, [], ◌∷◌, ◌++◌, ℕ, ◌*◌, ℤ, pos, length, drop, replicate}
+use Rattle.std.specs.Prelude.{Bool, true, false, Result, Ok, Err, List, [], ◌∷◌, ◌++◌, ℕ, ◌*◌, ℤ, pos, length, drop, replicate}
 use Rattle.assignment.specs.Pairings.{Night, square, total}
 use Rattle.matrix.specs.Refusals.{number_of, place_of, slack_of}
-use Rattle.matrix.specs.Verdicts.{◌then◌}
+use Rattle.matrix.specs.Verdicts.{Verdict, ◌then◌}
 use Rattle.matrix.specs.Tests.{list_long, shaped, rooms_long}
-use Rattle.matrix.specs.declared.Verdict.{Verdict}
-use Rattle.matrix.specs.declared.Verdict.TheVariants.{Passed, Fails}
+use Rattle.matrix.specs.declared.refusals.Refusal.{Refusal}
 use Rattle.bars.specs.Barred.{night_of, barred}
 use Rattle.checker.specs.Tests.{spares_not_below}
 use Rattle.checker.specs.Check.{price_tests, proof_tests, shaped_barred, paired_barred, shaped_oblong, paired_oblong}
 use Rattle.swaps.specs.Second.{second}
 use Rattle.swaps.specs.Found.{another, written_front}
-use Rattle.swaps.specs.declared.Seconded.{Seconded}
-use Rattle.swaps.specs.declared.Seconded.TheVariants.{Told, Refused}
+use Rattle.swaps.specs.declared.Pairings.{Pairings}
+
+-- What an entry answers: what the pairing comes to and whether another does, or why the input is refused.
+abbrev pub Seconded : Type 0
+Seconded = Result Pairings Refusal
 
 -- The lists that may be written: the second's columns, and the two work rooms.
 pub record Lent : Type 0 where
@@ -34,15 +36,15 @@ outcome_of answer lent = record { answer = answer; lent = lent }
 -- From the verdict on a night, a pairing and its prices: the total and whether there is another, "the second's columns go to list 6, untouched for
 -- "only one"", and the work room "left as there"; a refusal changes nothing.
 unfoldable pub outcome : Night → List ℕ → List ℤ → List ℤ → Lent → Verdict → Outcome
-outcome night cols us vs lent Passed = record {
-  answer = Told (record { total = total night cols; another = another (second night us vs cols) });
+outcome night cols us vs lent (Ok _) = record {
+  answer = Ok (record { total = total night cols; another = another (second night us vs cols) });
   lent = record {
     list = written_front night.row_count (second night us vs cols) lent.list;
     indices = replicate (4 * night.column_count) 0 ++ drop (4 * night.column_count) lent.indices;
     numbers = replicate night.column_count (pos 0) ++ drop night.column_count lent.numbers;
   };
 }
-outcome night cols us vs lent (Fails refusal) = outcome_of (Refused refusal) lent
+outcome night cols us vs lent (Err refusal) = outcome_of (Err refusal) lent
 
 -- 3 of "list 6", which needs as many entries as there are rows; and "4 after 3 with the solver's work room".
 abbrev pub lent_long : ℕ → ℕ → Lent → Verdict
@@ -99,8 +101,8 @@ pub record SecondValues : Type 0 where
 
 -- "a refusal has total and also 0, and slack 0 but for 9 and 10".
 abbrev pub second_values : Seconded → SecondValues
-second_values (Told pairings) = record { accepted = true; number = 0; place = 0; slack = pos 0; total = pairings.total; also = pairings.another }
-second_values (Refused refusal) = record { accepted = false; number = number_of refusal; place = place_of refusal; slack = slack_of refusal; total = pos 0; also = false }
+second_values (Ok pairings) = record { accepted = true; number = 0; place = 0; slack = pos 0; total = pairings.total; also = pairings.another }
+second_values (Err refusal) = record { accepted = false; number = number_of refusal; place = place_of refusal; slack = slack_of refusal; total = pos 0; also = false }
 
 -- The values of the answer, and the lent lists.
 pub record Found : Type 0 where

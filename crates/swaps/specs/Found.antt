@@ -28,19 +28,7 @@ pub record SearchedBy (m n : ℕ) (costs : List ℤ) (bars cols : List ℕ) (us 
   pub told : r ≡ another (second (night_of m n costs bars) us vs cols)
   pub written : after ≡ written_in (second (night_of m n costs bars) us vs cols) list
 
--- What is found with, of any night, and what is left: the rooms are cleared.
-pub record CanFind (m n : ℕ) (costs : List ℤ) (bars cols : List ℕ) (us vs : List ℤ) (list room : List ℕ) (numbers : List ℤ) : Type 0 where
-  pub fair : Fair m n costs bars cols us vs
-  pub list_size : length list ≡ m
-  pub room_size : length room ≡ n + n + n + n
-  pub numbers_size : length numbers ≡ n
-
-pub record FoundBy (m n : ℕ) (costs : List ℤ) (bars cols : List ℕ) (us vs : List ℤ) (list : List ℕ) (r : Bool) (after room : List ℕ) (numbers : List ℤ) : Type 0 where
-  pub searched : SearchedBy m n costs bars cols us vs list r after
-  pub room_cleared : room ≡ replicate (4 * n) 0
-  pub numbers_cleared : numbers ≡ replicate n (pos 0)
-
--- The same on longer lists: the first m entries of the list, 4n of the indices and n of the numbers, with all behind them untouched.
+-- The same of any night, and on longer lists: the first m entries of the list, 4n of the indices and n of the numbers, with all behind them untouched.
 abbrev pub written_front : ℕ → Answer → List ℕ → List ℕ
 written_front m only list = list
 written_front m (also other) list = other ++ drop m list

@@ -1,14 +1,9 @@
 -- What code asks of one place: whether the walk goes on over it.
-use Rattle.std.specs.Prelude.{Bool, not, ◌&&◌, ◌||◌, List, ℕ, leb, ltb, eqb, ℤ, ◌+ℤ◌}
+use Rattle.std.specs.Prelude.{Bool, not, ◌&&◌, ◌||◌, List, ℕ, ltb, eqb, ℤ, ◌+ℤ◌}
 use Rattle.std.specs.Int.Signed.{le_z}
-use Rattle.lists.specs.Runs.{first}
 use Rattle.lists.specs.Permutations.{at}
 use Rattle.lists.specs.Counts.{bit_of}
 use Rattle.assignment.specs.Pairings.{signed_at}
-
--- The first place from `from` on at which the test holds; n where it holds at none.
-abbrev pub first_from : ℕ → ℕ → (ℕ → Bool) → ℕ
-first_from from n test = first n (λ k. leb from k && test k)
 
 -- From row i over column j: the node behind it is another and is not done; a spare column's price is not above the highest of a used one; and the
 -- column is not barred to the row.
@@ -22,5 +17,5 @@ goes_over m top bits i row u vs rows marks j =
     le_z (signed_at row j) (u +ℤ signed_at vs j) && free m top bits i (signed_at vs j) rows marks j
 
 -- From the spare columns to row i: it is not done, and its column has the highest price of a used one.
-abbrev pub comes_down : ℕ → ℤ → List ℕ → List ℤ → List ℕ → ℕ → Bool
-comes_down m top cols vs marks i = ltb i m && (not (eqb (at marks i) 2) && le_z top (signed_at vs (at cols i)))
+abbrev pub comes_down : ℤ → List ℕ → List ℤ → List ℕ → ℕ → Bool
+comes_down top cols vs marks i = not (eqb (at marks i) 2) && le_z top (signed_at vs (at cols i))

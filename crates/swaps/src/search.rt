@@ -1,13 +1,46 @@
 // The search for a second pairing, on lists of their sizes.
-ghost use Rattle.std.specs.Prelude.{◌≡◌, pos, length, replicate};
-ghost use Rattle.swaps.specs.Found.{CanSearch, SearchedBy, CanFind, FoundBy, CanFindIn, FoundIn};
+ghost use Rattle.std.specs.Prelude.{◌≡◌, ◌<◌, length};
+ghost use Rattle.swaps.specs.Found.{CanSearch, SearchedBy, CanFindIn, FoundIn};
 
-use crate::Walked;
+use crate::accepted::Accepted;
 use crate::moves::move_rows;
-use crate::start::{copy_prices, count_nodes, dearest, list_rows};
-use crate::walk::walk;
+use crate::start::{count_nodes, dearest, list_rows};
 
-// Of a night with at least one row: whether another pairing has the total of this one. Its columns are then written to the list.
+impl Accepted<'_> {
+    // Of a night with at least one row: whether another pairing has the total of this one. Its columns are then written to the list.
+    fn search(
+        &self,
+        list: &mut [u32],
+        path: &mut [u32],
+        marks: &mut [u32],
+        choices: &mut [u32],
+        prices: &mut [i64],
+    ) -> bool
+        requires some { 0 < self.now.m }
+        requires list_size { length list.old ≡ self.now.m }
+        requires path_size { length path.old ≡ self.now.n }
+        requires marks_size { length marks.old ≡ self.now.n }
+        requires choices_size { length choices.old ≡ self.now.n }
+        requires prices_size { length prices.old ≡ self.now.n }
+        ensures { SearchedBy self.now.m self.now.n self.now.costs.now self.now.bars.now self.now.cols.now self.now.us.now self.now.vs.now list.old result list.new }
+    {
+        let count = count_nodes(self.m, self.n);
+        let path = &mut path[0..count];
+        let marks = &mut marks[0..count];
+        let choices = &mut choices[0..count];
+        path.fill(0);
+        marks.fill(0);
+        choices.fill(0);
+        prices.copy_from_slice(&self.vs[0..self.n]);
+        let Some((from, size)) = self.walk(path, marks, choices, prices) else {
+            return false;
+        };
+        move_rows(self.m, self.cols, &path[from..size], choices, list);
+        true
+    }
+}
+
+// The same, with the four parts of a room: the row behind each column, the path, the marks, and the choices.
 fn search(
     m: usize,
     n: usize,
@@ -18,83 +51,32 @@ fn search(
     vs: &[i64],
     list: &mut [u32],
     room: &mut [u32],
-    numbers: &mut [i64],
+    prices: &mut [i64],
 ) -> bool
-    requires { CanSearch m n costs.now bars.now cols.now us.now vs.now list.old room.old numbers.old }
+    requires { CanSearch m n costs.now bars.now cols.now us.now vs.now list.old room.old prices.old }
     ensures { SearchedBy m n costs.now bars.now cols.now us.now vs.now list.old result list.new }
 {
-    lists::fill(room, 0);
-    list_rows(m, cols, &mut room[0..n]);
-    copy_prices(vs, numbers);
+    let (rows, rest) = room.split_at_mut(n);
+    let (path, rest) = rest.split_at_mut(n);
+    let (marks, choices) = rest.split_at_mut(n);
+    list_rows(m, cols, rows);
     let top = dearest(m, cols, vs);
-    let count = count_nodes(m, n);
-    match walk(m, n, costs, bars, cols, us, vs, numbers, top, count, room) {
-        Walked::Ended => {
-            return false;
-        }
-        Walked::Came(from, size) => {
-            move_rows(m, n, from, size, cols, room, list);
-        }
-    }
-    true
+    let night = Accepted {
+        m,
+        n,
+        costs,
+        bars,
+        cols,
+        us,
+        vs,
+        rows,
+        top,
+    };
+    night.search(list, path, marks, choices, prices)
 }
 
-// Of any night: one without rows has only the one pairing.
-fn search_any(
-    m: usize,
-    n: usize,
-    costs: &[i32],
-    bars: &[u64],
-    cols: &[u32],
-    us: &[i64],
-    vs: &[i64],
-    list: &mut [u32],
-    room: &mut [u32],
-    numbers: &mut [i64],
-) -> bool
-    requires { CanFind m n costs.now bars.now cols.now us.now vs.now list.old room.old numbers.old }
-    ensures { SearchedBy m n costs.now bars.now cols.now us.now vs.now list.old result list.new }
-{
-    if m == 0 {
-        return false;
-    }
-    search(m, n, costs, bars, cols, us, vs, list, room, numbers)
-}
-
-// Every number is 0.
-fn clear(numbers: &mut [i64])
-    ensures { numbers.new ≡ replicate (length numbers.old) (pos 0) }
-{
-    let mut k = 0;
-    while k < numbers.len() {
-        numbers[k] = 0;
-        k += 1;
-    }
-}
-
-// The whole search. The rooms are cleared at the end.
-fn find(
-    m: usize,
-    n: usize,
-    costs: &[i32],
-    bars: &[u64],
-    cols: &[u32],
-    us: &[i64],
-    vs: &[i64],
-    list: &mut [u32],
-    room: &mut [u32],
-    numbers: &mut [i64],
-) -> bool
-    requires { CanFind m n costs.now bars.now cols.now us.now vs.now list.old room.old numbers.old }
-    ensures { FoundBy m n costs.now bars.now cols.now us.now vs.now list.old result list.new room.new numbers.new }
-{
-    let another = search_any(m, n, costs, bars, cols, us, vs, list, room, numbers);
-    lists::fill(room, 0);
-    clear(numbers);
-    another
-}
-
-// Whether another pairing has the total of this one: the search on lists that may be longer.
+// Whether another pairing has the total of this one: the search on lists that may be longer. A night without rows has only the one pairing. The rooms
+// are cleared at the end.
 pub fn find_second(
     m: usize,
     n: usize,
@@ -110,18 +92,22 @@ pub fn find_second(
     requires { CanFindIn m n costs.now bars.now cols.now us.now vs.now list.old indices.old numbers.old }
     ensures { FoundIn m n costs.now bars.now cols.now us.now vs.now list.old indices.old numbers.old result list.new indices.new numbers.new }
 {
-    let n4 = 4 * n;
-    let first = &cols[0..m];
-    find(
-        m,
-        n,
-        costs,
-        bars,
-        first,
-        us,
-        vs,
-        &mut list[0..m],
-        &mut indices[0..n4],
-        &mut numbers[0..n],
-    )
+    let room = &mut indices[0..4 * n];
+    let prices = &mut numbers[0..n];
+    let another = 0 < m
+        && search(
+            m,
+            n,
+            costs,
+            bars,
+            &cols[0..m],
+            us,
+            vs,
+            &mut list[0..m],
+            room,
+            prices,
+        );
+    room.fill(0);
+    prices.fill(0);
+    another
 }

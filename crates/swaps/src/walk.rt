@@ -1,162 +1,122 @@
-// The walk: turn by turn, over a room of four parts: the node behind each column, the path, the marks, and the choice that each node has come to.
-ghost use Rattle.std.specs.Prelude.{◌≡◌, ◌+◌, ◌≤◌, ◌<◌, ◌^◌, length};
+// The walk, turn by turn: its path, the marks of its nodes, and the choice to which each node has come, in lists of an entry for each node.
+ghost use Rattle.std.specs.Prelude.{◌≡◌, false, ◌≤◌, ◌<◌, ◌^◌, not, eqb, length, set};
+ghost use Rattle.lists.specs.Runs.{Finds};
 ghost use Rattle.lists.specs.Permutations.{at};
-ghost use Rattle.bars.specs.Barred.{night_of};
-ghost use Rattle.swaps.specs.Rooms.{first_open, place_in, entered, over_to, gone, CanGo, CanTurn, CanWalk, TurnedTo, WalkedTo, lower_at};
+ghost use Rattle.swaps.specs.Walks.{go_to};
+ghost use Rattle.swaps.specs.Rooms.{walk_of, turned_at, over_to, lower_at};
+ghost use Rattle.swaps.specs.Turning.{CanTurn, TurnedTo, CanWalk, WalkedTo};
 
-use crate::choices::choose;
-use crate::{Turned, Walked};
+use crate::accepted::Accepted;
+use std::ops::ControlFlow;
 
-// The first node that is not done, or `nodes`.
-fn first_open(n: usize, nodes: usize, room: &[u32]) -> usize
-    requires { n + n + nodes ≤ length room.now }
-    ensures { result ≡ first_open n nodes room.now }
+// The marks of nodes: on the path, and done. They are numbers since they lie in memory that is lent; a node that has not been seen has 0.
+pub const ON_PATH: u32 = 1;
+
+pub const DONE: u32 = 2;
+
+// The first node that is not done.
+fn first_open(marks: &[u32]) -> Option<usize>
+    ensures { Finds (length marks.now) (λ y. not (eqb (at marks.now y) 2)) result }
 {
-    let n2 = n + n;
-    let mut y = 0;
-    while y < nodes {
-        if room[n2 + y] != 2 {
-            return y;
-        }
-        y += 1;
-    }
-    y
+    marks.iter().position(|&mark| mark != DONE)
 }
 
-// The place of node y on a path of this size, or the size.
-fn place_of(n: usize, size: usize, y: usize, room: &[u32]) -> usize
-    requires { n + size ≤ length room.now }
-    ensures { result ≡ place_in n size y room.now }
+// The place of node y on a path.
+fn place_of(path: &[u32], y: usize) -> Option<usize>
+    ensures { Finds (length path.now) (λ k. eqb (at path.now k) y) result }
 {
-    let mut k = 0;
-    while k < size {
-        if room[n + k] as usize == y {
-            return k;
-        }
-        k += 1;
-    }
-    k
+    path.iter().position(|&x| x as usize == y)
 }
 
 // Node x joins a path of this size.
-fn enter(n: usize, size: usize, x: usize, room: &mut [u32])
-    requires { (n + size < length room.old) × (n + n + x < length room.old) × (x < 2 ^ 32) }
-    ensures { room.new ≡ entered n size x room.old }
+fn enter(path: &mut [u32], marks: &mut [u32], size: usize, x: usize)
+    requires { (size < length path.old) × (x < length marks.old) × (x < 2 ^ 32) }
+    ensures { (path.new ≡ set path.old size x) × (marks.new ≡ set marks.old x 1) }
 {
-    let n2 = n + n;
-    room[n + size] = x as u32;
-    room[n2 + x] = 1;
+    path[size] = x as u32;
+    marks[x] = ON_PATH;
 }
 
-// The node to which choice c of node x leads.
-fn over_to(m: usize, x: usize, c: usize, room: &[u32]) -> usize
-    requires { c < length room.now }
-    ensures { result ≡ over_to m x c room.now }
+// The way leads to node y: the path has come back to it, then its place; or it joins the path, then the new size.
+fn go_to(path: &mut [u32], marks: &mut [u32], size: usize, y: usize) -> ControlFlow<usize, usize>
+    requires { (size ≤ length path.old) × (y < length marks.old) × (y < 2 ^ 32) × (eqb (at marks.old y) 1 ≡ false → size < length path.old) }
+    ensures { turned_at size result path.new marks.new ≡ go_to y (walk_of size path.old marks.old) }
 {
-    if x < m {
-        return room[c] as usize;
+    if marks[y] == ON_PATH {
+        return ControlFlow::Break(place_of(&path[0..size], y).unwrap_or(size));
     }
-    c
-}
-
-// From node x, the last of a path of this size, over choice c.
-fn go(m: usize, n: usize, size: usize, x: usize, c: usize, room: &mut [u32]) -> Turned
-    requires { CanGo m n size x c room.old }
-    ensures { (result, room.new) ≡ gone m n size x c room.old }
-{
-    let n2 = n + n;
-    let n3 = n2 + n;
-    room[n3 + x] = c as u32;
-    if n <= c {
-        room[n2 + x] = 2;
-        return Turned::On(size - 1);
-    }
-    let y = over_to(m, x, c, room);
-    if room[n2 + y] == 1 {
-        return Turned::Back(place_of(n, size, y, room));
-    }
-    enter(n, size, y, room);
-    Turned::On(size + 1)
+    enter(path, marks, size, y);
+    ControlFlow::Continue(size + 1)
 }
 
 // A price below every cost with every row price: the number once more, beside specs/Rooms.antt. The promise of `lower` holds the two together.
 const LOWEST: i64 = -1099511627776;
 
-// Where node x has no choice left and is a row, the price of its column is lowered, so that its places are passed by.
-fn lower(m: usize, n: usize, cols: &[u32], x: usize, c: usize, ts: &mut [i64])
-    requires { x < m → (x < length cols.now) × (at cols.now x < length ts.old) }
-    ensures { ts.new ≡ lower_at m n cols.now x c ts.old }
-{
-    if c < n {
-        return;
+impl Accepted<'_> {
+    // The node to which choice c of node x leads.
+    fn over_to(&self, x: usize, c: usize) -> usize
+        requires { c < length self.now.rows.now }
+        ensures { result ≡ over_to self.now.m self.now.rows.now x c }
+    {
+        if x < self.m { self.rows[c] as usize } else { c }
     }
-    if m <= x {
-        return;
-    }
-    let j = cols[x] as usize;
-    ts[j] = LOWEST;
-}
 
-// One turn. A path that is empty starts at the first node that is not done; else its last node goes over its choice.
-fn turn(
-    m: usize,
-    n: usize,
-    costs: &[i32],
-    bars: &[u64],
-    cols: &[u32],
-    us: &[i64],
-    vs: &[i64],
-    ts: &mut [i64],
-    top: i64,
-    count: usize,
-    size: usize,
-    room: &mut [u32],
-) -> Turned
-    requires { CanTurn m n costs.now bars.now cols.now us.now vs.now ts.old top count size room.old }
-    ensures { TurnedTo (night_of m n costs.now bars.now) us.now vs.now cols.now size room.old result room.new ts.new }
-{
-    if size == 0 {
-        let x = first_open(n, count, room);
-        enter(n, size, x, room);
-        return Turned::On(1);
+    // Where node x, which is done, is a row, the price of its column is lowered, so that its places are passed by.
+    fn lower(&self, prices: &mut [i64], x: usize)
+        requires { x < self.now.m → (x < length self.now.cols.now) × (at self.now.cols.now x < length prices.old) }
+        ensures { prices.new ≡ lower_at self.now.m self.now.cols.now x prices.old }
+    {
+        if x < self.m {
+            prices[self.cols[x] as usize] = LOWEST;
+        }
     }
-    let end = n + size;
-    let x = room[end - 1] as usize;
-    let c = choose(m, n, costs, bars, cols, us, vs, ts, top, room, x);
-    lower(m, n, cols, x, c, ts);
-    go(m, n, size, x, c, room)
-}
 
-// The whole walk: twice as many turns as nodes, or fewer where it comes back to its path.
-pub fn walk(
-    m: usize,
-    n: usize,
-    costs: &[i32],
-    bars: &[u64],
-    cols: &[u32],
-    us: &[i64],
-    vs: &[i64],
-    ts: &mut [i64],
-    top: i64,
-    count: usize,
-    room: &mut [u32],
-) -> Walked
-    requires { CanWalk m n costs.now bars.now cols.now us.now vs.now ts.old top count room.old }
-    ensures { WalkedTo (night_of m n costs.now bars.now) us.now vs.now cols.now result room.new }
-{
-    let turns = count + count;
-    let mut size = 0;
-    let mut k = 0;
-    while k < turns {
-        match turn(m, n, costs, bars, cols, us, vs, ts, top, count, size, room) {
-            Turned::On(next) => {
-                size = next;
-            }
-            Turned::Back(from) => {
-                return Walked::Came(from, size);
+    // One turn. A path that is empty starts at the first node that is not done; else its last node goes over its choice, or is done where it has none.
+    fn turn(
+        &self,
+        path: &mut [u32],
+        marks: &mut [u32],
+        choices: &mut [u32],
+        prices: &mut [i64],
+        size: usize,
+    ) -> ControlFlow<usize, usize>
+        requires { CanTurn self.now (walk_of size path.old marks.old) choices.old prices.old }
+        ensures { TurnedTo self.now (walk_of size path.old marks.old) result path.new marks.new choices.new prices.new }
+    {
+        if size == 0 {
+            let x = first_open(marks).unwrap_or(marks.len());
+            enter(path, marks, 0, x);
+            return ControlFlow::Continue(1);
+        }
+        let x = path[size - 1] as usize;
+        let Some(c) = self.choose(marks, prices, x, choices[x] as usize) else {
+            choices[x] = self.n as u32;
+            self.lower(prices, x);
+            marks[x] = DONE;
+            return ControlFlow::Continue(size - 1);
+        };
+        choices[x] = c as u32;
+        go_to(path, marks, size, self.over_to(x, c))
+    }
+
+    // The whole walk: twice as many turns as nodes. Where the path comes back to itself before, the place to which it does, and its size.
+    pub fn walk(
+        &self,
+        path: &mut [u32],
+        marks: &mut [u32],
+        choices: &mut [u32],
+        prices: &mut [i64],
+    ) -> Option<(usize, usize)>
+        requires { CanWalk self.now path.old marks.old choices.old prices.old }
+        ensures { WalkedTo self.now result path.new marks.new choices.new }
+    {
+        let mut size = 0;
+        for _turn in 0..2 * marks.len() {
+            match self.turn(path, marks, choices, prices, size) {
+                ControlFlow::Continue(next) => size = next,
+                ControlFlow::Break(from) => return Some((from, size)),
             }
         }
-        k += 1;
+        None
     }
-    Walked::Ended
 }

@@ -24,7 +24,7 @@ use Rattle.bars.proofs.Barred.{barred-total}
 use Rattle.bars.proofs.Passed.{barred_most_small}
 use Rattle.matrix.specs.Limits.{side, sheet_side, K}
 use Rattle.matrix.proofs.SmallLimits.{sheet_side_within}
-use Rattle.matrix.specs.declared.Answer.TheVariants.{Total}
+use Rattle.std.specs.Prelude.{Ok}
 use Rattle.rules.specs.Run.{Result}
 use Rattle.rules.specs.Right.{Right}
 use Rattle.rules.proofs.Run.{right_within_ten}
@@ -33,7 +33,6 @@ use Rattle.checker.specs.Proven.{Accepts, Proven}
 use Rattle.checker.proofs.Accepted.{proven_accepted}
 use Rattle.checker.proofs.Least.{accepted_least, accepted_iff_least}
 use Rattle.checker.proofs.FromSquare.{filled_accepted, padded_proven_accepted}
-use Rattle.lapjv.specs.declared.Solved.TheVariants.{Paired}
 use Rattle.lapjv.specs.Answers.{answer}
 use Rattle.lapjv.specs.Solve.{Lent, Outcome, solve}
 use Rattle.lapjv.specs.WithinLimits.{WithinLimits}
@@ -82,20 +81,20 @@ module _ (n : ℕ) (costs : List ℤ) (small : n ≤ side) (squared : length cos
 
   -- The checker accepts them, with their total.
   pub run_accepted : (rows : List ℕ) → n ≤ length rows → Named (square n costs) found.cols rows
-      → check n costs found.cols rows found.prices_of_rows found.prices_of_columns ≡ Total found.total
+      → check n costs found.cols rows found.prices_of_rows found.prices_of_columns ≡ Ok found.total
   run_accepted rows listed named =
       proven_accepted n costs found.cols rows found.prices_of_rows found.prices_of_columns (run_proven_by rows listed named)
-      ∙ ap Total (sym owed.total_is)
+      ∙ ap Ok (sym owed.total_is)
 
   -- The checker accepts the rules' answer, with its total; whatever stands behind it.
   pub checker_accepts_run : (c r : List ℕ) (u v : List ℤ)
-      → check n costs (found.cols ++ c) (found.rows ++ r) (found.prices_of_rows ++ u) (found.prices_of_columns ++ v) ≡ Total found.total
+      → check n costs (found.cols ++ c) (found.rows ++ r) (found.prices_of_rows ++ u) (found.prices_of_columns ++ v) ≡ Ok found.total
   checker_accepts_run c r u v =
       let o = owed in
       proven_accepted n costs (found.cols ++ c) (found.rows ++ r) (found.prices_of_rows ++ u) (found.prices_of_columns ++ v)
       (proven_front n costs found.cols found.rows found.prices_of_rows found.prices_of_columns o.cols_size o.rows_size o.row_prices_size
       o.column_prices_size run_proven c r u v)
-      ∙ ap Total (total_front c)
+      ∙ ap Ok (total_front c)
 
 -- A night with bars: where no pair of the rules' answer on the costs with K on barred places is barred, the checker with bars accepts its columns and
 -- prices on the night's own costs, with the total, under any rows that the columns name back.
@@ -115,13 +114,13 @@ module _ (n : ℕ) (costs : List ℤ) (bars : List ℕ) (small : n ≤ sheet_sid
       filled_costs_within n (pos K) costs bars K (omega zlin) (λ i h. within_mono barred_most_small (within i (omega (arith, squared)))) k (omega (arith, filled_costs_length n (pos K) costs bars))
 
   pub run_barred_accepted : n ≤ first_barred n bars answered.cols → (rows : List ℕ) → n ≤ length rows → Named (square n filled) answered.cols rows
-      → check_barred n costs answered.cols rows answered.prices_of_rows answered.prices_of_columns bars ≡ Total answered.total
+      → check_barred n costs answered.cols rows answered.prices_of_rows answered.prices_of_columns bars ≡ Ok answered.total
   run_barred_accepted free rows long named =
       let size = filled_costs_length n (pos K) costs bars in
       let o = answer_owes n filled filled_small filled-near in
       filled_accepted n (pos K) costs bars small squared listed within clear answered.cols rows answered.prices_of_rows answered.prices_of_columns
       (run_proven_by n filled filled_small size filled-near rows long named) free
-      ∙ ap Total (sym (o.total_is ∙ barred-total n (pos K) costs bars answered.cols o.pairing free))
+      ∙ ap Ok (sym (o.total_is ∙ barred-total n (pos K) costs bars answered.cols o.pairing free))
 
 -- An oblong night: the checker of such nights accepts the first m columns and row prices, and all column prices, of the rules' answer on a square of
 -- costs that reads as the night with rows of zeros added below, with the total.
@@ -131,7 +130,7 @@ module _ (m n : ℕ) (costs padding : List ℤ) (small : n ≤ sheet_side) (fits
   abbrev padded-answer : Result
   padded-answer = answer n padding
 
-  pub run_oblong_accepted : check_oblong m n costs padded-answer.cols padded-answer.prices_of_rows padded-answer.prices_of_columns ≡ Total (total (night_of m n costs []) padded-answer.cols)
+  pub run_oblong_accepted : check_oblong m n costs padded-answer.cols padded-answer.prices_of_rows padded-answer.prices_of_columns ≡ Ok (total (night_of m n costs []) padded-answer.cols)
   run_oblong_accepted =
       let s = le_trans small sheet_side_within in
       let o = answer_owes n padding s near in
@@ -145,14 +144,14 @@ module _ (n : ℕ) (costs : List ℤ) (lent : Lent) (p : WithinLimits n costs le
   after = (solve n costs lent).lent
 
   -- The checker accepts what the solver leaves in the outputs.
-  pub checker_accepts_solver : check n costs after.cols after.rows after.prices_of_rows after.prices_of_columns ≡ Total (answer n costs).total
+  pub checker_accepts_solver : check n costs after.cols after.rows after.prices_of_rows after.prices_of_columns ≡ Ok (answer n costs).total
   checker_accepts_solver =
-      subst (λ (o : Outcome). check n costs o.lent.cols o.lent.rows o.lent.prices_of_rows o.lent.prices_of_columns ≡ Total (answer n costs).total)
+      subst (λ (o : Outcome). check n costs o.lent.cols o.lent.rows o.lent.prices_of_rows o.lent.prices_of_columns ≡ Ok (answer n costs).total)
       (sym (passes_paired n costs lent p))
       (checker_accepts_run n costs p.small p.squared p.costs_within (drop n lent.cols) (drop n lent.rows) (drop n lent.prices_of_rows)
       (drop n lent.prices_of_columns))
 
-  pub solved_answer : (solve n costs lent).answer ≡ Paired (record { total = (answer n costs).total; counts = (answer n costs).counts })
+  pub solved_answer : (solve n costs lent).answer ≡ Ok (record { total = (answer n costs).total; counts = (answer n costs).counts })
   solved_answer = ap (λ (o : Outcome). o.answer) (passes_paired n costs lent p)
 
   pub solved_least : Least (square n costs) (take n after.cols)

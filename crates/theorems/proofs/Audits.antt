@@ -18,8 +18,7 @@ use Rattle.sheet.specs.Reading.{Laid, night, read}
 use Rattle.sheet.specs.Settle.{solved_costs, found, barred_row, pair}
 use Rattle.sheet.proofs.Pairing.{Readable}
 use Rattle.sheet.proofs.Nights.{sheet_night, readable, owed, night_feasible, night_pairing, night_tight, night_spares}
-use Rattle.audit.specs.Audit.{unlike, slip_tests, audit}
-use Rattle.audit.specs.declared.Audited.TheVariants.{Holds}
+use Rattle.audit.specs.Audit.{holds, unlike, slip_tests, audit}
 use Rattle.audit.proofs.Checking.{proof_tests_iff}
 use Rattle.audit.proofs.Holding.{slip_like, read_edition, read_larger, accepted_holds}
 use Rattle.theorems.proofs.Slips.{cols_size, row_prices_size, row_price, near, slip_is, columns_are, row_prices_are, column_prices_are, total_is, slip_states_total}
@@ -82,7 +81,7 @@ module _ (sheet room : List ℕ) (laid : Laid) (e : read (length room) sheet ≡
       ))
 
   -- "it accepts every slip that the sheet entry wrote".
-  pub slip_holds : audit sheet slip ≡ Holds n a.total
+  pub slip_holds : audit sheet slip ≡ holds n a.total
   slip_holds =
       accepted_holds sheet slip laid (read_larger (length room) sheet laid e) like passed (slip_states_total sheet room laid e free)
-      ∙ ap (Holds n) (total_is sheet room laid e free)
+      ∙ ap (holds n) (total_is sheet room laid e free)

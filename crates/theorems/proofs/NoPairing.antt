@@ -26,7 +26,8 @@ use Rattle.bars.specs.Masks.{columns_mask}
 use Rattle.bars.proofs.Barred.{no_pair_barred, barred_iff, shown_blocked, shown_ones, wide_margin}
 use Rattle.bars.proofs.Masks.{reached_below}
 use Rattle.matrix.specs.Limits.{K}
-use Rattle.matrix.specs.Refusals.{NoPairing}
+use Rattle.matrix.specs.Refusals.{number}
+use Rattle.matrix.specs.declared.refusals.Reason.TheVariants.{NoPairing}
 use Rattle.matrix.proofs.Verdicts.{then_iff, fails_at_iff}
 use Rattle.rules.specs.Run.{Result}
 use Rattle.rules.specs.Right.{Right}
@@ -102,13 +103,13 @@ module _ (sheet room : List ℕ) (laid : Laid) (e : read (length room) sheet ≡
   unfolding pair
   delivered s = ap (paired_as room) e ∙ ap (λ (t : Bool). cond t (blocked_as room laid) (slip_as room laid)) s
 
-  pub twenty_iff : ((pair sheet room).number ≡ NoPairing) ↔ None
+  pub twenty_iff : ((pair sheet room).number ≡ number NoPairing) ↔ None
   twenty_iff = (
     λ given. barred_none.0 (by given (dec_lt (barred_row laid) n)),
     λ none. ap (λ (d : Delivery). d.number) (delivered (lt-ltb (barred_row laid) n (barred_none.1 none))),
   )
     where
-      by : (pair sheet room).number ≡ NoPairing → Dec (barred_row laid < n) → barred_row laid < n
+      by : (pair sheet room).number ≡ number NoPairing → Dec (barred_row laid < n) → barred_row laid < n
       by given (yes h) = h
       by given (no h) =
           let paired : (pair sheet room).number ≡ 0 = ap (λ (d : Delivery). d.number) (delivered (le-ltb (barred_row laid) n (omega arith))) in

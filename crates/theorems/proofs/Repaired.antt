@@ -15,7 +15,7 @@ use Rattle.lists.specs.Permutations.{at}
 use Rattle.lists.proofs.Tables.{length-table}
 use Rattle.assignment.specs.Pairings.{Least, signed_at, square, total}
 use Rattle.matrix.specs.Limits.{K}
-use Rattle.matrix.specs.declared.Answer.TheVariants.{Total}
+use Rattle.std.specs.Prelude.{Ok}
 use Rattle.rules.specs.Lowest.{reduced}
 use Rattle.rules.specs.Columns.{free}
 use Rattle.rules.specs.Augmentation.{Progress}
@@ -38,9 +38,9 @@ use Rattle.lapjv.proofs.Tests.{passes_paired}
 use Rattle.lapjv.proofs.Ready.{side-free}
 use Rattle.repair.specs.Repair.{Outcome, mended, mended_in, repaired_by, settled, repair}
 use Rattle.repair.specs.Repairable.{Repairable, OneRowChanged}
-use Rattle.repair.specs.Asked.{FairBut}
+use Rattle.repair.specs.Asked.{FairBut, CanMend}
 use Rattle.repair.proofs.Mended.{mend_gain, mend_paired, mend_feasible, mend_tight, mend_column_between, mend_row_within}
-use Rattle.repair.proofs.Repairing.{fair}
+use Rattle.repair.proofs.Repairing.{can_mend}
 use Rattle.repair.proofs.Tests.{passes_repaired}
 use Rattle.theorems.proofs.Front.{proven_front}
 use Rattle.theorems.proofs.Accepted.{checker_accepts_solver}
@@ -74,23 +74,30 @@ module _ (n : ℕ) (costs : List ℤ) (row : ℕ) (lent : Lent) (r : Repairable 
   near : (j : ℕ) → j < n → Within (7 * K) (signed_at vs j)
   near j l = rw (get_or-take n lent.prices_of_columns j (pos 0) l) (r.column_prices_near j l)
 
-  fair_but : FairBut n costs row (pairs_of cols rows) lent.prices_of_rows vs
-  fair_but = fair n costs row lent.cols lent.rows lent.prices_of_rows lent.prices_of_columns lent.indices lent.numbers r
+  -- The first n entries of the lists are fair but for the row, under these row prices.
+  abbrev can : CanMend n costs row (pairs_of cols rows) vs (take (4 * n) lent.indices) (take n lent.numbers)
+  can = can_mend n costs row lent r
+
+  abbrev us : List ℤ
+  us = can.us
+
+  fair_but : FairBut n costs row (pairs_of cols rows) us vs
+  fair_but = can.fair
 
   gain : Gain n cost (record { pairs = record { cols = cols; rows = set rows (at cols row) free }; prices = vs; scanned = 0 }) row y
   unfolding mended
-  gain = mend_gain n costs row (pairs_of cols rows) lent.prices_of_rows vs below_free fair_but
+  gain = mend_gain n costs row (pairs_of cols rows) us vs below_free fair_but
 
   us_size : length us' ≡ n
   us_size = length-table n (λ i. reduced cost (signed_at y.prices) i (at y.pairs.cols i))
 
   columns_between : (j : ℕ) → j < n → Between (7 * K + 2 * K) (7 * K) (signed_at y.prices j)
   unfolding mended
-  columns_between = mend_column_between n costs row (pairs_of cols rows) lent.prices_of_rows vs below_free fair_but K (7 * K) within near
+  columns_between = mend_column_between n costs row (pairs_of cols rows) us vs below_free fair_but K (7 * K) within near
 
   rows_within : (i : ℕ) → i < n → Within (K + 7 * K) (signed_at us' i)
   unfolding mended
-  rows_within = mend_row_within n costs row (pairs_of cols rows) lent.prices_of_rows vs below_free fair_but K (7 * K) within near
+  rows_within = mend_row_within n costs row (pairs_of cols rows) us vs below_free fair_but K (7 * K) within near
 
   mended_proven : Proven n costs y.pairs.cols y.pairs.rows us' y.prices
   unfolding mended
@@ -103,14 +110,14 @@ module _ (n : ℕ) (costs : List ℤ) (row : ℕ) (lent : Lent) (r : Repairable 
     };
     within = r.limits.costs_within;
     named = all_named n costs y.pairs y.prices gain.agree gain.fair
-        (mend_paired n costs row (pairs_of cols rows) lent.prices_of_rows vs below_free fair_but);
+        (mend_paired n costs row (pairs_of cols rows) us vs below_free fair_but);
     row_prices = record { enough = omega (arith, us_size); within = λ i l. within_mono (omega arith) (rows_within i l) };
     column_prices = record {
       enough = omega (arith, gain.prices_size);
       within = λ j l. let b = columns_between j l in record { low = omega (arith, b); high = omega (arith, b) };
     };
-    feasible = mend_feasible n costs row (pairs_of cols rows) lent.prices_of_rows vs below_free fair_but;
-    tight = mend_tight n costs row (pairs_of cols rows) lent.prices_of_rows vs below_free fair_but;
+    feasible = mend_feasible n costs row (pairs_of cols rows) us vs below_free fair_but;
+    tight = mend_tight n costs row (pairs_of cols rows) us vs below_free fair_but;
   }
 
   -- ---- what a caller finds
@@ -128,14 +135,14 @@ module _ (n : ℕ) (costs : List ℤ) (row : ℕ) (lent : Lent) (r : Repairable 
       mended_proven (drop n lent.cols) (drop n lent.rows) (drop n lent.prices_of_rows) (drop n lent.prices_of_columns))
 
   -- The checker accepts what the repair leaves, on the new costs.
-  pub checker_accepts_repair : check n costs after.cols after.rows after.prices_of_rows after.prices_of_columns ≡ Total (total (square n costs) after.cols)
+  pub checker_accepts_repair : check n costs after.cols after.rows after.prices_of_rows after.prices_of_columns ≡ Ok (total (square n costs) after.cols)
   checker_accepts_repair = proven_accepted n costs after.cols after.rows after.prices_of_rows after.prices_of_columns repaired_proven
 
   pub repaired_least : Least (square n costs) (take n after.cols)
   repaired_least = accepted_least n costs after.cols after.rows after.prices_of_rows after.prices_of_columns checker_accepts_repair
 
   -- The answer is the total, and it is the fresh run's.
-  pub repaired_answer : (repair n costs row lent).answer ≡ Total (answer n costs).total
+  pub repaired_answer : (repair n costs row lent).answer ≡ Ok (answer n costs).total
   repaired_answer =
       let R = answer_owes n costs r.limits.small r.limits.costs_within in
       let L = repaired_least in
@@ -143,7 +150,7 @@ module _ (n : ℕ) (costs : List ℤ) (row : ℕ) (lent : Lent) (r : Repairable 
       ap (λ (o : Outcome). take n o.lent.cols) is ∙ take_at y.pairs.cols (drop n lent.cols) n gain.agree.cols_size in
       let M : Least (square n costs) y.pairs.cols = subst (Least (square n costs)) first L in
       ap (λ (o : Outcome). o.answer) is
-      ∙ ap Total (same (total (square n costs) y.pairs.cols) (total (square n costs) (answer n costs).cols) (answer n costs).total
+      ∙ ap Ok (same (total (square n costs) y.pairs.cols) (total (square n costs) (answer n costs).cols) (answer n costs).total
       (M.least (answer n costs).cols R.pairing) (R.least.least y.pairs.cols M.pairing) R.total_is)
     where
       same : (a b t : ℤ) → a ≤ℤ b → b ≤ℤ a → t ≡ b → a ≡ t

@@ -25,7 +25,7 @@ use Rattle.bars.specs.Tests.{barred_most}
 use Rattle.bars.proofs.FilledCosts.{filled_costs_length}
 use Rattle.bars.proofs.Passed.{bars_clear_lem}
 use Rattle.matrix.specs.Limits.{K}
-use Rattle.matrix.specs.declared.Answer.TheVariants.{Total}
+use Rattle.std.specs.Prelude.{Ok}
 use Rattle.matrix.proofs.SmallLimits.{sheet_side_within, K_small}
 use Rattle.matrix.proofs.Verdicts.{then_iff}
 use Rattle.rules.specs.Run.{Result}
@@ -146,14 +146,14 @@ module _ (sheet room : List ℕ) (laid : Laid) (e : read (length room) sheet ≡
     all_row_prices = take_all m a.prices_of_rows (omega (arith, right.row_prices_size, square))
 
     pub slip_accepted : (rows : List ℕ) → n ≤ length rows → Named (pairings.square n (solved_costs laid)) (slip_columns m slip) rows
-        → check n (solved_costs laid) (slip_columns m slip) rows (slip_row_prices m slip) (slip_column_prices m n slip) ≡ Total (slip_total m n slip)
+        → check n (solved_costs laid) (slip_columns m slip) rows (slip_row_prices m slip) (slip_column_prices m n slip) ≡ Ok (slip_total m n slip)
     slip_accepted =
         rw (columns_are, row_prices_are, column_prices_are, total_is, all_columns, all_row_prices)
         (run_accepted n (solved_costs laid) (omega (arith, fits.small, sheet_side_within)) (filled_costs_length n (pos K) laid.costs laid.bars)
         (solver.filled_within_all edition m n laid.costs laid.bars fits.filled fits.rows fits.fewer fits.small fits.passes))
 
     pub slip_barred_accepted : has_bars edition ≡ true → (rows : List ℕ) → n ≤ length rows → Named (pairings.square n (solved_costs laid)) (slip_columns m slip) rows
-        → check_barred n laid.costs (slip_columns m slip) rows (slip_row_prices m slip) (slip_column_prices m n slip) laid.bars ≡ Total (slip_total m n slip)
+        → check_barred n laid.costs (slip_columns m slip) rows (slip_row_prices m slip) (slip_column_prices m n slip) laid.bars ≡ Ok (slip_total m n slip)
     slip_barred_accepted bars =
         rw (columns_are, row_prices_are, column_prices_are, total_is, all_columns, all_row_prices)
         (run_barred_accepted n laid.costs laid.bars fits.small (fits.filled ∙ ap (λ (k : ℕ). k * n) square) (omega (arith, fits.rows))
@@ -167,7 +167,7 @@ module _ (sheet room : List ℕ) (laid : Laid) (e : read (length room) sheet ≡
         let none : at laid.bars i ≡ 0 = ap (λ (b : List ℕ). at b i) (fits.unbarred unbarred) ∙ get_or-replicate {A = ℕ} n i 0 0 (omega (arith, fits.fewer)) in
         ap (λ (b : ℕ). not (bit_of b j)) none ∙ ap not (bit_none j)
 
-    pub slip_oblong_accepted : check_oblong m n laid.costs (slip_columns m slip) (slip_row_prices m slip) (slip_column_prices m n slip) ≡ Total (slip_total m n slip)
+    pub slip_oblong_accepted : check_oblong m n laid.costs (slip_columns m slip) (slip_row_prices m slip) (slip_column_prices m n slip) ≡ Ok (slip_total m n slip)
     slip_oblong_accepted =
         rw (columns_are, row_prices_are, column_prices_are, total_is)
         (let p = night_pairing sheet (length room) laid e free in

@@ -8,7 +8,7 @@ use lib.IntN.{pos}
 use Rattle.lists.specs.Runs.{turns, upward, first}
 use Rattle.lists.specs.Sums.{sum}
 use Rattle.matrix.specs.Limits.{side, K}
-use Rattle.matrix.specs.Verdicts.{◌then◌, fails_by, fails_at_by}
+use Rattle.matrix.specs.Verdicts.{fails_by, fails_at_by}
 use Rattle.matrix.specs.Answers.{Values, values_of, totalled}
 use Rattle.rules.specs.Nights as rules
 use Rattle.rules.proofs.AllNights.{all_computed}
@@ -24,5 +24,5 @@ pub starred : (map rules.computed rules.nights ≡ rules.nights)
     × (of_n8 (1 ∷ 0 ∷ 2 ∷ []) ≡ record { accepted = true; number = 0; place = 0; slack = pos 0; total = pos 1 })
     × (of_n8 (0 ∷ 1 ∷ 2 ∷ []) ≡ record { accepted = false; number = 10; place = 0; slack = pos 2; total = pos 0 })
     × (map checker.checked checker.nights ≡ checker.nights)
-unfolding check checks totalled ◌then◌ fails_by fails_at_by first upward turns sum side K
+unfolding check checks totalled fails_by fails_at_by first upward turns sum side K
 starred = (all_computed, refl, refl, all_checked)

@@ -16,33 +16,33 @@ for crate in ints lists assignment matrix rules reduction; do cp -R "crates/$cra
 cat >"$work/crates/look/src/lib.rt" <<'END'
 // The leaves of a look for the benchmark alone. Each answers the column of the lowest.
 #![tactic(auto)]
-ghost use Rattle.std.specs.Prelude.{◌^◌, ◌≤◌, ◌<◌, ◌-ℤ◌, length};
+ghost use Rattle.std.specs.Prelude.{◌≡◌, ◌^◌, ◌≤◌, ◌<◌, ◌-ℤ◌, length};
 ghost use Rattle.assignment.specs.Pairings.{signed_at};
-ghost use Rattle.reduction.specs.Ranges.{Priced};
+ghost use Rattle.reduction.specs.Ranges.{Near};
 ghost use Rattle.reduction.specs.Candidates.{Roomy, Keeps};
+use reduction::reduced::Reduced;
 use rules::TwoLowest;
 
 fn lowest(two: TwoLowest) -> usize {
     match two {
-        TwoLowest::One(a) => a.place,
-        TwoLowest::Two(a, b) => a.place,
+        TwoLowest::One(a) | TwoLowest::Two(a, _) => a.place,
     }
 }
 
 // Rule 1, which reads the row.
 #[unsafe(no_mangle)]
-pub extern "C" fn look_plain(row: &[i32], v: &[i64]) -> usize
-    requires { Priced row.now v.now }
+pub extern "C" fn look_plain(costs: &[i32], prices: &[i64]) -> usize
+    requires { (1 ≤ length costs.now) × (length prices.now ≡ length costs.now) × Near (length costs.now) prices.now }
 {
-    lowest(reduction::lowest::find_umins_plain(row, v))
+    lowest(reduction::lowest::find_umins_plain(Reduced { costs, prices }))
 }
 
 // The layer before it: of row i of as many rows as it has columns.
 #[unsafe(no_mangle)]
-pub extern "C" fn look_kept(row: &[i32], v: &[i64], i: usize, kept: &mut [u32], limits: &mut [i64]) -> usize
-    requires { Priced row.now v.now × Roomy (length row.now) kept.old limits.old × (i < length row.now) × (length row.now ≤ 2 ^ 32) × Keeps (λ j. signed_at row.now j -ℤ signed_at v.now j) (length row.now) i kept.old limits.old }
+pub extern "C" fn look_kept(costs: &[i32], prices: &[i64], i: usize, kept: &mut [u32], limits: &mut [i64]) -> usize
+    requires { (length prices.now ≡ length costs.now) × Near (length costs.now) prices.now × Roomy (length costs.now) kept.old limits.old × (i < length costs.now) × (length costs.now ≤ 2 ^ 32) × Keeps (λ j. signed_at costs.now j -ℤ signed_at prices.now j) (length costs.now) i kept.old limits.old }
 {
-    lowest(reduction::candidates::two_lowest(row, v, i, kept, limits))
+    lowest(reduction::candidates::two_lowest(Reduced { costs, prices }, i, kept, limits))
 }
 
 // Nothing is kept of any row.

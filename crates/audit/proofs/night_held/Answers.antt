@@ -1,65 +1,51 @@
 -- `night_held` answers what its definition says: 5, 22, 25, and what is held against the night. Assumes nothing.
-use mathlib.Core.Path.{◌≡◌, sym, ap, ap₂, ◌∙◌}
-use native.Mathlib.Omega.{arith}
+use Rattle.std.proofs.Common.{rules, ◌≡◌, ℕ, List, sym, ap, ap₂, ◌∙◌, arith}
+use Rattle.std.specs.Prelude.{Ok, Err}
 use lib.IntN.{ℤ}
 use mir.Syntax.{w64}
 use Rattle.ints.proofs.Bits.{read_back}
+use Rattle.layout.specs.Editions.{number}
+use Rattle.matrix.specs.declared.refusals.Reason.TheVariants.{SlipWrong}
 use Rattle.matrix.specs.Tests.{costs_in}
-use Rattle.matrix.specs.Verdicts.{Passes, ◌then◌, fails_if}
+use Rattle.matrix.specs.Verdicts.{◌then◌, fails_if}
 use Rattle.matrix.proofs.SmallLimits.{K_small, sheet_side_small}
-use Rattle.matrix.proofs.Verdicts.{then_iff, after, fails_if_iff}
+use Rattle.matrix.proofs.Verdicts.{then_iff, passed_then, fails_if_iff}
 use Rattle.sheet.specs.Reading.{Laid, night_tests}
 use Rattle.sheet.proofs.Editions.{cost_most_within}
-use Rattle.audit.specs.Audit.{SlipWrong, unlike}
+use Rattle.audit.specs.Audit.{unlike}
 use Rattle.audit.proofs.Nights.{like_long, tests_fail, tests_pass}
 use Rattle.audit.proofs.night_held.Goals as goal
-use Rattle.audit.proofs.night_held.Lts as Lts
-use Rattle.audit.proofs.night_held.Reads as Reads
-use Rattle.audit.proofs.night_held.Tie as Tie
 
-pub costs_in-within-requires : goal.costs_in-within-requires
-costs_in-within-requires c =
+pub costs_in-requires : goal.costs_in-requires
+costs_in-requires c =
     rw (read_back w64 c.cost_most.result c.cost_most.type_inv, c.cost_most.ensures)
-    (omega (arith, K_small, cost_most_within c.args.edition))
+    (omega (arith, K_small, cost_most_within (number c.args.shape.edition)))
 
-pub bars_clear-night-requires : goal.bars_clear-night-requires
-bars_clear-night-requires c = λ e. let p = c.requires in (omega (arith, p.small, sheet_side_small), omega (arith, p.rows))
-
-abbrev laid : Lts.After-bars_clear Tie.the-claims Reads.Pre Reads.Post → Laid
-laid c = record { edition = c.args.edition; row_count = c.args.m; side = c.args.n; costs = c.args.costs.now; bars = c.args.bars.now }
-
--- tests 5 and 22
-tested : (c : Lts.After-bars_clear Tie.the-claims Reads.Pre Reads.Post) → c.bars_clear-night.result ≡ night_tests (laid c)
-unfolding ◌then◌
-tested c =
+pub returns-in_err-fails_if : goal.returns-in_err-fails_if
+returns-in_err-fails_if c =
+    let u = c.args in
+    let s = u.shape in
     let m = c.cost_most in
-    after _ c.bars_clear-night.ensures
-    (c.costs_in-within.ensures ∙ ap (λ (z : ℤ). costs_in z c.args.costs.now) (read_back w64 m.result m.type_inv ∙ m.ensures))
-
-pub unlike-requires : goal.unlike-requires
-unlike-requires c = let p = c.requires in (p.fewer, omega (arith, p.small, sheet_side_small))
-
--- ---- 5, 22 and 25
-
-both-tested : (c : Lts.After-both Tie.the-claims Reads.Pre Reads.Post) → let u = c.args in
-    c.both.result ≡ (night_tests (laid c.before.before.before) then fails_if SlipWrong 0 (unlike u.edition u.m u.n u.slip.now))
-both-tested c =
-    c.both.ensures
-    ∙ ap₂ ◌then◌ (tested c.before.before.before) (c.fails_if-form.ensures ∙ ap (fails_if SlipWrong 0) c.unlike.ensures)
-
-pub returns-in-Fails : goal.returns-in-Fails
-returns-in-Fails c =
-    tests_fail (laid c.before.before.before.before.before) c.args.slip.now (sym (both-tested c.before.before) ∙ c.in-Fails.is)
-
-passed : (c : Lts.Past-After-enum_told Tie.the-claims Reads.Pre Reads.Post) → let u = c.args in
-    Passes (night_tests (laid c.before.before.before.before) then fails_if SlipWrong 0 (unlike u.edition u.m u.n u.slip.now))
-passed c = sym (both-tested c.before) ∙ c.in-Passed.is
+    let laid : Laid = record { edition = number s.edition; row_count = s.row_count; side = s.side; costs = u.costs.now; bars = u.bars.now } in
+    let a = ap (λ (z : ℤ). costs_in z u.costs.now) (sym (read_back w64 m.result m.type_inv ∙ m.ensures)) ∙ sym c.costs_in.ensures ∙ c.in_ok-costs_in.was in
+    let b = sym c.bars_clear.ensures ∙ c.in_ok-bars_clear.was in
+    let f = ap (fails_if SlipWrong 0) (sym c.unlike.ensures) ∙ sym c.fails_if.ensures ∙ c.in_err-fails_if.was in
+    let e : c.from_residual-in_err-fails_if.result ≡ Err c.in_err-fails_if.field-0.0 = search rules in
+    e ∙ tests_fail laid u.slip.now (sym (passed_then _ ((then_iff _ _).1 (a, b)) (sym f)))
 
 pub held_apart-requires : goal.held_apart-requires
 held_apart-requires c =
-    let u = c.args in
-    (c.requires, like_long u.edition u.m u.n u.slip.now ((fails_if_iff SlipWrong 0 _).0 ((then_iff _ _).0 (passed c.before)).1))
+    let s = c.args.shape in
+    let f = ap (fails_if SlipWrong 0) (sym c.unlike.ensures) ∙ sym c.fails_if.ensures ∙ c.in_ok-fails_if.was in
+    (c.requires, like_long (number s.edition) s.row_count s.side c.args.slip.now ((fails_if_iff SlipWrong 0 _).0 f))
 
 pub returns : goal.returns
 returns c =
-    tests_pass (laid c.before.before.before.before.before.before) c.args.slip.now (passed c.before.before) c.held_apart.result c.held_apart.ensures
+    let u = c.args in
+    let s = u.shape in
+    let m = c.cost_most in
+    let laid : Laid = record { edition = number s.edition; row_count = s.row_count; side = s.side; costs = u.costs.now; bars = u.bars.now } in
+    let a = ap (λ (z : ℤ). costs_in z u.costs.now) (sym (read_back w64 m.result m.type_inv ∙ m.ensures)) ∙ sym c.costs_in.ensures ∙ c.in_ok-costs_in.was in
+    let b = sym c.bars_clear.ensures ∙ c.in_ok-bars_clear.was in
+    let f = ap (fails_if SlipWrong 0) (sym c.unlike.ensures) ∙ sym c.fails_if.ensures ∙ c.in_ok-fails_if.was in
+    tests_pass laid u.slip.now ((then_iff _ _).1 ((then_iff _ _).1 (a, b), f)) c.held_apart.result c.held_apart.ensures

@@ -1,29 +1,31 @@
-use mathlib.Core.Path.{refl}
+use mathlib.Core.Path.{◌≡◌, ◌∙◌, ap}
 use native.Mathlib.Omega.{arith}
-use borrow.Author.Rules.{rules}
-use Rattle.matrix.proofs.SmallLimits.{side_small}
+use lib.ListN.{length, drop}
+use Rattle.std.proofs.lemmas.List.{length-take}
+use Rattle.augmentation.proofs.Room.{frees_stay, marks_stay}
 use Rattle.augmentation.proofs.Augmentation.{first_turn, augmented, can_augment_row, next_turn}
 use Rattle.augmentation.proofs.ca_dense.Goals as goal
 
-pub loop-k-init : goal.loop-k-init
-loop-k-init c = (first_turn c.requires, refl, refl, refl)
+pub loop-start-init : goal.loop-start-init
+loop-start-init c = first_turn c.requires (omega arith) (omega arith)
 
 pub augment_row-scanned-requires : goal.augment_row-scanned-requires
 augment_row-scanned-requires c =
-    can_augment_row c.loop-k.invariant.0 c.loop-k-test.true
+    let size : length c.loop-start.rows ≡ c.args.n = omega arith in
+    rw size (can_augment_row c.loop-start.invariant _ c.split_at_mut-frees.ensures.front c.loop-start-test.true)
 
-pub overflow_add-scanned : goal.overflow_add-scanned
-overflow_add-scanned c =
-    let A = c.loop-k.invariant.0 in
-    omega (arith, side_small, A.can.small, A.can.few, A.few, A.reach, c.augment_row-scanned.ensures.few)
-
-pub loop-k-preserved : goal.loop-k-preserved
-loop-k-preserved c = (
-  next_turn c.loop-k.invariant.0 c.loop-k-test.true c.augment_row-scanned.ensures (search rules) (search rules),
-  search rules,
-  search rules,
-  search rules,
-)
+pub loop-start-preserved : goal.loop-start-preserved
+loop-start-preserved c =
+    let size : length c.loop-start.rows ≡ c.args.n = omega arith in
+    next_turn c.loop-start.invariant _ c.split_at_mut-frees.ensures.front c.loop-start-test.true (rw size at c.augment_row-scanned.ensures)
+    (omega arith, omega arith, omega arith)
 
 pub returns : goal.returns
-returns c = augmented c.loop-k.invariant.0 (omega (arith, c.loop-k-test.false))
+returns c =
+    let s = c.split_at_mut-frees.ensures in
+    let t = c.split_at_mut-predecessors.ensures in
+    let A = c.loop-start.invariant in
+    let marks : c.split_at_mut-predecessors.result.1.now ≡ drop c.args.n (drop c.args.n (drop c.args.n c.args.room.now)) =
+    t.back ∙ ap (drop c.args.n) (c.split_at_mut-list.ensures.back ∙ ap (drop c.args.n) s.back) in
+    augmented A (omega (arith, length-take c.args.left c.split_at_mut-frees.result.0.now))
+    (frees_stay _ _ _ _ _ _ s.front_len A.sizes.1 A.sizes.2 s.front) (marks_stay _ _ _ _ _ _ s.front_len A.sizes.1 A.sizes.2 marks)

@@ -4,15 +4,11 @@ use Rattle.matrix.specs.Asked.{TellableIn}
 use Rattle.matrix.proofs.Determined.{values_determine}
 use Rattle.checker.specs.Check.{check}
 use Rattle.checker.proofs.Codes.{check_places}
-use Rattle.face.specs.Face.{checked}
+use Rattle.face.specs.Face.{checked_any}
+use Rattle.face.proofs.Checks.{checked_plain}
 use Rattle.face.proofs.bristlefrost_check.Goals as goal
 
-pub told_checked-requires : goal.told_checked-requires
-told_checked-requires c =
-    let u = c.args in
-    subst TellableIn
-    (sym (values_determine c.check.result (check u.n u.costs.now u.cols.now u.rows.now u.row_prices.now u.col_prices.now) c.check.ensures))
-    (check_places u.n u.costs.now u.cols.now u.rows.now u.row_prices.now u.col_prices.now)
-
 pub returns : goal.returns
-returns c = c.told_checked.ensures ∙ ap checked c.check.ensures
+returns c =
+    let u = c.args in
+    c.told_checked.ensures ∙ ap checked_any c.check.ensures ∙ checked_plain (check u.n u.costs.now u.cols.now u.rows.now u.row_prices.now u.col_prices.now) (check_places u.n u.costs.now u.cols.now u.rows.now u.row_prices.now u.col_prices.now)

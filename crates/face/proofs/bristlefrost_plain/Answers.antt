@@ -4,7 +4,7 @@ use mathlib.Core.List.{List}
 use Prim.Native.Nat.{ℕ}
 use Rattle.matrix.specs.Answers.{values_of}
 use Rattle.matrix.specs.Asked.{TellableIn}
-use Rattle.matrix.specs.declared.Answer.{Answer}
+use Rattle.matrix.specs.Answers.{Answer}
 use Rattle.plain.proofs.Codes.{plain_places}
 use Rattle.face.specs.declared.Totalled.{Totalled}
 use Rattle.face.specs.Face.{totalled}

@@ -7,19 +7,14 @@ use Rattle.repair.specs.Repair.{repair}
 use Rattle.repair.specs.Values.{Told}
 use Rattle.repair.proofs.Codes.{repair_places}
 use Rattle.face.specs.declared.Checked.{Checked}
-use Rattle.face.specs.Face.{checked}
+use Rattle.face.specs.Face.{checked_any}
+use Rattle.face.proofs.Checks.{checked_plain}
 use Rattle.face.proofs.bristlefrost_repair.Goals as goal
-
-pub told_checked-requires : goal.told_checked-requires
-told_checked-requires c =
-    let u = c.args in
-    let r = c.repair in
-    let lent = lent_of u.cols.now u.rows.now u.row_prices.now u.col_prices.now u.indices.now u.numbers.now in
-    subst TellableIn
-    (sym (values_determine r.result (repair u.n u.costs.now u.row lent).answer (ap (λ (t : Told). t.values) r.ensures)))
-    (repair_places u.n u.costs.now u.row lent)
 
 pub returns : goal.returns
 returns c =
+    let u = c.args in
+    let lent = lent_of u.cols.now u.rows.now u.row_prices.now u.col_prices.now u.indices.now u.numbers.now in
     let e = c.repair.ensures in
-    ap₂ (λ (s : Checked) (l : Lent). record { checked = s; lent = l }) (c.told_checked.ensures ∙ ap (λ (t : Told). checked t.values) e) (ap (λ (t : Told). t.lent) e)
+    ap₂ (λ (s : Checked) (l : Lent). record { checked = s; lent = l })
+    (c.told_checked.ensures ∙ ap (λ (t : Told). checked_any t.values) e ∙ checked_plain (repair u.n u.costs.now u.row lent).answer (repair_places u.n u.costs.now u.row lent)) (ap (λ (t : Told). t.lent) e)

@@ -27,22 +27,6 @@ carr_dense-two-requires c =
       omega (arith, b.auto, c.requires.2),
     )
 
--- every call leaves lists of the lengths that it was lent
-pub shape_of-cols : goal.shape_of-cols
-shape_of-cols c = omega (arith, c.carr_dense-two.auto, c.carr_dense-one.auto, c.ccrrt_dense-free_rows.auto)
-
-pub shape_of-rows : goal.shape_of-rows
-shape_of-rows c = omega (arith, c.carr_dense-two.auto, c.carr_dense-one.auto, c.ccrrt_dense-free_rows.auto)
-
-pub shape_of-v : goal.shape_of-v
-shape_of-v c = omega (arith, c.carr_dense-two.auto, c.carr_dense-one.auto, c.ccrrt_dense-free_rows.auto)
-
-pub shape_of-room : goal.shape_of-room
-shape_of-room c = omega (arith, c.carr_dense-two.auto, c.carr_dense-one.auto, c.ccrrt_dense-free_rows.auto)
-
-pub shape_of-numbers : goal.shape_of-numbers
-shape_of-numbers c = omega (arith, c.carr_dense-two.auto, c.carr_dense-one.auto, c.ccrrt_dense-free_rows.auto)
-
 -- the stage and the counts are those of the rules
 pub returns : goal.returns
 returns c =

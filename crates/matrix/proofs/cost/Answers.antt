@@ -1,23 +1,19 @@
 -- `cost` answers what its definition says. Assumes nothing.
-use mathlib.Core.Path.{sym, ap, ◌∙◌}
+use Rattle.std.proofs.Common.{sym, ap, ◌∙◌}
 use mir.Syntax.{w64}
 use Rattle.ints.proofs.Bits.{read_back}
 use Rattle.matrix.specs.Answers.{values_of}
 use Rattle.matrix.specs.Cost.{cost}
 use Rattle.matrix.proofs.Listing.{cost_listed}
-use Rattle.matrix.proofs.Verdicts.{fails_totalled, passed_totalled}
+use Rattle.matrix.proofs.Verdicts.{passed_totalled}
 use Rattle.matrix.proofs.cost.Goals as goal
 
-pub returns-in-Fails : goal.returns-in-Fails
-unfolding cost
-returns-in-Fails c = ap values_of (fails_totalled _ (sym c.cost_tested.ensures ∙ c.in-Fails.is))
-
 pub total-requires : goal.total-requires
-total-requires c = cost_listed _ _ _ (sym c.cost_tested.ensures ∙ c.in-Passed.is)
+total-requires c = cost_listed _ _ _ (sym c.cost_tested.ensures ∙ c.in_ok-cost_tested.was)
 
 pub returns : goal.returns
 unfolding cost
 returns c =
     ap values_of
-    (passed_totalled (sym c.cost_tested.ensures ∙ c.in-Passed.is)
+    (passed_totalled (sym c.cost_tested.ensures ∙ c.in_ok-cost_tested.was)
     (read_back w64 c.total.result c.total.type_inv ∙ c.total.ensures))

@@ -1,12 +1,9 @@
--- `total_of` answers what the listed rows cost: `start` is i * n, and after i rows the total has the bits of the sum of their costs. Assumes nothing.
+-- `total_of` answers what the listed rows cost: after i rows the total has the bits of the sum of their costs. Assumes nothing.
 use mathlib.Core.Path.{◌≡◌}
-use Prim.Native.Nat.{◌*◌, ◌^◌, ◌≤◌, ◌-◌}
+use Prim.Native.Nat.{◌*◌, ◌^◌}
 use Rattle.ints.specs.Parts.{Within}
 use Rattle.matrix.specs.Cost.{total_of}
 use Rattle.matrix.proofs.total_of.Given as goal
 
 abbrev pub invariant-loop-i : goal.invariant-loop-i
-invariant-loop-i l = (l.i ≤ l.m) × (l.start ≡ l.i * l.n) × (l.total ≡ total_of l.n l.costs l.i l.cols) × Within (l.i * 2 ^ 31) l.total
-
-abbrev pub decreases-loop-i : goal.decreases-loop-i
-decreases-loop-i l = l.m - l.i
+invariant-loop-i l = (l.total ≡ total_of l.n l.costs l.i l.cols) × Within (l.i * 2 ^ 31) l.total

@@ -20,8 +20,5 @@ invariant-loop-j l = Least l.row l.v l.least l.j
 abbrev pub decreases-loop-j : goal.decreases-loop-j
 decreases-loop-j l = length l.row - l.j
 
-abbrev pub invariant-loop-j-2 : goal.invariant-loop-j-2
-invariant-loop-j-2 l = Least l.row l.v l.least l.j
-
-abbrev pub decreases-loop-j-2 : goal.decreases-loop-j-2
-decreases-loop-j-2 l = length l.row - l.j
+abbrev pub invariant-loop-k : goal.invariant-loop-k
+invariant-loop-k l = Least l.row l.v l.least l.k

@@ -1,9 +1,6 @@
 -- `columns_mask` makes the columns allowed to a set's rows: so far those of the rows passed. Assumes nothing.
-use mathlib.Core.Path.{◌≡◌}
-use mathlib.Core.Bool.{cond}
-use mathlib.Core.List.{List}
-use Prim.Native.Nat.{ℕ, ◌≤◌, ◌-◌, ◌^◌}
-use lib.Bits.{bit_or}
+use Rattle.std.proofs.Common.{◌≡◌, cond, List, ℕ, ◌-◌, ◌^◌}
+use Rattle.std.specs.Int.Bits.{bit_or}
 use Rattle.lists.specs.Runs.{upward}
 use Rattle.lists.specs.Permutations.{at}
 use Rattle.lists.specs.Counts.{bit_of}
@@ -15,7 +12,4 @@ abbrev pub joins : ℕ → List ℕ → ℕ → ℕ → ℕ → ℕ
 joins n bars rows i c = cond (bit_of rows i) (bit_or c (allowed_mask n (at bars i))) c
 
 abbrev pub invariant-loop-i : goal.invariant-loop-i
-invariant-loop-i l = (l.i ≤ l.n) × (l.columns ≡ upward 0 l.i (joins l.n l.bars l.rows) 0) × (l.all ≡ 2 ^ l.n - 1)
-
-abbrev pub decreases-loop-i : goal.decreases-loop-i
-decreases-loop-i l = l.n - l.i
+invariant-loop-i l = (l.columns ≡ upward 0 l.i (joins l.n l.bars l.rows) 0) × (l.all ≡ 2 ^ l.n - 1)

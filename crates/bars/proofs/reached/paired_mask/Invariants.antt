@@ -1,9 +1,6 @@
 -- `paired_mask` adds the rows paired with a set's columns: so far those passed. Assumes nothing.
-use mathlib.Core.Path.{◌≡◌}
-use mathlib.Core.Bool.{cond}
-use mathlib.Core.List.{List}
-use Prim.Native.Nat.{ℕ, ◌≤◌, ◌-◌, ◌^◌}
-use lib.Bits.{bit_or}
+use Rattle.std.proofs.Common.{◌≡◌, cond, List, ℕ, ◌^◌}
+use Rattle.std.specs.Int.Bits.{bit_or}
 use Rattle.lists.specs.Runs.{upward}
 use Rattle.lists.specs.Permutations.{at}
 use Rattle.lists.specs.Counts.{bit_of}
@@ -14,7 +11,4 @@ abbrev pub joins : List ℕ → ℕ → ℕ → ℕ → ℕ
 joins cols columns k s = cond (bit_of columns (at cols k)) (bit_or s (2 ^ k)) s
 
 abbrev pub invariant-loop-i : goal.invariant-loop-i
-invariant-loop-i l = (l.i ≤ l.n) × (l.set ≡ upward 0 l.i (joins l.cols l.columns) l.rows)
-
-abbrev pub decreases-loop-i : goal.decreases-loop-i
-decreases-loop-i l = l.n - l.i
+invariant-loop-i l = l.set ≡ upward 0 l.i (joins l.cols l.columns) l.rows

@@ -39,11 +39,6 @@ module _ (room : List ℕ) (edition : ℕ) (cols : List ℕ) (prices_of_rows pri
       (f ∙ ap₂ (λ (c : ℕ) (l : List ℕ). sets r (body_length m n + c) (trailer (body_length m n + c) n edition l)) k mark))
       ∙ sets_front (slip_of edition m n cols prices_of_rows prices_of_columns total) room (slip_length edition m n) (length-slip_of edition m n cols prices_of_rows prices_of_columns total refl q.rows refl) q.roomy
 
-pub write_body-requires : goal.write_body-requires
-write_body-requires c =
-    let q = c.requires in
-    record { rows = q.rows; roomy = omega (arith, q.roomy) }
-
 pub returns : goal.returns
 returns c =
     let u = c.args in

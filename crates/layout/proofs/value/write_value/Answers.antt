@@ -1,9 +1,8 @@
 use mathlib.Core.Path.{◌≡◌, refl, sym, ◌∙◌}
 use mathlib.Core.List.{List}
 use Prim.Native.Nat.{ℕ, suc, ◌+◌, ◌-◌, ◌/◌, ◌%◌, ◌<◌}
-use native.Mathlib.Nat.{add-zero, sub-zero}
 use native.Mathlib.Omega.{arith}
-use lib.ListN.{set, length-set}
+use lib.ListN.{set}
 use lib.Seq.{sets}
 use Rattle.layout.specs.Values.{bytes_of}
 use Rattle.layout.proofs.value.write_value.Goals as goal
@@ -22,20 +21,14 @@ done : (room : List ℕ) (at width rest k : ℕ) → k ≡ width → sets room (
 unfolding bytes_of
 done room at width rest k e = let none : width - k ≡ 0 = omega arith in rw none
 
-pub loop-k-init : goal.loop-k-init
-loop-k-init c = (omega arith, refl, rw (add-zero, sub-zero))
-
 pub loop-k-preserved : goal.loop-k-preserved
 loop-k-preserved c =
     let l = c.loop-k in
-    let u = c.args in (
-      omega arith,
-      length-set l.room (u.at + l.k) c.low.result ∙ l.invariant.1,
-      turn l.room u.at u.width l.rest l.k c.low.result c.loop-k-test.true c.low.ensures ∙ l.invariant.2,
-    )
+    let u = c.args in
+    turn l.room u.at u.width l.rest l.k (l.rest % 256) c.loop-k-test.true refl ∙ l.invariant
 
 pub returns : goal.returns
 returns c =
     let l = c.loop-k in
     let u = c.args in
-    sym (done l.room u.at u.width l.rest l.k (omega arith)) ∙ l.invariant.2
+    sym (done l.room u.at u.width l.rest l.k (omega arith)) ∙ l.invariant

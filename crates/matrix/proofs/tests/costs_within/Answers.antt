@@ -1,18 +1,11 @@
 -- `costs_within` answers test 5. Assumes nothing.
-use mathlib.Core.Path.{ap, ◌∙◌}
-use native.Mathlib.Omega.{arith}
-use lib.IntN.{ℤ}
+use Rattle.std.proofs.Common.{arith}
 use mir.Syntax.{w64}
 use Rattle.ints.proofs.Bits.{read_back}
-use Rattle.matrix.specs.Verdicts.{◌then◌}
-use Rattle.matrix.specs.Tests.{costs_in}
 use Rattle.matrix.proofs.SmallLimits.{K_small}
 use Rattle.matrix.proofs.tests.costs_within.Goals as goal
 
 pub costs_in-requires : goal.costs_in-requires
-costs_in-requires c = rw (read_back w64 c.bound.result c.bound.type_inv, c.bound.ensures) (omega (arith, K_small))
-
-pub returns : goal.returns
-returns c =
-    c.costs_in.ensures
-    ∙ ap (λ (z : ℤ). c.args.before then costs_in z c.args.costs.now) (read_back w64 c.bound.result c.bound.type_inv ∙ c.bound.ensures)
+costs_in-requires c =
+    let b = c.bound in
+    rw (read_back w64 b.result b.type_inv, b.ensures) (omega (arith, K_small))

@@ -1,21 +1,17 @@
--- `lists_long` hands a refusal on, and answers test 3 where none came. Assumes nothing.
-use mathlib.Core.Path.{◌∙◌}
-use native.Mathlib.Omega.{arith}
-use mathlib.Core.List.{[], ◌∷◌}
-use Prim.Native.Nat.{◌+◌}
+-- `lists_long` answers test 3 of four lists. Assumes nothing.
+use Rattle.std.proofs.Common.{◌∙◌, ap, ◌+◌, [], ◌∷◌}
+use Rattle.std.specs.Prelude.{Some, None, Err}
+use Rattle.matrix.specs.Refusals.{ListLength}
 use Rattle.matrix.specs.Tests.{short}
-use Rattle.lists.proofs.Runs.{first_le}
-use Rattle.matrix.proofs.Verdicts.{fails_then, passed_then, failed_at}
+use Rattle.matrix.proofs.Verdicts.{found_fails}
 use Rattle.matrix.proofs.tests.lists_long.Goals as goal
 
-pub returns-in-Fails : goal.returns-in-Fails
-returns-in-Fails c = fails_then _ c.in-Fails.is
-
-pub overflow_add-k : goal.overflow_add-k
-overflow_add-k c =
+pub returns-in-Some : goal.returns-in-Some
+returns-in-Some c =
     let u = c.args in
-    omega (arith, c.first_list_short-k.ensures, first_le (short u.n (u.cols ∷ u.rows ∷ u.us ∷ u.vs ∷ [])) 4)
+    ap Err c.new.ensures ∙ found_fails ListLength (λ k. k + 1) 4 (short u.n (u.cols ∷ u.rows ∷ u.us ∷ u.vs ∷ [])) (Some c.in-Some.k) c.in-Some.ensures
 
-pub returns : goal.returns
-returns c =
-    passed_then _ c.in-Passed.is (c.fails_if.ensures ∙ failed_at _ (λ k. k + 1) 4 _ c.first_list_short-k.ensures)
+pub returns-in-None : goal.returns-in-None
+returns-in-None c =
+    let u = c.args in
+    found_fails ListLength (λ k. k + 1) 4 (short u.n (u.cols ∷ u.rows ∷ u.us ∷ u.vs ∷ [])) None c.in-None.ensures

@@ -1,61 +1,46 @@
--- `prices_in` hands a refusal on, and tests all prices where none came: row prices, then column prices. Assumes nothing.
-use mathlib.Core.Path.{◌≡◌, ap, ◌∙◌}
-use Prim.Native.Nat.{◌+◌, ◌^◌}
-use native.Mathlib.Omega.{arith}
+-- `prices_in` tests all prices: row prices, then column prices. Assumes nothing.
+use Rattle.std.proofs.Common.{rules, ◌≡◌, ℕ, List, ◌+◌, sym, subst, ap, ◌∙◌, arith}
+use Rattle.std.specs.Prelude.{Option, Some, None, Err}
 use lib.IntN.{ℤ}
-use mir.Syntax.{w64}
-use mir.Val.{to_z, of_z}
 use mir.Facts.{to_z-of_z}
-use Rattle.ints.specs.Parts.{Within}
-use Rattle.lists.specs.Runs.{first}
-use Rattle.lists.proofs.Runs.{first_le}
+use Rattle.lists.specs.Runs.{Finds}
 use Rattle.assignment.specs.Pairings.{signed_at}
 use Rattle.matrix.specs.Tests.{outside}
+use Rattle.matrix.specs.Verdicts.{fails_at}
+use Rattle.matrix.proofs.Verdicts.{found_fails, passed_then}
 use Rattle.matrix.proofs.SmallLimits.{side_small}
-use Rattle.matrix.proofs.Verdicts.{fails_then, passed_then, failed_at, clear_at, found_then}
 use Rattle.matrix.proofs.tests.prices_in.Goals as goal
-use Rattle.matrix.proofs.tests.prices_in.Lts as Lts
-use Rattle.matrix.proofs.tests.prices_in.Reads as Reads
-use Rattle.matrix.proofs.tests.prices_in.Tie as Tie
 
--- the limit, as the code holds it, is near
-limit-near : (s : Lts.Start Tie.the-claims Reads.Pre Reads.Post) → Within (2 ^ 62) (to_z w64 (of_z w64 s.args.limit))
-limit-near s = rw (to_z-of_z s.ranges.limit) s.requires.0
+-- what a search answered, at the limit as it was given
+finds_at : {limit held : ℤ} (n : ℕ) (prices : List ℤ) (r : Option ℕ) → held ≡ limit → Finds n (λ i. outside held (signed_at prices i)) r → Finds n (λ i. outside limit (signed_at prices i)) r
+finds_at n prices r e = subst (λ (z : ℤ). Finds n (λ i. outside z (signed_at prices i)) r) e
 
--- what the two searches find
-rows-found : (c : Lts.After-first_price_outside Tie.the-claims Reads.Pre Reads.Post) → let u = c.args in
-    c.first_price_outside-i.result ≡ first u.m (λ i. outside u.limit (signed_at u.us.now i))
-rows-found c =
+pub first_price_outside-requires : goal.first_price_outside-requires
+first_price_outside-requires c = (rw (to_z-of_z c.ranges.limit) c.requires.0, c.requires.3)
+
+pub first_price_outside-requires-2 : goal.first_price_outside-requires-2
+first_price_outside-requires-2 c = (rw (to_z-of_z c.ranges.limit) c.requires.0, c.requires.4)
+
+pub returns-in_err-fails_at : goal.returns-in_err-fails_at
+returns-in_err-fails_at c =
     let u = c.args in
-    c.first_price_outside-i.ensures ∙ ap (λ (z : ℤ). first u.m (λ i. outside z (signed_at u.us.now i))) (to_z-of_z c.ranges.limit)
-
-columns-found : (c : Lts.After-first_price_outside2 Tie.the-claims Reads.Pre Reads.Post) → let u = c.args in
-    c.first_price_outside-j.result ≡ first u.n (λ j. outside u.limit (signed_at u.vs.now j))
-columns-found c =
-    let u = c.args in
-    c.first_price_outside-j.ensures ∙ ap (λ (z : ℤ). first u.n (λ j. outside z (signed_at u.vs.now j))) (to_z-of_z c.ranges.limit)
-
-pub returns-in-Fails : goal.returns-in-Fails
-returns-in-Fails c = fails_then _ c.in-Fails.is
-
-pub first_price_outside-i-requires : goal.first_price_outside-i-requires
-first_price_outside-i-requires c = (limit-near c.before, (c.requires.1 c.in-Passed.is).2)
-
-pub returns-then-i-m : goal.returns-then-i-m
-returns-then-i-m c =
-    passed_then _ c.in-Passed.is
-    (found_then _ (λ i. i) _ _ (rows-found c.before.before) _ c.if-i-m.true c.fails_if.ensures)
-
-pub first_price_outside-j-requires : goal.first_price_outside-j-requires
-first_price_outside-j-requires c = (limit-near c.before.before.before, (c.requires.1 c.in-Passed.is).3)
+    let f = found_fails u.reason (λ k. k) u.m (λ i. outside u.limit (signed_at u.us.now i)) _ (finds_at u.m u.us.now _ (to_z-of_z c.ranges.limit) c.first_price_outside.ensures) in
+    let e : fails_at u.reason (λ k. k) u.m (λ i. outside u.limit (signed_at u.us.now i)) ≡ Err c.in_err-fails_at.field-0.0 = sym f ∙ sym c.fails_at.ensures ∙ c.in_err-fails_at.was in
+    search rules
 
 pub overflow_add-m : goal.overflow_add-m
-overflow_add-m c =
-    let u = c.args in
-    omega (arith, side_small, c.requires.1 c.in-Passed.is, columns-found c, first_le (λ j. outside u.limit (signed_at u.vs.now j)) u.n)
+overflow_add-m c = omega (arith, side_small, c.requires.1, c.requires.2, c.in-Some.ensures)
 
-pub returns : goal.returns
-returns c =
-    passed_then _ c.in-Passed.is
-    (passed_then _ (clear_at _ (λ i. i) _ _ (rows-found c.before.before.before) c.if-i-m.false)
-    (c.fails_if-2.ensures ∙ failed_at _ (λ j. c.args.m + j) _ _ (columns-found c.before)))
+pub returns-in-Some : goal.returns-in-Some
+returns-in-Some c =
+    let u = c.args in
+    let f = found_fails u.reason (λ k. k) u.m (λ i. outside u.limit (signed_at u.us.now i)) _ (finds_at u.m u.us.now _ (to_z-of_z c.ranges.limit) c.first_price_outside.ensures) in
+    let g = found_fails u.reason (λ j. u.m + j) u.n (λ j. outside u.limit (signed_at u.vs.now j)) (Some c.in-Some.j) (finds_at u.n u.vs.now (Some c.in-Some.j) (to_z-of_z c.ranges.limit) c.in-Some.ensures) in
+    passed_then _ (sym f ∙ sym c.fails_at.ensures ∙ c.in_ok-fails_at.was) (ap Err c.new.ensures ∙ g)
+
+pub returns-in-None : goal.returns-in-None
+returns-in-None c =
+    let u = c.args in
+    let f = found_fails u.reason (λ k. k) u.m (λ i. outside u.limit (signed_at u.us.now i)) _ (finds_at u.m u.us.now _ (to_z-of_z c.ranges.limit) c.first_price_outside.ensures) in
+    let g = found_fails u.reason (λ j. u.m + j) u.n (λ j. outside u.limit (signed_at u.vs.now j)) None (finds_at u.n u.vs.now None (to_z-of_z c.ranges.limit) c.in-None.ensures) in
+    passed_then _ (sym f ∙ sym c.fails_at.ensures ∙ c.in_ok-fails_at.was) g

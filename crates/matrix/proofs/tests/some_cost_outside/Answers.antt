@@ -31,27 +31,27 @@ tested x limit f g near = ap₂ ◌||◌ (ap₂ lt_z (to_z-of_z f) (minus-read g
 pub overflow_sub-low : goal.overflow_sub-low
 overflow_sub-low c = minus_fits c.ranges.limit (negated_fits c.args.limit c.requires)
 
-pub loop-k-init : goal.loop-k-init
-loop-k-init c = (omega arith, sym (some_none _))
+pub loop-cost-init : goal.loop-cost-init
+loop-cost-init c = (omega arith, sym (some_none _))
 
-pub loop-k-preserved : goal.loop-k-preserved
-loop-k-preserved c =
+pub loop-cost-preserved : goal.loop-cost-preserved
+loop-cost-preserved c =
     let u = c.args in
-    let l = c.loop-k in
-    let x = signed_at u.costs.now l.k in
+    let l = c.loop-cost in
+    let x = signed_at u.costs.now l.cost-index in
     let held = to_z w32 (of_z w32 u.limit) in
     let t = tested x u.limit (record { sfits = c.cost-1.given }) c.ranges.limit c.requires in
-    let e : suc l.k ≡ l.k + 1 = omega arith in (
+    let e : suc l.cost-index ≡ l.cost-index + 1 = omega arith in (
       omega arith,
       ap₂ ◌||◌ l.invariant.1 (t ∙ ap (λ (z : ℤ). outside z x) (sym (to_z-of_z c.ranges.limit)))
-          ∙ sym (some-last l.k (test held u.costs.now))
+          ∙ sym (some-last l.cost-index (test held u.costs.now))
           ∙ ap (λ (m : ℕ). some m (test held u.costs.now)) e,
     )
 
 pub returns : goal.returns
 returns c =
     let u = c.args in
-    let l = c.loop-k in
-    let e : l.k ≡ length u.costs.now = omega arith in
+    let l = c.loop-cost in
+    let e : l.cost-index ≡ length u.costs.now = omega arith in
     l.invariant.1
     ∙ ap₂ (λ (m : ℕ) (z : ℤ). some m (test z u.costs.now)) e (to_z-of_z c.ranges.limit)

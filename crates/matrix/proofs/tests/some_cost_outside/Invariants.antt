@@ -2,7 +2,7 @@
 use mathlib.Core.Path.{◌≡◌}
 use mathlib.Core.Bool.{Bool}
 use mathlib.Core.List.{List}
-use Prim.Native.Nat.{ℕ, ◌-◌, ◌≤◌}
+use Prim.Native.Nat.{ℕ, ◌≤◌}
 use lib.IntN.{ℤ}
 use lib.ListN.{length}
 use Rattle.lists.specs.Counts.{some}
@@ -13,8 +13,5 @@ use Rattle.matrix.proofs.tests.some_cost_outside.Given as goal
 abbrev pub test : ℤ → List ℤ → ℕ → Bool
 test limit costs k = outside limit (signed_at costs k)
 
-abbrev pub invariant-loop-k : goal.invariant-loop-k
-invariant-loop-k l = (l.k ≤ length l.costs) × (l.found ≡ some l.k (test l.limit l.costs))
-
-abbrev pub decreases-loop-k : goal.decreases-loop-k
-decreases-loop-k l = length l.costs - l.k
+abbrev pub invariant-loop-cost : goal.invariant-loop-cost
+invariant-loop-cost l = (l.cost-index ≤ length l.costs) × (l.found ≡ some l.cost-index (test l.limit l.costs))

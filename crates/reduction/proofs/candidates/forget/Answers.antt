@@ -1,44 +1,8 @@
-use mathlib.Core.Path.{ap, ◌∙◌}
-use mathlib.Core.List.{List}
-use Prim.Native.Nat.{◌<◌}
-use native.Mathlib.Omega.{arith}
-use borrow.Author.Rules.{rules}
-use lib.IntN.{ℤ}
-use lib.ListN.{length, set}
-use Rattle.lists.proofs.Tables.{filled_none, filled_more, filled-length, filled_all}
+-- `forget` leaves marks only. Assumes nothing.
+use Rattle.std.proofs.Common.{rules, sym, ◌∙◌, length}
+use Rattle.lists.proofs.Tables.{table_constant}
 use Rattle.reduction.specs.Candidates.{unseen}
 use Rattle.reduction.proofs.candidates.forget.Goals as goal
-use Rattle.reduction.proofs.candidates.forget.Lts as Lts
-use Rattle.reduction.proofs.candidates.forget.Reads as Reads
-
-passed : (c : Lts.In-loop Reads.Pre Reads.Post goal.the-invariant-loop-k goal.the-decreases-loop-k) → c.loop-k.k < length c.args.limits.now
-passed c =
-    let l = c.loop-k in
-    let long = ap length l.invariant.1 ∙ filled-length l.k (λ i. unseen) c.args.limits.now l.invariant.0 in
-    omega (arith, long)
-
-pub loop-k-init : goal.loop-k-init
-loop-k-init c = (search rules, filled_none (λ i. unseen) c.args.limits.now)
-
-pub loop-k-smaller : goal.loop-k-smaller
-loop-k-smaller c =
-    let h : c.loop-k.k < length c.args.limits.now = passed c in
-    omega arith
-
-pub loop-k-preserved : goal.loop-k-preserved
-loop-k-preserved c =
-    let l = c.loop-k in
-    let l₀ = c.args.limits.now in
-    (omega (arith, passed c), ap (λ (t : List ℤ). set t l.k unseen) l.invariant.1 ∙ filled_more l.k (λ i. unseen) l₀ (passed c))
-
-pub shape_of-limits : goal.shape_of-limits
-shape_of-limits c =
-    let l = c.loop-k in
-    ap length l.invariant.1 ∙ filled-length l.k (λ i. unseen) c.args.limits.now l.invariant.0
 
 pub returns : goal.returns
-returns c =
-    let l = c.loop-k in
-    let l₀ = c.args.limits.now in
-    let long = ap length l.invariant.1 ∙ filled-length l.k (λ i. unseen) l₀ l.invariant.0 in
-    l.invariant.1 ∙ filled_all l.k (λ i. unseen) l₀ (omega (arith, long))
+returns c = c.fill.ensures.after (λ y e. search rules) ∙ sym (table_constant (length c.args.limits.now) unseen)

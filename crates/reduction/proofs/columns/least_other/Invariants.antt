@@ -1,19 +1,10 @@
--- `least_other` answers the least but one: before column k it has that of the columns before. Assumes nothing.
-use mathlib.Core.Path.{◌≡◌}
-use mathlib.Core.List.{List}
-use Prim.Native.Nat.{ℕ, ◌-◌, ◌≤◌}
-use lib.IntN.{ℤ, ◌-ℤ◌}
-use lib.ListN.{length}
-use Rattle.assignment.specs.Pairings.{signed_at}
-use Rattle.rules.specs.Lowest.{least_but}
+-- `least_other` answers the least but one: before the next column that may change it, it has that of the columns before. Assumes nothing.
+use Rattle.reduction.specs.Reduced.{width, reduced_at}
+use Rattle.reduction.proofs.Turns.{NextBut, ahead}
 use Rattle.reduction.proofs.columns.least_other.Given as goal
 
--- the reduced cost at column k
-abbrev pub at : List ℤ → List ℤ → ℕ → ℤ
-at row v k = signed_at row k -ℤ signed_at v k
+abbrev pub invariant-loop-next : goal.invariant-loop-next
+invariant-loop-next l = NextBut (reduced_at l.row) (width l.row) l.j l.found l.next
 
-abbrev pub invariant-loop-k : goal.invariant-loop-k
-invariant-loop-k l = (l.k ≤ length l.row) × (l.found ≡ least_but l.k (at l.row l.v) l.j)
-
-abbrev pub decreases-loop-k : goal.decreases-loop-k
-decreases-loop-k l = length l.row - l.k
+abbrev pub decreases-loop-next : goal.decreases-loop-next
+decreases-loop-next l = ahead (width l.row) l.next

@@ -1,20 +1,15 @@
--- `lower_minima` puts row i beside the minima, column by column. Assumes nothing.
-use mathlib.Core.Path.{◌≡◌}
-use mathlib.Core.List.{List, ◌++◌}
-use Prim.Native.Nat.{ℕ, ◌-◌, ◌≤◌}
-use lib.IntN.{ℤ}
-use lib.ListN.{length, drop}
-use Rattle.lists.specs.Permutations.{table}
+-- `lower_minima` puts row i beside the minima, column by column: beside the first j it stands already. Assumes nothing.
+use Rattle.std.proofs.Common.{◌≡◌, ℕ, ◌<◌, ◌≤◌, ℤ, List}
+use Rattle.lists.specs.Permutations.{at}
+use Rattle.assignment.specs.Pairings.{signed_at}
 use Rattle.reduction.specs.Columns.{low_at}
 use Rattle.reduction.proofs.columns.lower_minima.Given as goal
 
--- The first j columns have row i beside them already.
-abbrev pub Filled : ℕ → ℕ → List ℤ → List ℤ → List ℤ → List ℕ → List ℕ → Type 0
-Filled i j row v₀ v rows₀ rows =
-    (rows ≡ table j (λ k. (low_at i row v₀ rows₀ k).place) ++ drop j rows₀) × (v ≡ table j (λ k. (low_at i row v₀ rows₀ k).value) ++ drop j v₀)
+pub record Lowered (i : ℕ) (row v₀ : List ℤ) (rows₀ : List ℕ) (v : List ℤ) (rows : List ℕ) (j : ℕ) : Type 0 where
+  pub places : (k : ℕ) → k < j → at rows k ≡ (low_at i row v₀ rows₀ k).place
+  pub values : (k : ℕ) → k < j → signed_at v k ≡ (low_at i row v₀ rows₀ k).value
+  pub places_left : (k : ℕ) → j ≤ k → at rows k ≡ at rows₀ k
+  pub values_left : (k : ℕ) → j ≤ k → signed_at v k ≡ signed_at v₀ k
 
 abbrev pub invariant-loop-j : goal.invariant-loop-j
-invariant-loop-j l = (length l.rows ≡ length l.row) × (length l.v ≡ length l.row) × (l.j ≤ length l.row) × Filled l.i l.j l.row l.initial.v l.v l.initial.rows l.rows
-
-abbrev pub decreases-loop-j : goal.decreases-loop-j
-decreases-loop-j l = length l.row - l.j
+invariant-loop-j l = Lowered l.i l.row l.initial.v l.initial.rows l.v l.rows l.j

@@ -1,81 +1,36 @@
-use mathlib.Core.Path.{◌≡◌, refl, sym, ◌∙◌, subst}
-use mathlib.Core.List.{[]}
-use Prim.Native.Nat.{ℕ, ◌+◌}
-use native.Mathlib.Omega.{arith}
-use Rattle.lists.specs.Parts.{part}
-use Rattle.matrix.proofs.SmallLimits.{side_small}
-use Rattle.reduction.specs.Columns.{claims_of, Transferred, transferring}
-use Rattle.reduction.proofs.Transfers.{run_none, run_next, room_sized, prices_sized, count_at_most, frees_sized, mark_is, prices_near_lem}
+use Rattle.std.proofs.Common.{rules, ◌≡◌, ◌+◌, ◌≤◌, [], arith}
+use Rattle.assignment.specs.Pairings.{square}
+use Rattle.rules.specs.Columns.{transfer}
+use Rattle.reduction.specs.Columns.{claims_of, transfer_of}
+use Rattle.reduction.proofs.Transfers.{run_none, run_next, sized, prices_near_lem}
+use Rattle.reduction.proofs.columns.transfers.Goals.{in-0, in-1, in_default}
 use Rattle.reduction.proofs.columns.transfers.Goals as goal
 
-pub overflow_add-n3 : goal.overflow_add-n3
-overflow_add-n3 c = omega (arith, side_small, c.requires.squared.small)
-
-pub overflow_add-n3-2 : goal.overflow_add-n3-2
-overflow_add-n3-2 c = omega (arith, side_small, c.requires.squared.small)
-
 pub loop-i-init : goal.loop-i-init
-loop-i-init c = (omega arith, refl, run_none c.requires)
+loop-i-init c = (omega arith, run_none c.requires)
 
-pub overflow_add-mark : goal.overflow_add-mark
-overflow_add-mark c = omega (arith, side_small, c.requires.squared.small, c.loop-i.invariant.0)
-
-pub offset_bounds-room-n3 : goal.offset_bounds-room-n3
-offset_bounds-room-n3 c = omega (arith, side_small, c.requires.squared.small, c.loop-i.invariant.0)
-
-pub bounds-room-n3 : goal.bounds-room-n3
-bounds-room-n3 c = omega (arith, room_sized c.requires c.loop-i.i c.loop-i.invariant.2)
-
-pub offset_bounds-cols-i : goal.offset_bounds-cols-i
-offset_bounds-cols-i c = omega (arith, side_small, c.requires.squared.small)
-
-pub bounds-cols-i : goal.bounds-cols-i
-bounds-cols-i c = omega (arith, c.requires.cols_size)
-
-pub overflow_cast-j : goal.overflow_cast-j
-overflow_cast-j c =
-    omega (
-      arith,
-      side_small,
-      c.requires.squared.small,
-      c.requires.col_below
-          c.loop-i.i c.loop-i-test.true,
-    )
-
-pub slice_bounds-transfer-end : goal.slice_bounds-transfer-end
-slice_bounds-transfer-end c = omega (arith, room_sized c.requires c.loop-i.i c.loop-i.invariant.2)
-
-pub transfer-count-requires : goal.transfer-count-requires
-transfer-count-requires c =
+pub lower_column-requires : goal.lower_column-requires
+lower_column-requires c =
     let t = c.requires in
     let i = c.loop-i.i in
-    let l = c.loop-i-test.true in
-    let h = c.loop-i.invariant.2 in
-    (t.squared, l, t.col_below i l, prices_sized t i h, prices_near_lem t i h l, frees_sized t i h, omega (arith, count_at_most t i h))
+    let h = c.loop-i.invariant.1 in
+    (t.squared, c.loop-i-test.true, t.col_below i c.loop-i-test.true, (sized t i h).prices_size, prices_near_lem t i h c.loop-i-test.true)
 
 pub loop-i-preserved : goal.loop-i-preserved
 loop-i-preserved c =
-    let t = c.requires in
-    let i = c.loop-i.i in
-    let l = c.loop-i-test.true in
-    let h = c.loop-i.invariant.2 in (
-      omega arith,
-      refl,
-      run_next t i h _ _ _ c.transfer-count.auto.frees
-          (c.transfer-count.ensures
-          (claims_of c.args.cols.now [] (part (c.args.n + c.args.n + c.args.n) c.args.n c.args.room.now))
-          (mark_is t i h l) refl),
-    )
-
-pub shape_of-v : goal.shape_of-v
-shape_of-v c = let t = c.requires in prices_sized t c.loop-i.i c.loop-i.invariant.2 ∙ sym t.prices_size
-
-pub shape_of-room : goal.shape_of-room
-shape_of-room c = let t = c.requires in room_sized t c.loop-i.i c.loop-i.invariant.2 ∙ sym t.room_size
-
-pub returns : goal.returns
-returns c =
-    let l = c.loop-i in
     let u = c.args in
-    let e : l.i ≡ u.n = omega arith in
-    subst (λ (m : ℕ). Transferred u.room.now (transferring u.n u.costs.now u.cols.now u.v.now u.room.now m) l.v l.room l.count) e l.invariant.2
+    let l = c.loop-i in
+    let m = c.match-marks-i in
+    let stepped : transfer_of m.v m.frees m.count ≡ transfer u.n (square u.n u.costs.now).cost (claims_of u.cols.now [] u.marks.now) l.i (transfer_of l.v l.frees l.count) =
+    elim m.branch [
+      | in-0 w ↦ rw (w.v-is, w.frees-is, w.count-is) (search rules)
+      | in-1 w ↦ rw (w.v-is, w.frees-is, w.count-is) (search rules)
+      | in_default w ↦ rw (w.v-is, w.frees-is, w.count-is) (search rules)
+    ] in
+    let most : m.count ≤ l.i + 1 =
+    elim m.branch [
+      | in-0 w ↦ omega (arith, w.count-is)
+      | in-1 w ↦ omega (arith, w.count-is)
+      | in_default w ↦ omega (arith, w.count-is)
+    ] in
+    (most, run_next c.requires l.i l.invariant.1 (transfer_of m.v m.frees m.count) stepped)

@@ -35,4 +35,4 @@ pub returns : goal.returns
 returns c =
     let u = c.args in
     let n = reference_count u.firsts.now in
-    joined n (scores n u.firsts.now u.seconds.now) (length-table (n * n) (score_at n u.firsts.now u.seconds.now)) u.sheet.now c.requires.1 c.write_scores.ensures c.write_trailer.ensures
+    joined n (scores n u.firsts.now u.seconds.now) (length-table (n * n) (score_at n u.firsts.now u.seconds.now)) u.sheet.now c.requires.1 c.write.ensures (rw c.number.ensures at c.write_trailer.ensures)

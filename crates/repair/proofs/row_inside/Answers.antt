@@ -1,9 +1,0 @@
--- `row_inside_lem` hands a refusal on, and answers test 6 of the row number where none came. Assumes nothing.
-use Rattle.matrix.proofs.Verdicts.{fails_then, passed_then}
-use Rattle.repair.proofs.row_inside.Goals as goal
-
-pub returns-in-Fails : goal.returns-in-Fails
-returns-in-Fails c = fails_then _ c.in-Fails.is
-
-pub returns : goal.returns
-returns c = passed_then _ c.in-Passed.is c.fails_if.ensures
