@@ -40,11 +40,9 @@ fn a_table_is_paired_and_audited() {
     let (status, said, _) = night(&table, &into);
     assert_eq!((status, made(&into)), (Some(0), 3), "{said}");
     let at = into.join("n8").display().to_string();
-    for line in [
-        &format!("{at}.sheet: 3 rows, 3 columns"),
-        &format!("{at}.slip: side 3 total 1"),
-        "audit: accepted 3 total 1",
-    ] {
+    for line in
+        [&format!("{at}.sheet: 3 rows, 3 columns"), &format!("{at}.slip: side 3 total 1"), "audit: accepted 3 total 1"]
+    {
         assert!(said.contains(&format!("night: {line}\n")), "{said}");
     }
     for line in
