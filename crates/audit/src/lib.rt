@@ -7,7 +7,7 @@ ghost use Rattle.layout.specs.Slips.{slip_total};
 ghost use Rattle.matrix.specs.Verdicts.{◌then◌, fails_if};
 ghost use Rattle.matrix.specs.declared.refusals.Reason.TheVariants.{SlipWrong};
 ghost use Rattle.checker.specs.Tests.{differ};
-ghost use Rattle.sheet.specs.Reading.{laid_at, bars_in, distance_due, night_tested};
+ghost use Rattle.sheet.specs.Reading.{laid_at, bars_in, distance_due, night_tests, night_tested};
 ghost use Rattle.audit.specs.Asked.{LeastTotal, Lies, Roomy};
 ghost use Rattle.audit.specs.Audit.{unlike, proof_tests, slip_tests, total_right, audited_by, audited_as, audit};
 ghost use Rattle.audit.specs.Values.{audited_values};
@@ -170,14 +170,23 @@ fn held_apart(
     )
 }
 
-// A night as it lies on a sheet, and a slip: 5, 22, then 25, and the slip is held against the night.
+// A night as it lies on a sheet, and a slip's form: 5, 22, then 25.
+#[tactic(auto, using(matrix::proofs::SmallLimits::K_small, sheet::proofs::Editions::cost_most_within))]
+fn formed(shape: Shape, costs: &[i32], bars: &[u64], slip: &[u8]) -> Result<(), Refusal>
+    requires { Lies shape.row_count shape.side costs.now bars.now }
+    ensures { result ≡ (night_tests (record { edition = number shape.edition; row_count = shape.row_count; side = shape.side; costs = costs.now; bars = bars.now }) then fails_if SlipWrong 0 (unlike (number shape.edition) shape.row_count shape.side slip.now)) }
+{
+    matrix::tests::costs_in(shape.cost_most(), costs)?;
+    bars::tests::bars_clear(shape.side, bars)?;
+    fails_if(unlike(shape, slip), Reason::SlipWrong, 0)
+}
+
+// The same, and the slip is held against the night.
 fn night_held(shape: Shape, costs: &[i32], bars: &[u64], slip: &[u8]) -> Result<Confirmed, Refusal>
     requires { Lies shape.row_count shape.side costs.now bars.now }
     ensures { result ≡ audited_as slip.now (night_tested (record { edition = number shape.edition; row_count = shape.row_count; side = shape.side; costs = costs.now; bars = bars.now })) }
 {
-    matrix::tests::costs_in(shape.cost_most(), costs)?;
-    bars::tests::bars_clear(shape.side, bars)?;
-    fails_if(unlike(shape, slip), Reason::SlipWrong, 0)?;
+    formed(shape, costs, bars, slip)?;
     held_apart(shape.row_count, shape.side, costs, bars, slip)
 }
 

@@ -98,6 +98,8 @@ fn first_distances(row: &[i32], v: &[i64], d: &mut [i64])
 
 // Row i sees the columns from place `from` on; h is how far its reduced cost at its own column is above the block's minimum. Distances
 // change only when strictly lower. A column that comes to the minimum is swapped to the block's end, or ends the search if it is free.
+// Not inlined: within `ca_dense` the loop, where a search spends its time, is short of registers.
+#[inline(never)]
 fn lower_columns(
     i: u32,
     row: &[i32],

@@ -1,7 +1,8 @@
-// Counted loops, parts of a lent list, sums and permutations, for definitions and proofs: see specs/ and proofs/. And one loop that looks for a number.
+// Counted loops, parts of a lent list, sums and permutations, for definitions and proofs: see specs/ and proofs/. And two loops: one that looks for a number, and
+// one that copies.
 #![tactic(auto)]
 
-ghost use Rattle.std.specs.Prelude.{ℕ, ◌≤◌, ◌<◌};
+ghost use Rattle.std.specs.Prelude.{◌≡◌, ℕ, ◌≤◌, ◌<◌, length};
 ghost use Rattle.lists.specs.Runs.{FindsFrom};
 
 // The first number from `from` on, and below `end`, that passes a test. Four numbers a turn while there are four.
@@ -9,8 +10,11 @@ pub fn first_from<F: Fn(usize) -> bool>(from: usize, end: usize, test: F) -> Opt
     requires { (k : ℕ) → from ≤ k → k < end → F.pre test k }
     ensures { FindsFrom from end (F.post test) result }
 {
+    if end < from {
+        return None;
+    }
     let mut k = from;
-    while 4 <= end.saturating_sub(k) {
+    while 4 <= end - k {
         if test(k) {
             return Some(k);
         }
@@ -31,4 +35,14 @@ pub fn first_from<F: Fn(usize) -> bool>(from: usize, end: usize, test: F) -> Opt
         }
     }
     None
+}
+
+// One list over another that is as long. Not `copy_from_slice`, for which an archive that C links needs `memmove` from outside.
+pub fn copy<T: Copy>(from: &[T], to: &mut [T])
+    requires { length from.now ≡ length to.old }
+    ensures { to.new ≡ from.now }
+{
+    for k in 0..from.len() {
+        to[k] = from[k];
+    }
 }

@@ -47,7 +47,7 @@ pub fn piece(bytes: &mut [u8; 65536], state: &mut [u64; 2], sent: &[u8]) -> u64
                 state[1] = OVER_MARK;
                 return Reason::SheetOver.number();
             }
-            bytes[came..came + sent.len()].copy_from_slice(sent);
+            lists::copy(sent, &mut bytes[came..came + sent.len()]);
             state[0] = (came + sent.len()) as u64;
             0
         }

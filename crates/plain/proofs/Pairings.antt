@@ -6,9 +6,7 @@ use Prim.Native.Nat.{ℕ, ◌≤◌, ◌<◌}
 use native.Mathlib.Decide.{dec_lt}
 use native.Mathlib.Omega.{arith}
 use lib.Dec.{eqb}
-use lib.ListN.{length, take}
-use lib.Seq.{get_or-take, length-take-le}
-use Rattle.std.specs.List.{IsAnyAnswer}
+use lib.ListN.{length}
 use borrow.Author.Tests.{eq-eqb, eqb-true, not-true}
 use Rattle.ints.proofs.Tests.{not_true_false}
 use Rattle.lists.specs.Counts.{some}
@@ -25,14 +23,14 @@ clear_none n test clear = not_true_false (λ t. let s = some_read n test t in ab
 pub none_clear : (n : ℕ) (test : ℕ → Bool) → some n test ≡ false → Clear test n
 none_clear n test e i l = not_true_false (λ t. absurd (true≢false (sym (some_make n test i l t) ∙ e)))
 
--- What `contains` answers of the rows before row i.
-pub taken_front : (cols : List ℕ) (i : ℕ) (r : Bool) → i < length cols → IsAnyAnswer (λ y b. eqb y (at cols i) ≡ b) (take i cols) r → r ≡ taken cols i
-taken_front cols i true l h =
-    let k : h.0 < i = omega (arith, h.1, length-take-le i cols (omega arith)) in
-    sym (some_make i (λ x. eqb (at cols x) (at cols i)) h.0 k (rw (get_or-take i cols h.0 0 k) at (h.2 0)))
-taken_front cols i false l h =
-    sym (clear_none i (λ x. eqb (at cols x) (at cols i))
-    (λ k m. rw (get_or-take i cols k 0 m) at (h k 0 (omega arith) (omega (arith, length-take-le i cols (omega arith))))))
+-- What `any` answers of the rows before row i.
+abbrev pub Before : List ℕ → ℕ → Bool → Type 0
+Before cols i true = (h : ℕ) × (h < i) × (eqb (at cols h) (at cols i) ≡ true)
+Before cols i false = (h : ℕ) → h < i → eqb (at cols h) (at cols i) ≡ false
+
+pub taken_before : (cols : List ℕ) (i : ℕ) (r : Bool) → Before cols i r → r ≡ taken cols i
+taken_before cols i true b = sym (some_make i (λ h. eqb (at cols h) (at cols i)) b.0 b.1 b.2)
+taken_before cols i false b = sym (clear_none i (λ h. eqb (at cols h) (at cols i)) b)
 
 -- The solver's tests take a side of 8.
 pub eight_within : 8 ≤ side

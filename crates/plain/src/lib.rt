@@ -18,7 +18,7 @@ fn taken(cols: &[u32], i: usize) -> bool
     requires { i < length cols.now }
     ensures { result ≡ taken cols.now i }
 {
-    cols[..i].contains(&cols[i])
+    (0..i).any(|h| cols[h] == cols[i])
 }
 
 // The first row that is at a barred place or has the column of a row before it.
@@ -55,7 +55,7 @@ fn keep(cost: Option<i64>, list: &[u32], found: Option<i64>, cols: &mut [u32]) -
     if !less(cost, found) {
         return found;
     }
-    cols.copy_from_slice(list);
+    lists::copy(list, cols);
     cost
 }
 
@@ -76,6 +76,8 @@ fn next(n: usize, list: &mut [u32]) -> bool
 }
 
 // The engine, for as many rows as `cols` has entries and for n columns: it counts in `list`, and leaves the first least pairing in `cols`.
+// Inlined, so that the entry's, without bars, tests none.
+#[inline(always)]
 pub fn engine(
     n: usize,
     costs: &[i32],

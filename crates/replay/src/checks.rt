@@ -4,6 +4,7 @@ use crate::say;
 use std::io;
 use std::io::{Read, Write};
 
+#[inline(never)]
 pub fn checked(
     input: &mut Input<impl Read>,
     out: &mut impl Write,

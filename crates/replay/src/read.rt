@@ -1,5 +1,5 @@
 // The numbers of the input. Past its end every byte is 0.
-ghost use Rattle.std.specs.Prelude.{◌≤◌, length};
+ghost use Rattle.std.specs.Prelude.{◌^◌, ◌≤◌, ◌<◌, length};
 
 use std::io;
 use std::io::{Read, Write};
@@ -86,7 +86,9 @@ impl<R: Read> Input<R> {
     }
 
     // A number of 4 bytes.
-    pub fn number(&mut self) -> usize {
+    pub fn number(&mut self) -> usize
+        ensures { result < 256 ^ 4 }
+    {
         u32::read(self) as usize
     }
 

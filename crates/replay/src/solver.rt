@@ -80,7 +80,8 @@ impl Lists {
     }
 }
 
-// The night's line.
+// The night's line. Not inlined, here and in checks.rt, so that the lists of both do not lie on the stack at once.
+#[inline(never)]
 pub fn night(
     input: &mut Input<impl Read>,
     out: &mut impl Write,

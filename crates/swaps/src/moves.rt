@@ -8,7 +8,7 @@ pub fn move_rows(m: usize, cols: &[u32], path: &[u32], choices: &[u32], second: 
     requires { CanMove m cols.now choices.now second.old }
     ensures { second.new ≡ upward 0 (length path.now) (move_at m path.now choices.now) cols.now }
 {
-    second.copy_from_slice(cols);
+    lists::copy(cols, second);
     for &node in path {
         let x = node as usize;
         if x < m {

@@ -31,7 +31,7 @@ impl Accepted<'_> {
         path.fill(0);
         marks.fill(0);
         choices.fill(0);
-        prices.copy_from_slice(&self.vs[0..self.n]);
+        lists::copy(&self.vs[0..self.n], prices);
         let Some((from, size)) = self.walk(path, marks, choices, prices) else {
             return false;
         };

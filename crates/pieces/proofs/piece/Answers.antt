@@ -24,9 +24,9 @@ returns-then-came-sent c =
     let t = sym c.read_state.ensures ∙ c.in-Taking.is in
     rw c.number-then-came-sent.ensures (sym (piece_long u.sent.now k c.in-Taking.came t (omega (arith, taking_few k c.in-Taking.came t, c.if-came-sent.true))))
 
-pub slice_bounds-copy_from_slice-end : goal.slice_bounds-copy_from_slice-end
+pub slice_bounds-copy-end : goal.slice_bounds-copy-end
 unfolding sheet_most
-slice_bounds-copy_from_slice-end c =
+slice_bounds-copy-end c =
     let u = c.args in
     omega (arith, taking_few (kept u.bytes.now u.state.now) c.in-Taking.came (sym c.read_state.ensures ∙ c.in-Taking.is), c.if-came-sent.false)
 
@@ -48,7 +48,7 @@ returns-else-came-sent c =
     let n = c.in-Taking.came in
     let e : ℕ = n + length u.sent.now in
     let t = sym c.read_state.ensures ∙ c.in-Taking.is in
-    let copied = c.copy_from_slice.ensures.after in
-    let back = lent_back n e c.copy_from_slice.new.self u.bytes.now (omega (arith, ap length copied)) in
+    let copied = c.copy.ensures in
+    let back = lent_back n e c.copy.new.to u.bytes.now (omega (arith, ap length copied)) in
     ap (λ (bytes : List ℕ). taken 0 (kept bytes (set u.state.now 0 e))) (back ∙ ap (λ (p : List ℕ). replaced n p u.bytes.now) copied)
     ∙ sym (piece_fits u.sent.now k n t (omega (arith, taking_few k n t, c.if-came-sent.false)))

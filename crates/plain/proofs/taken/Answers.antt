@@ -1,6 +1,8 @@
 -- `taken` answers whether a row before row i has its column. Assumes nothing.
-use Rattle.plain.proofs.Pairings.{taken_front}
+use Rattle.std.proofs.Common.{rules}
+use Rattle.std.proofs.iter.runs.Sources.{ranges}
+use Rattle.plain.proofs.Pairings.{taken_before}
 use Rattle.plain.proofs.taken.Goals as goal
 
 pub returns : goal.returns
-returns c = taken_front c.args.cols.now c.args.i c.contains.result c.requires c.contains.ensures.cases
+returns c = taken_before _ _ _ (search (rules, ranges))

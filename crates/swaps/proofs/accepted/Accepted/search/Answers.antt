@@ -16,7 +16,7 @@ walk-requires c =
     (zeros u.self.now _ e u.path.now _ c.requires.path_size (c.fill.ensures.after (λ y k. k)))
     (zeros u.self.now _ e u.marks.now _ c.requires.marks_size (c.fill-2.ensures.after (λ y k. k)))
     (zeros u.self.now _ e u.choices.now _ c.requires.choices_size (c.fill-3.ensures.after (λ y k. k)))
-    _ (rw (sub-zero u.self.now.n) at c.copy_from_slice.ensures.after)
+    _ (rw (sub-zero u.self.now.n) at c.copy.ensures)
 
 pub offset_bounds-path-from : goal.offset_bounds-path-from
 offset_bounds-path-from c =
