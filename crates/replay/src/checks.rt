@@ -22,6 +22,7 @@ pub fn checked(
     say::answer(out, checker::check(n, costs, cols, rows, us, vs))
 }
 
+#[inline(never)]
 pub fn totalled(
     input: &mut Input<impl Read>,
     out: &mut impl Write,

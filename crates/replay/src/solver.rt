@@ -27,16 +27,23 @@ fn all<T: PartialEq + Copy>(list: &[T], entry: T) -> bool {
 }
 
 impl Lists {
-    // The mark in every entry.
+    // The mark in every entry, written where they lie: an array of marks would lie on the stack beside them.
     fn new() -> Self {
-        Lists {
-            cols: [MARK; 1028],
-            rows: [MARK; 1028],
-            us: [WIDE_MARK; 1028],
-            vs: [WIDE_MARK; 1028],
-            indices: [MARK; 4104],
-            numbers: [WIDE_MARK; 1028],
-        }
+        let mut lists = Lists {
+            cols: [0; 1028],
+            rows: [0; 1028],
+            us: [0; 1028],
+            vs: [0; 1028],
+            indices: [0; 4104],
+            numbers: [0; 1028],
+        };
+        lists.cols.fill(MARK);
+        lists.rows.fill(MARK);
+        lists.us.fill(WIDE_MARK);
+        lists.vs.fill(WIDE_MARK);
+        lists.indices.fill(MARK);
+        lists.numbers.fill(WIDE_MARK);
+        lists
     }
 
     // The solver on as much of each as the input says.
@@ -80,7 +87,7 @@ impl Lists {
     }
 }
 
-// The night's line. Not inlined, here and in checks.rt, so that the lists of both do not lie on the stack at once.
+// The night's line. Not inlined, as the two in checks.rt, so that the lists of one alone lie on the stack at once.
 #[inline(never)]
 pub fn night(
     input: &mut Input<impl Read>,
